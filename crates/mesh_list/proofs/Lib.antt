@@ -1,0 +1,3 @@
+pub mod Ascends
+pub mod Found
+pub mod Placed

@@ -1,0 +1,51 @@
+// Copies of values, which are equal to them.
+ghost use Rattle.std.specs.Prelude.{◌≡◌, IfOk};
+
+use crate::memory::Memory;
+use crate::seqs::Seq;
+use std::alloc::Global;
+
+/// What can be copied where there is memory.
+pub trait Duplicate: Drop {
+    fn copy(&self) -> Result<Self, Memory>
+        ensures { IfOk result (λ made. made ≡ self.now) };
+
+    /// Copies of several values.
+    fn copy_items(alloc: Global, items: &[Self]) -> Result<Seq<Self>, Memory>
+        ensures { IfOk result (λ made. made ≡ items.now) }
+    {
+        let mut made = Seq::new(alloc);
+        for item in items {
+            made.push(item.copy()?)?;
+        }
+        Ok(made)
+    }
+}
+
+impl Duplicate for u8 {
+    fn copy(&self) -> Result<u8, Memory> {
+        Ok(*self)
+    }
+
+    fn copy_items(alloc: Global, items: &[u8]) -> Result<Seq<u8>, Memory> {
+        match Vec::from_slice(alloc, items) {
+            Ok(made) => Ok(Seq::from_vec(made)),
+            Err(_) => Err(Memory),
+        }
+    }
+}
+
+impl<T: Duplicate> Duplicate for Seq<T> {
+    fn copy(&self) -> Result<Seq<T>, Memory> {
+        T::copy_items(self.alloc(), self.as_slice())
+    }
+}
+
+impl<T: Duplicate> Duplicate for Option<T> {
+    fn copy(&self) -> Result<Option<T>, Memory> {
+        match self {
+            Some(value) => Ok(Some(value.copy()?)),
+            None => Ok(None),
+        }
+    }
+}

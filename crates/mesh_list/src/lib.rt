@@ -1,0 +1,20 @@
+//! The containers that every crate of `mesh` keeps its values in, and the laws of lists that they rest on. It knows
+//! no word of SQL. A `Seq` is a list, a `Boxed` is the value in it, a `Sorted` is a list in strictly ascending order
+//! of its keys; `Duplicate` copies to an equal value and `Same` tells exactly whether two values are equal. It stands
+//! on std alone.
+#![tactic(auto)]
+
+mod boxes;
+mod compared;
+mod copies;
+mod keyed;
+mod memory;
+mod same;
+mod seqs;
+
+pub use boxes::Boxed;
+pub use copies::Duplicate;
+pub use keyed::{Keyed, Sorted};
+pub use memory::Memory;
+pub use same::Same;
+pub use seqs::Seq;

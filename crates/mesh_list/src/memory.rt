@@ -1,0 +1,12 @@
+// The one refusal that no clause ties to a cause: a growth was refused.
+use std::alloc::AllocError;
+
+/// There was not enough memory.
+#[derive(Debug, Clone, Copy, PartialEq, Eq)]
+pub struct Memory;
+
+impl From<AllocError> for Memory {
+    fn from(_error: AllocError) -> Memory {
+        Memory
+    }
+}

@@ -1,0 +1,46 @@
+// Tests that two values are the same.
+ghost use Rattle.std.specs.Prelude.{◌≡◌, ◌↔◌, IsTrue};
+
+use crate::seqs::Seq;
+
+/// What can be compared for being the same.
+pub trait Same {
+    fn same(&self, other: &Self) -> bool
+        ensures { IsTrue result ↔ (self.now ≡ other.now) };
+}
+
+impl Same for u8 {
+    fn same(&self, other: &u8) -> bool {
+        *self == *other
+    }
+}
+
+impl<T: Same> Same for Seq<T> {
+    fn same(&self, other: &Seq<T>) -> bool {
+        let (left, right) = (self.as_slice(), other.as_slice());
+        if left.len() != right.len() {
+            return false;
+        }
+        for (i, x) in left.iter().enumerate() {
+            if !x.same(&right[i]) {
+                return false;
+            }
+        }
+        true
+    }
+}
+
+impl<T: Same> Same for Option<T> {
+    fn same(&self, other: &Option<T>) -> bool {
+        match self {
+            Some(x) => match other {
+                Some(y) => x.same(y),
+                None => false,
+            },
+            None => match other {
+                Some(_) => false,
+                None => true,
+            },
+        }
+    }
+}
