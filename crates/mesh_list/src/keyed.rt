@@ -17,6 +17,7 @@ pub trait Keyed: Drop {
     type Key;
 
     ghost key: { Self → Self.Key };
+
     ghost order: { Self.Key → Self.Key → Ordering };
 
     fn key(&self) -> &Self::Key
@@ -27,6 +28,7 @@ pub trait Keyed: Drop {
         ensures { result ≡ order (key self.now) other.now };
 
     ghost total: { IsTotalOrder order };
+
     ghost exact: { CmpEqualImpliesEq order };
 }
 

@@ -1,0 +1,33 @@
+// Copies of values, which are equal to them.
+use crate::values::{Cell, Column, Name};
+use mesh_list::{Duplicate, Memory};
+
+impl Duplicate for Cell {
+    fn copy(&self) -> Result<Cell, Memory> {
+        match self {
+            Cell::Null => Ok(Cell::Null),
+            Cell::Int(n) => Ok(Cell::Int(*n)),
+            Cell::Text(text) => Ok(Cell::Text(text.copy()?)),
+            Cell::Date(day) => Ok(Cell::Date(*day)),
+            Cell::Bool(b) => Ok(Cell::Bool(*b)),
+        }
+    }
+}
+
+impl Duplicate for Name {
+    fn copy(&self) -> Result<Name, Memory> {
+        Ok(Name {
+            schema: self.schema.copy()?,
+            model: self.model.copy()?,
+        })
+    }
+}
+
+impl Duplicate for Column {
+    fn copy(&self) -> Result<Column, Memory> {
+        Ok(Column {
+            name: self.name.copy()?,
+            kind: self.kind,
+        })
+    }
+}
