@@ -8,6 +8,7 @@ use Rattle.std.specs.Cmp.Lexicographic.{lists_total}
 use Rattle.std.proofs.lemmas.Map.Lookups.{exact_signed, exact_bytes}
 use Rattle.mesh_base.specs.declared.values.Cell.{Cell}
 use Rattle.mesh_base.specs.declared.values.Cell.TheVariants.{Null, Int, Text, Date, Bool as Truth}
+use Rattle.mesh_base.specs.NameOrder.{then_equal}
 use Rattle.mesh_base.specs.Order.{cell_order, row_order}
 use Rattle.mesh_base.specs.contracts.values.CellOrd.TheImpl.{cmp-value}
 use Rattle.mesh_base.specs.contracts.values.CellOrd.TheImpl.Laws.{total-law}
@@ -48,11 +49,6 @@ cell_exact (Truth a) (Int n) e = cc
 cell_exact (Truth a) (Text t) e = cc
 cell_exact (Truth a) (Date d) e = cc
 cell_exact (Truth a) (Truth b) e = search rules
-
-then_equal : (o r : Ordering) → ordering_then o r ≡ Equal → (o ≡ Equal) × (r ≡ Equal)
-then_equal Less r e = cc
-then_equal Equal r e = (refl, e)
-then_equal Greater r e = cc
 
 -- rows that tie are the same
 pub row_exact : (xs ys : List Cell) → row_order xs ys ≡ Equal → xs ≡ ys

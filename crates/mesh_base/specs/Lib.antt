@@ -2,7 +2,11 @@
 pub mod Bag
 -- Names: identifiers, schemas, and the order of names.
 pub mod Names
+-- NameOrder: that order is total, and ties only a name with itself.
+pub mod NameOrder
 -- Order: the order of cells and rows.
 pub mod Order
 -- Picked: the columns that a query picks of a table.
 pub mod Picked
+-- Value: the value of a model from scratch.
+pub mod Value

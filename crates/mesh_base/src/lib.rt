@@ -4,11 +4,13 @@
 #![tactic(auto)]
 
 mod copies;
+mod models;
 mod names;
 mod order;
 mod same;
 mod values;
 
+pub use models::{Defn, Model};
 pub use names::{has_two_underscores, is_identifier, is_schema};
 pub use order::{cell_cmp, row_cmp};
 pub use values::{Cell, ColType, Column, Columns, Name, Names, Row, Rows, RowsList, Str, Strs};

@@ -1,3 +1,4 @@
 pub mod Ascends
+pub mod Each
 pub mod Found
 pub mod Placed
