@@ -1,0 +1,25 @@
+//! The warehouse as the program sees it: the world that it keeps, the changes that are made to it one by one, the trait
+//! of what keeps one, and a house in memory whose calls fail by a list. Its contract: a change that is answered by `Ok`
+//! was made exactly once, one that failed was made or not and left a count of faults raised, and what is read is what
+//! the world has; a call over a list of changes makes all of it, or stops after a part of it. It stands on `mesh_list`
+//! and `mesh_base`.
+#![tactic(auto)]
+
+mod copies;
+mod fails;
+mod house;
+mod making;
+mod memory;
+mod objects;
+mod same;
+mod step;
+#[cfg(test)]
+mod tests;
+mod world;
+
+pub use fails::{Fail, Fails};
+pub use house::{Warehouse, WhFail};
+pub use making::{make, make_all};
+pub use memory::MemHouse;
+pub use objects::{Body, Object, Objects};
+pub use world::{Change, Changes, ViewOf, World};
