@@ -27,6 +27,7 @@ impl Keyed for Name {
     type Key = Name;
 
     ghost key = { λ n. n };
+
     ghost order = { name_cmp };
 
     fn key(&self) -> &Name {
@@ -38,6 +39,7 @@ impl Keyed for Name {
     }
 
     ghost total = { names_total };
+
     ghost exact = { names_exact };
 }
 
@@ -45,6 +47,7 @@ impl Keyed for Model {
     type Key = Name;
 
     ghost key = { λ m. m.name };
+
     ghost order = { name_cmp };
 
     fn key(&self) -> &Name {
@@ -56,5 +59,6 @@ impl Keyed for Model {
     }
 
     ghost total = { names_total };
+
     ghost exact = { names_exact };
 }

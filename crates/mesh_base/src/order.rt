@@ -23,5 +23,5 @@ pub fn row_cmp(a: &Row, b: &Row) -> Ordering
     ensures tie { result ≡ Ordering.Equal → a.now ≡ b.now }
     ensures total { IsTotalOrder row_order }
 {
-    a.cmp(b)
+    a.as_slice().cmp(&b.as_slice())
 }

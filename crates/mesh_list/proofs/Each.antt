@@ -44,12 +44,14 @@ module _ {A K : Type 0} (R : K → K → Ordering) (total : IsTotalOrder R) (key
   behind : (x : A) (xs ys : List A) → below_first R key (key x) ys ≡ true → ascends R key ys ≡ true
       → AllByRecursion (λ (y : A). found R key (key y) xs ≡ Some y) ys → AllByRecursion (λ (y : A). found R key (key y) (x ∷ xs) ≡ Some y) ys
   behind x xs [] below up all = tt
-  behind x xs (y ∷ ys) below up all =
-      (found-later x xs (key y) (lt_is _ below) ∙ all.0,
-      behind x xs ys (below_later (key x) y ys (lt_is _ below) (and_left _ _ up)) (and_right _ _ up) all.1)
+  behind x xs (y ∷ ys) below up all = (
+    found-later x xs (key y) (lt_is _ below) ∙ all.0,
+    behind x xs ys (below_later (key x) y ys (lt_is _ below) (and_left _ _ up)) (and_right _ _ up) all.1,
+  )
 
   pub each_found : (xs : List A) → ascends R key xs ≡ true → AllByRecursion (λ (y : A). found R key (key y) xs ≡ Some y) xs
   each_found [] up = tt
-  each_found (x ∷ xs) up =
-      (found-itself x xs (key x) (tied_itself total (key x)),
-      behind x xs xs (and_left _ _ up) (and_right _ _ up) (each_found xs (and_right _ _ up)))
+  each_found (x ∷ xs) up = (
+    found-itself x xs (key x) (tied_itself total (key x)),
+    behind x xs xs (and_left _ _ up) (and_right _ _ up) (each_found xs (and_right _ _ up)),
+  )

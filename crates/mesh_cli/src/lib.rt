@@ -1,0 +1,12 @@
+//! The top call of `mesh`: it reads the words, the project's folder and the warehouse, makes the changes of one command
+//! and answers a status. Its contract is that of `mesh`: where it answers 0, exactly the changes of the project were
+//! made, and each production view shows what its model gives from scratch. It stands on `mesh_io`, `mesh_model` and
+//! `mesh_house`.
+#![tactic(auto)]
+
+mod apply;
+mod command;
+mod load;
+mod pick;
+
+pub use command::mesh;

@@ -1,0 +1,10 @@
+use Rattle.std.proofs.Common.{◌≡◌, ◌++◌, take, drop, length}
+use Rattle.mesh_io.specs.Files.{rewritten}
+use Rattle.mesh_io.proofs.mem_folder.write_in.Given as goal
+
+abbrev pub invariant-loop-i : goal.invariant-loop-i
+invariant-loop-i l = record {
+  rest : rewritten l.file l.files.items ≡ take l.i l.files.items ++ rewritten l.file (drop l.i l.files.items);
+  same : l.files.items ≡ l.fn.files.items;
+  end : l.i-end ≡ length l.files.items;
+}

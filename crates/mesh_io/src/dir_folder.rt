@@ -1,0 +1,195 @@
+// A folder of the host. Its paths are relative to the folder that the program was started in.
+ghost use Rattle.std.specs.Prelude.{◌≡◌, None};
+ghost use Rattle.mesh_io.specs.Told.{FolderTold};
+
+use crate::fails::IoFail;
+use crate::outside::Folder;
+use crate::refused::{is_absent, refused};
+use mesh_base::{Str, Strs};
+use mesh_list::Seq;
+use std::alloc::Global;
+use std::fs::File;
+use std::io::{ErrorKind, Read};
+use std::marker::Model;
+use std::{fs, io};
+
+/// How deep below the listed folder another may lie.
+const MOST_DEEP: u32 = 64;
+
+/// The host's files. It tells nothing of them. Contracts see it as the count of its faults.
+#[derive(Drop)]
+pub struct DirFolder<'a> {
+    rt: &'a HostRuntime,
+    faults: u64,
+}
+
+impl<'a> Model for DirFolder<'a> {
+    ghost use Rattle.std.specs.Prelude.{ℕ};
+
+    ghost Value = { ℕ };
+
+    ghost view = { λ a. a.faults };
+}
+
+impl<'a> DirFolder<'a> {
+    /// The files of the folder that the program was started in.
+    pub fn new(rt: &'a HostRuntime) -> DirFolder<'a>
+        ensures { result ≡ 0 }
+    {
+        DirFolder { rt, faults: 0 }
+    }
+}
+
+/// Goes through a folder and those below it.
+#[derive(Drop)]
+struct Walk {
+    alloc: Global,
+    /// How much of a path is the folder's own, with the slash.
+    skip: usize,
+    open: Vec<Open>,
+    found: Vec<Str>,
+}
+
+/// A folder that is still to be looked into, and how deep it lies.
+#[derive(Drop)]
+struct Open {
+    path: String,
+    depth: u32,
+}
+
+impl Walk {
+    fn new(alloc: Global, dir: &str) -> io::Result<Walk> {
+        let mut open = Vec::new(alloc);
+        let path = String::from_str(alloc, dir)?;
+        open.push(Open { path, depth: 0 })?;
+        Ok(Walk {
+            alloc,
+            skip: if dir.ends_with('/') {
+                dir.len()
+            } else {
+                dir.len().saturating_add(1)
+            },
+            open,
+            found: Vec::new(alloc),
+        })
+    }
+
+    /// Notes a path of the host: a folder is to be looked into, and a file is found. What is neither is passed over.
+    fn note(&mut self, rt: &HostRuntime, path: &str, depth: u32) -> io::Result<()> {
+        let metadata = match fs::metadata(rt, path) {
+            Ok(metadata) => metadata,
+            Err(error) if is_absent(error.kind()) => return Ok(()),
+            Err(error) => return Err(error),
+        };
+        if metadata.is_dir() {
+            let path = String::from_str(self.alloc, path)?;
+            self.open.push(Open { path, depth })?;
+        } else if metadata.is_file() {
+            self.find(path)?;
+        }
+        Ok(())
+    }
+
+    fn find(&mut self, path: &str) -> io::Result<()> {
+        match path.as_bytes().get(self.skip..) {
+            Some(below) => {
+                let below = Vec::from_slice(self.alloc, below)?;
+                self.found.push(Seq::from_vec(below))?;
+                Ok(())
+            }
+            None => Err(io::Error::from(ErrorKind::InvalidData)),
+        }
+    }
+
+    /// Notes what a folder holds, whose paths have to be UTF-8.
+    fn look(&mut self, rt: &HostRuntime, folder: &Open) -> io::Result<()> {
+        if folder.depth > MOST_DEEP {
+            return Err(io::Error::from(ErrorKind::InvalidData));
+        }
+        let deeper = folder.depth.saturating_add(1);
+        for entry in fs::read_dir(rt, folder.path.as_str())? {
+            let entry = entry?;
+            self.note(rt, entry.path().as_str(), deeper)?;
+        }
+        Ok(())
+    }
+
+    /// Looks into one folder after another, until none is left.
+    fn go(&mut self, rt: &HostRuntime) -> io::Result<()> {
+        for _ in 0..u64::MAX {
+            let Some(folder) = self.open.pop() else {
+                break;
+            };
+            self.look(rt, &folder)?;
+        }
+        Ok(())
+    }
+}
+
+fn text_of(bytes: &[u8]) -> io::Result<&str> {
+    match std::str::from_utf8(bytes) {
+        Ok(text) => Ok(text),
+        Err(_) => Err(io::Error::from(ErrorKind::InvalidData)),
+    }
+}
+
+/// Whether there is a folder at the path.
+fn is_folder(rt: &HostRuntime, path: &str) -> io::Result<bool> {
+    match fs::metadata(rt, path) {
+        Ok(metadata) => Ok(metadata.is_dir()),
+        Err(error) if is_absent(error.kind()) => Ok(false),
+        Err(error) => Err(error),
+    }
+}
+
+fn list_files(rt: &HostRuntime, alloc: Global, dir: &[u8]) -> io::Result<Strs> {
+    let dir = text_of(dir)?;
+    if !is_folder(rt, dir)? {
+        return Ok(Seq::new(alloc));
+    }
+    let mut walk = Walk::new(alloc, dir)?;
+    walk.go(rt)?;
+    let Walk {
+        alloc: _,
+        skip: _,
+        open: _,
+        mut found,
+    } = walk;
+    found.sort()?;
+    Ok(Seq::from_vec(found))
+}
+
+fn read_file(rt: &HostRuntime, alloc: Global, path: &[u8], most: u64) -> io::Result<Str> {
+    let mut bytes = Vec::new(alloc);
+    File::open(rt, text_of(path)?)?
+        .take(most)
+        .read_to_end(&mut bytes)?;
+    Ok(Seq::from_vec(bytes))
+}
+
+impl Folder for DirFolder<'_> {
+    ghost told = { λ faults. record { files = None; faults = faults } };
+
+    fn faults(&self) -> u64 {
+        self.faults
+    }
+
+    fn list(&mut self, alloc: Global, dir: &Str) -> Result<Strs, IoFail> {
+        match list_files(self.rt, alloc, dir.as_slice()) {
+            Ok(paths) => Ok(paths),
+            Err(error) => Err(refused(&mut self.faults, error.kind())),
+        }
+    }
+
+    fn read(&mut self, alloc: Global, path: &Str, most: u64) -> Result<Option<Str>, IoFail> {
+        match read_file(self.rt, alloc, path.as_slice(), most) {
+            Ok(bytes) => Ok(Some(bytes)),
+            Err(error) => {
+                if is_absent(error.kind()) {
+                    return Ok(None);
+                }
+                Err(refused(&mut self.faults, error.kind()))
+            }
+        }
+    }
+}

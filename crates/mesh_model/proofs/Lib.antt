@@ -1,0 +1,13 @@
+pub mod Fronts
+pub mod Positions
+pub mod Folders
+pub mod Digits
+pub mod Fields
+pub mod Utf8
+pub mod Records
+pub mod SoFar
+pub mod Steps
+pub mod Spelled
+pub mod Forms
+pub mod Written
+pub mod Files

@@ -1,0 +1,1 @@
+MODEL (name a.g, kind FULL); SELECT v FROM a.f

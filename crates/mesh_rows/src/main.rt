@@ -1,0 +1,131 @@
+//! Worked examples as data. Each folder `rows/NAME` has a project in `project/` and a `script` of steps, which are run
+//! through the top call of `mesh_cli` over a folder and a warehouse in memory. What each command answers and leaves is
+//! printed, and is compared with the crate's `stdout`, whose values were worked out by hand.
+//!
+//! A script has one step a line; empty lines and lines that begin with `#` are passed over:
+//! - `mesh WORD..` runs a command; the words are separated by blanks;
+//! - `write PATH FILE` gives the project a file with the bytes of `rows/NAME/FILE`, and `delete PATH` removes one;
+//! - `empty house` begins anew with an empty warehouse;
+//! - `fail change N before`, `fail change N after`, `fail read N` and `fail folder N` have one call of the next commands
+//!   fail, counted from 0 from then on, and `fail nothing` has none fail.
+#![tactic(auto)]
+
+mod report;
+mod script;
+mod stage;
+mod trouble;
+
+use crate::script::steps_of;
+use crate::stage::Stage;
+use crate::trouble::Trouble;
+use mesh_base::Str;
+use mesh_io::{DirFolder, Folder, Sink, StdSink};
+use mesh_list::{Duplicate, Seq};
+use std::alloc::Global;
+use std::process::ExitCode;
+use std::thread::Threads;
+
+/// The bytes of the largest file of an example.
+const MOST_BYTES: u64 = 1 << 23;
+
+fn text(alloc: Global, bytes: &[u8]) -> Result<Str, Trouble> {
+    Ok(u8::copy_items(alloc, bytes)?)
+}
+
+/// A path below `rows`.
+fn below_rows(alloc: Global, path: &[u8]) -> Result<Str, Trouble> {
+    let mut made = Vec::from_slice(alloc, b"rows/")?;
+    made.extend_from_slice(path)?;
+    Ok(Seq::from_vec(made))
+}
+
+fn read(alloc: Global, data: &mut DirFolder, path: &[u8]) -> Result<Str, Trouble> {
+    let path = below_rows(alloc, path)?;
+    data.read(alloc, &path, MOST_BYTES)?.ok_or(Trouble::Script)
+}
+
+/// Gives the stage the project's files of an example.
+fn furnish(
+    alloc: Global,
+    data: &mut DirFolder,
+    paths: &[Str],
+    name: &[u8],
+    stage: &mut Stage,
+) -> Result<(), Trouble> {
+    let mut front = Vec::from_slice(alloc, name)?;
+    front.extend_from_slice(b"/project/")?;
+    for path in paths {
+        if let Some(rest) = path.as_slice().strip_prefix(front.as_slice()) {
+            let bytes = read(alloc, data, path.as_slice())?;
+            stage.write(text(alloc, rest)?, bytes)?;
+        }
+    }
+    Ok(())
+}
+
+/// A file of an example, by its path there.
+fn file_of(alloc: Global, data: &mut DirFolder, name: &[u8], path: &[u8]) -> Result<Str, Trouble> {
+    let mut whole = Vec::from_slice(alloc, name)?;
+    whole.push(b'/')?;
+    whole.extend_from_slice(path)?;
+    read(alloc, data, whole.as_slice())
+}
+
+/// Runs one example, and adds what is to be printed.
+fn example<R: Threads + Sync>(
+    rt: &R,
+    alloc: Global,
+    data: &mut DirFolder,
+    paths: &[Str],
+    name: &[u8],
+    report: &mut Vec<u8>,
+) -> Result<(), Trouble> {
+    report.extend_from_slice(b"== ")?;
+    report.extend_from_slice(name)?;
+    report.push(b'\n')?;
+    let mut stage = Stage::new(alloc);
+    furnish(alloc, data, paths, name, &mut stage)?;
+    let script = file_of(alloc, data, name, b"script")?;
+    for step in &steps_of(alloc, script.as_slice())? {
+        match step {
+            script::Step::Write { path, from } => {
+                let bytes = file_of(alloc, data, name, from.as_slice())?;
+                stage.write(path.copy()?, bytes)?;
+            }
+            other => stage.perform(rt, other, report)?,
+        }
+    }
+    Ok(())
+}
+
+fn examples<R: Threads + Sync>(
+    rt: &R,
+    alloc: Global,
+    data: &mut DirFolder,
+    report: &mut Vec<u8>,
+) -> Result<(), Trouble> {
+    let rows = text(alloc, b"rows")?;
+    let paths = data.list(alloc, &rows)?;
+    for path in paths.as_slice() {
+        if let Some(name) = path.as_slice().strip_suffix(b"/script") {
+            example(rt, alloc, data, paths.as_slice(), name, report)?;
+        }
+    }
+    Ok(())
+}
+
+fn main(rt: HostRuntime) -> ExitCode {
+    let mut report = Vec::new(rt.alloc());
+    let mut data = DirFolder::new(&rt);
+    let done = examples(&rt, rt.alloc(), &mut data, &mut report);
+    let mut out = StdSink::output(&rt);
+    let printed = out.put(report.as_slice());
+    match (done, printed) {
+        (Ok(()), Ok(())) => ExitCode::from(0),
+        (Err(trouble), _) => {
+            let _ = eprintln!(rt; "{trouble:?}");
+            ExitCode::from(1)
+        }
+        _ => ExitCode::from(1),
+    }
+}

@@ -1,0 +1,99 @@
+// What is printed of a command.
+use crate::trouble::Trouble;
+use mesh_base::{Cell, Name, Row, Str};
+use mesh_house::{Body, World};
+use std::alloc::Global;
+
+/// A number in decimal digits.
+pub fn count(alloc: Global, report: &mut Vec<u8>, number: u64) -> Result<(), Trouble> {
+    let digits = format!(in alloc; "{number}")?;
+    report.extend_from_slice(digits.as_bytes())?;
+    Ok(())
+}
+
+fn put_name(report: &mut Vec<u8>, name: &Name) -> Result<(), Trouble> {
+    report.extend_from_slice(name.schema.as_slice())?;
+    report.push(b'.')?;
+    report.extend_from_slice(name.model.as_slice())?;
+    Ok(())
+}
+
+fn put_cell(alloc: Global, report: &mut Vec<u8>, cell: &Cell) -> Result<(), Trouble> {
+    match cell {
+        Cell::Null => report.extend_from_slice(b"NULL")?,
+        Cell::Int(n) => {
+            let digits = format!(in alloc; "{n}")?;
+            report.extend_from_slice(digits.as_bytes())?;
+        }
+        Cell::Text(text) => {
+            report.push(b'\'')?;
+            report.extend_from_slice(text.as_slice())?;
+            report.push(b'\'')?;
+        }
+        Cell::Date(day) => {
+            let digits = format!(in alloc; "day {day}")?;
+            report.extend_from_slice(digits.as_bytes())?;
+        }
+        Cell::Bool(truth) => {
+            let word = if *truth { "true" } else { "false" };
+            report.extend_from_slice(word.as_bytes())?;
+        }
+    }
+    Ok(())
+}
+
+fn put_row(alloc: Global, report: &mut Vec<u8>, row: &Row) -> Result<(), Trouble> {
+    report.extend_from_slice(b"   ")?;
+    for cell in row.as_slice() {
+        report.push(b' ')?;
+        put_cell(alloc, report, cell)?;
+    }
+    report.push(b'\n')?;
+    Ok(())
+}
+
+/// What was written to the two sinks, where something was.
+pub fn put_texts(report: &mut Vec<u8>, out: &Str, err: &Str) -> Result<(), Trouble> {
+    if !out.is_empty() {
+        report.extend_from_slice(b"out:\n")?;
+        report.extend_from_slice(out.as_slice())?;
+    }
+    if !err.is_empty() {
+        report.extend_from_slice(b"err:\n")?;
+        report.extend_from_slice(err.as_slice())?;
+    }
+    Ok(())
+}
+
+fn put_body(alloc: Global, report: &mut Vec<u8>, body: &Body) -> Result<(), Trouble> {
+    match body {
+        Body::Rows(rows) => {
+            for row in rows.as_slice() {
+                put_row(alloc, report, row)?;
+            }
+        }
+    }
+    Ok(())
+}
+
+/// The tables with their columns and rows, and the views with what they point at.
+pub fn put_world(alloc: Global, report: &mut Vec<u8>, world: &World) -> Result<(), Trouble> {
+    for object in world.objects.as_slice() {
+        report.extend_from_slice(b"  table ")?;
+        put_name(report, &object.name)?;
+        for column in object.columns.as_slice() {
+            report.push(b' ')?;
+            report.extend_from_slice(column.name.as_slice())?;
+        }
+        report.push(b'\n')?;
+        put_body(alloc, report, &object.body)?;
+    }
+    for view in world.views.as_slice() {
+        report.extend_from_slice(b"  view ")?;
+        put_name(report, &view.view)?;
+        report.extend_from_slice(b" at ")?;
+        put_name(report, &view.target)?;
+        report.push(b'\n')?;
+    }
+    Ok(())
+}
