@@ -5,7 +5,6 @@ use Rattle.mesh_list.specs.Keyed.{ascends}
 use Rattle.mesh_base.specs.declared.models.Model.{Model}
 use Rattle.mesh_base.specs.Names.{name_cmp}
 use Rattle.mesh_base.specs.Value.{model_name}
-use Rattle.mesh_house.specs.declared.world.World.{World}
 use Rattle.mesh_house.specs.House.{Told}
 use Rattle.mesh_house.specs.World.{run}
 use Rattle.mesh_house.specs.Runs.{Ran}

@@ -20,12 +20,11 @@ use Rattle.mesh_base.specs.Value.{model_name, model_of, columns_of, value, rank}
 use Rattle.mesh_house.specs.declared.objects.Body.{Body}
 use Rattle.mesh_house.specs.declared.objects.Body.TheVariants.{Rows}
 use Rattle.mesh_house.specs.declared.world.World.{World}
-use Rattle.mesh_house.specs.declared.world.Change.{Change}
 use Rattle.mesh_house.specs.declared.world.Change.TheVariants.{PointView}
 use Rattle.mesh_house.specs.World.{body, view, shown_at, shown, rows_of, step, run}
 use Rattle.mesh_house.proofs.Laws.{body-filled, view-pointed}
 use Rattle.mesh_house.proofs.Runs.{run-append}
-use Rattle.mesh_cli.specs.Apply.{table_of, fills, fills_at, executes, pointed, points, changes, Final}
+use Rattle.mesh_cli.specs.Apply.{table_of, fills, fills_at, executes, points, changes, Final}
 use Rattle.mesh_cli.proofs.Tables.{table_is_physical, same_table}
 
 -- the names of two models are compared, and it is known how

@@ -12,7 +12,6 @@ use Rattle.mesh_base.specs.Picked.{same_text}
 use Rattle.mesh_base.specs.Value.{model_name, model_of}
 use Rattle.mesh_io.specs.declared.files.File.{File}
 use Rattle.mesh_io.specs.Files.{bytes_at, listing}
-use Rattle.mesh_model.specs.declared.model.ModelText.{ModelText}
 use Rattle.mesh_model.specs.declared.model.Form.{Form}
 use Rattle.mesh_model.specs.declared.model.Form.TheVariants as form
 use Rattle.mesh_model.specs.Gives.{◌>>=◌}

@@ -87,9 +87,11 @@ abbrev pub distinct : List (List ℕ) → Bool
 distinct [] = true
 distinct (x ∷ xs) = not (list_any (bytes_eq x) xs) && distinct xs
 
+-- the names of columns
 abbrev pub names_of : List Column → List (List ℕ)
 names_of columns = map (λ c. c.name) columns
 
+-- no token is left
 abbrev pub is_end : List Token → Bool
 is_end [] = true
 is_end (t ∷ ts) = false
@@ -135,6 +137,7 @@ full_at ts = do
   from ← relation_at plain_at source
   if is_end from.1 && distinct columns.0 then Some (Full columns.0 from.0) else None
 
+-- the kind is SEED
 abbrev pub begins_seed : List Token → Bool
 begins_seed (Name n ∷ ts) = bytes_eq n (codes "seed")
 begins_seed ts = false

@@ -3,6 +3,7 @@ use Rattle.std.specs.Prelude.{ℕ, Bool, false, ◌&&◌, not, ◌==◌, List, [
 use Rattle.std.specs.List.{list_any}
 use Rattle.std.specs.Str.{bytes_eq}
 
+-- a slash stands somewhere
 abbrev pub has_slash : List ℕ → Bool
 has_slash path = list_any (λ b. b == 47) path
 

@@ -28,6 +28,7 @@ abbrev pub digits_up_to : ℕ → List ℕ → Option ℕ
 digits_up_to most [] = None
 digits_up_to most (b ∷ bs) = at_most most (digits_after 0 (b ∷ bs))
 
+-- the number n below zero
 abbrev pub negative : ℕ → ℤ
 negative zero = pos 0
 negative (suc n) = negsuc n

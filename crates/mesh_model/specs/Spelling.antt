@@ -24,6 +24,7 @@ list_spelling spell [] = []
 list_spelling spell (x ∷ []) = spell x
 list_spelling spell (x ∷ y ∷ rest) = spell x ++ (Sign 44 ∷ list_spelling spell (y ∷ rest))
 
+-- the word of a type
 abbrev pub type_word : ColType → List ℕ
 type_word kinds.Int = codes "int"
 type_word kinds.Text = codes "text"
@@ -34,6 +35,7 @@ type_word kinds.Bool = codes "bool"
 abbrev pub column_spelling : Column → List Token
 column_spelling c = Name c.name ∷ Name (type_word c.kind) ∷ []
 
+-- c
 abbrev pub name_spelling : List ℕ → List Token
 name_spelling n = Name n ∷ []
 
@@ -58,12 +60,14 @@ abbrev pub IsForm : List ℕ → Form → List Token → Type 0
 IsForm file (Seed path columns) ts = (name : List ℕ) × (is_file_name name ≡ true) × (path ≡ seed_path file name) × (ts ≡ seed_spelling name columns)
 IsForm file (Full columns from) ts = ts ≡ full_spelling columns from
 
+-- a type of a seed's columns
 abbrev pub is_seed_type : ColType → Bool
 is_seed_type kinds.Int = true
 is_seed_type kinds.Text = true
 is_seed_type kinds.Date = false
 is_seed_type kinds.Bool = false
 
+-- no word of queries
 abbrev pub is_plain : List ℕ → Bool
 is_plain name = not (is_reserved name)
 
@@ -86,6 +90,7 @@ IsModel file m ts = (rest : List Token) × (ts ≡ heading_spelling m.name ++ re
 abbrev pub is_quotable : ℕ → Bool
 is_quotable b = is_ascii b && not (b == 39)
 
+-- the first byte can stand in a name
 abbrev pub begins_in_name : List ℕ → Bool
 begins_in_name [] = false
 begins_in_name (b ∷ bs) = is_name_byte b

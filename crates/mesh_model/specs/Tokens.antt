@@ -19,6 +19,7 @@ is_sign b = (b == 40) || (b == 41) || (b == 44) || (b == 46) || (b == 59)
 abbrev pub begins_name : ℕ → Bool
 begins_name b = is_letter b || (b == 95)
 
+-- a byte of ASCII
 abbrev pub is_ascii : ℕ → Bool
 is_ascii b = nat_lt b 128
 

@@ -1,5 +1,5 @@
 // The cells of a seed.
-ghost use Rattle.std.specs.Prelude.{◌≡◌, ◌≤◌, ◌^◌, ℕ, option_map, map};
+ghost use Rattle.std.specs.Prelude.{◌≡◌, ◌≤◌, ◌^◌};
 ghost use Rattle.csv.specs.Records.{fields_of};
 ghost use Rattle.mesh_model.specs.Gives.{Gives};
 ghost use Rattle.mesh_model.specs.Seed.{at_most, digits_after, digits_up_to, negative, number_of, is_text, value_of, cell_read, row_read};

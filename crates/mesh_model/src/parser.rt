@@ -1,5 +1,5 @@
 // The model that the tokens of a file say.
-ghost use Rattle.std.specs.Prelude.{◌≡◌, ◌∷◌, [], ◌++◌, codes, option_map, IfOk, map};
+ghost use Rattle.std.specs.Prelude.{◌≡◌, option_map};
 ghost use Rattle.std.specs.Str.{bytes_eq};
 ghost use Rattle.std.specs.List.{list_any};
 ghost use Rattle.mesh_model.specs.declared.token.Token.TheVariants.{Name as Word, Sign};
@@ -16,8 +16,8 @@ use mesh_base::{ColType, Column, Columns, Name, Str, Strs, is_schema};
 use mesh_list::Seq;
 use std::alloc::Global;
 
-/// The most columns of a model.
-pub const MAX_COLUMNS: usize = 1024;
+// The most columns of a model.
+const MAX_COLUMNS: usize = 1024;
 
 fn sign_at(tokens: &[Token], sign: u8) -> Option<&[Token]>
     ensures { option_map (λ s. s.now) result ≡ behind (Sign sign) tokens.now }
@@ -317,7 +317,8 @@ fn model_of(alloc: Global, file: &[u8], tokens: &[Token]) -> Result<ModelText, R
     Ok(ModelText { name, form })
 }
 
-/// The model that a file says. The path of the file in the project says where a seed's path leads.
+/// The model that a file says: `model_files` tells which that is. The path of the file in the project says where a
+/// seed's path leads.
 #[tactic(auto, unfolding(crate::specs::Model::model_text))]
 pub fn read_model(alloc: Global, file: &Str, bytes: &[u8]) -> Result<ModelText, ReadFault>
     ensures { Gives result (model_text file.now bytes.now) }

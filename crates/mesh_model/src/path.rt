@@ -1,5 +1,5 @@
 // Where a seed's file lies.
-ghost use Rattle.std.specs.Prelude.{◌≡◌, ◌++◌, ◌∷◌, IfOk, option_map, codes};
+ghost use Rattle.std.specs.Prelude.{◌≡◌, ◌++◌, IfOk, option_map};
 ghost use Rattle.mesh_model.specs.Paths.{has_slash, folder_of, within, is_file_name, seed_file, seed_path};
 
 use crate::text::{copied, is_same};

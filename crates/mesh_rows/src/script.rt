@@ -34,7 +34,7 @@ fn number(word: &str) -> Result<u64, Trouble> {
 
 fn command(alloc: Global, words: &[&str]) -> Result<Step, Trouble> {
     let mut all = Vec::new(alloc);
-    for word in words {
+    for word in words.iter().skip(1) {
         all.push(text(alloc, word)?)?;
     }
     Ok(Step::Mesh(Seq::from_vec(all)))
@@ -56,22 +56,78 @@ fn failing_read(number: u64) -> Step {
     })
 }
 
-fn step_of(alloc: Global, words: &[&str]) -> Result<Step, Trouble> {
-    match words {
-        ["mesh", rest @ ..] => command(alloc, rest),
-        ["write", path, from] => Ok(Step::Write {
-            path: text(alloc, path)?,
-            from: text(alloc, from)?,
-        }),
-        ["delete", path] => Ok(Step::Delete(text(alloc, path)?)),
-        ["empty", "house"] => Ok(Step::EmptyHouse),
-        ["fail", "change", n, "before"] => Ok(failing_change(number(n)?, false)),
-        ["fail", "change", n, "after"] => Ok(failing_change(number(n)?, true)),
-        ["fail", "read", n] => Ok(failing_read(number(n)?)),
-        ["fail", "folder", n] => Ok(Step::FailFolder(number(n)?)),
-        ["fail", "nothing"] => Ok(Step::FailNothing),
-        _ => Err(Trouble::Script),
+/// The word at a place.
+fn word<'a>(words: &[&'a str], at: usize) -> Result<&'a str, Trouble> {
+    match words.get(at) {
+        Some(word) => Ok(*word),
+        None => Err(Trouble::Script),
     }
+}
+
+fn write(alloc: Global, words: &[&str]) -> Result<Step, Trouble> {
+    let path = word(words, 1)?;
+    let from = word(words, 2)?;
+    Ok(Step::Write {
+        path: text(alloc, path)?,
+        from: text(alloc, from)?,
+    })
+}
+
+fn delete(alloc: Global, words: &[&str]) -> Result<Step, Trouble> {
+    let path = word(words, 1)?;
+    Ok(Step::Delete(text(alloc, path)?))
+}
+
+/// The call of the warehouse or of the folder that is to fail.
+fn failing_call(kind: &str, words: &[&str]) -> Result<Step, Trouble> {
+    let call = number(word(words, 2)?)?;
+    if kind == "change" {
+        let when = word(words, 3)?;
+        return Ok(failing_change(call, when == "after"));
+    }
+    if kind == "read" {
+        return Ok(failing_read(call));
+    }
+    if kind == "folder" {
+        return Ok(Step::FailFolder(call));
+    }
+    Err(Trouble::Script)
+}
+
+fn failing(words: &[&str]) -> Result<Step, Trouble> {
+    let kind = word(words, 1)?;
+    if kind == "nothing" {
+        return Ok(Step::FailNothing);
+    }
+    failing_call(kind, words)
+}
+
+fn step_of(alloc: Global, words: &[&str]) -> Result<Step, Trouble> {
+    let first = word(words, 0)?;
+    if first == "mesh" {
+        return command(alloc, words);
+    }
+    if first == "write" {
+        return write(alloc, words);
+    }
+    if first == "delete" {
+        return delete(alloc, words);
+    }
+    if first == "empty" {
+        return Ok(Step::EmptyHouse);
+    }
+    if first == "fail" {
+        return failing(words);
+    }
+    Err(Trouble::Script)
+}
+
+fn words_of<'a>(alloc: Global, line: &'a str) -> Result<Vec<&'a str>, Trouble> {
+    let mut words = Vec::new(alloc);
+    for word in line.split_whitespace() {
+        words.push(word)?;
+    }
+    Ok(words)
 }
 
 /// The steps of a script, in order.
@@ -84,7 +140,7 @@ pub fn steps_of(alloc: Global, script: &[u8]) -> Result<Vec<Step>, Trouble> {
         if line.is_empty() || line.starts_with('#') {
             continue;
         }
-        let words: Vec<&str> = line.split_whitespace().collect(alloc)?;
+        let words = words_of(alloc, line)?;
         steps.push(step_of(alloc, words.as_slice())?)?;
     }
     Ok(steps)
