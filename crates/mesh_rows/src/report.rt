@@ -1,11 +1,11 @@
 // What is printed of a command.
 use crate::trouble::Trouble;
-use mesh_base::{Cell, Name, Row, Str};
+use mesh_base::{Cell, Name, Row, Str, Strs};
 use mesh_house::{Body, World};
 use std::alloc::Global;
 
 /// A number in decimal digits.
-pub fn count(alloc: Global, report: &mut Vec<u8>, number: u64) -> Result<(), Trouble> {
+fn count(alloc: Global, report: &mut Vec<u8>, number: u64) -> Result<(), Trouble> {
     let digits = format!(in alloc; "{number}")?;
     report.extend_from_slice(digits.as_bytes())?;
     Ok(())
@@ -48,6 +48,27 @@ fn put_row(alloc: Global, report: &mut Vec<u8>, row: &Row) -> Result<(), Trouble
         report.push(b' ')?;
         put_cell(alloc, report, cell)?;
     }
+    report.push(b'\n')?;
+    Ok(())
+}
+
+/// The words of a command, its status and how many changes it made.
+pub fn put_command(
+    alloc: Global,
+    report: &mut Vec<u8>,
+    words: &Strs,
+    status: u8,
+    changes: u64,
+) -> Result<(), Trouble> {
+    report.extend_from_slice(b"mesh")?;
+    for word in words.as_slice() {
+        report.push(b' ')?;
+        report.extend_from_slice(word.as_slice())?;
+    }
+    report.extend_from_slice(b": status ")?;
+    count(alloc, report, u64::from(status))?;
+    report.extend_from_slice(b", changes ")?;
+    count(alloc, report, changes)?;
     report.push(b'\n')?;
     Ok(())
 }

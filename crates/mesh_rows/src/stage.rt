@@ -1,5 +1,5 @@
 // What the commands of an example run on: everything is in memory.
-use crate::report::{count, put_texts, put_world};
+use crate::report::{put_command, put_texts, put_world};
 use crate::script::Step;
 use crate::trouble::Trouble;
 use mesh_base::{Str, Strs};
@@ -72,42 +72,66 @@ impl Stage {
         Ok(())
     }
 
-    /// Runs one command, and reports its words, its status, its changes, its texts and the world that it leaves.
+    /// Runs one command, and reports it.
     fn command<R: Threads + Sync>(
         &mut self,
         rt: &R,
         words: &Strs,
         report: &mut Vec<u8>,
     ) -> Result<(), Trouble> {
-        let alloc = self.alloc;
-        let mut out = MemSink::new(alloc, Seq::new(alloc));
-        let mut err = MemSink::new(alloc, Seq::new(alloc));
-        let mut clock = MemClock::new(0, Seq::new(alloc));
-        let mut input = MemSource::new(Seq::new(alloc), Seq::new(alloc));
+        let mut streams = Streams::new(self.alloc);
         let before = self.house.calls();
-        let status = mesh_cli::mesh(
+        let status = streams.run(
             rt,
-            alloc,
+            self.alloc,
             words.as_slice(),
             &mut self.folder,
             &mut self.house,
-            &mut clock,
-            &mut input,
-            &mut out,
-            &mut err,
         );
         let changes = self.house.calls().saturating_sub(before);
-        report.extend_from_slice(b"mesh")?;
-        for word in words.as_slice() {
-            report.push(b' ')?;
-            report.extend_from_slice(word.as_slice())?;
+        put_command(self.alloc, report, words, status, changes)?;
+        put_texts(report, streams.out.bytes(), streams.err.bytes())?;
+        put_world(self.alloc, report, self.house.world())
+    }
+}
+
+/// The clock and the streams of one command.
+#[derive(Drop)]
+struct Streams {
+    clock: MemClock,
+    input: MemSource,
+    out: MemSink,
+    err: MemSink,
+}
+
+impl Streams {
+    fn new(alloc: Global) -> Streams {
+        Streams {
+            clock: MemClock::new(0, Seq::new(alloc)),
+            input: MemSource::new(Seq::new(alloc), Seq::new(alloc)),
+            out: MemSink::new(alloc, Seq::new(alloc)),
+            err: MemSink::new(alloc, Seq::new(alloc)),
         }
-        report.extend_from_slice(b": status ")?;
-        count(alloc, report, u64::from(status))?;
-        report.extend_from_slice(b", changes ")?;
-        count(alloc, report, changes)?;
-        report.push(b'\n')?;
-        put_texts(report, out.bytes(), err.bytes())?;
-        put_world(alloc, report, self.house.world())
+    }
+
+    fn run<R: Threads + Sync>(
+        &mut self,
+        rt: &R,
+        alloc: Global,
+        words: &[Str],
+        folder: &mut MemFolder,
+        house: &mut MemHouse,
+    ) -> u8 {
+        mesh_cli::mesh(
+            rt,
+            alloc,
+            words,
+            folder,
+            house,
+            &mut self.clock,
+            &mut self.input,
+            &mut self.out,
+            &mut self.err,
+        )
     }
 }
