@@ -4,13 +4,19 @@
 #![tactic(auto)]
 
 mod copies;
+mod expression_copies;
+mod expression_same;
+mod expressions;
 mod models;
 mod names;
 mod order;
+mod queries;
 mod same;
 mod values;
 
-pub use models::{Defn, Model};
+pub use expressions::{AggKind, Expr, Exprs, Func, Op, Var, When, Whens};
+pub use models::{Model, Picking};
 pub use names::{has_two_underscores, is_identifier, is_schema};
 pub use order::{cell_cmp, row_cmp};
+pub use queries::{Ctes, FromItem, Froms, Item, Items, Join, Query, Rel, Select, Selects};
 pub use values::{Cell, ColType, Column, Columns, Name, Names, Row, Rows, RowsList, Str, Strs};
