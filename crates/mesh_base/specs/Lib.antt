@@ -12,5 +12,9 @@ pub mod Order
 pub mod Outputs
 -- Picked: the columns that a query picks of a table.
 pub mod Picked
+-- Proper: what a definition and its parents have to be, and proper projects.
+pub mod Proper
+-- Seen: what a query names is there.
+pub mod Seen
 -- Value: the value of a model from scratch.
 pub mod Value

@@ -17,12 +17,16 @@ mod names;
 mod order;
 mod outputs;
 mod plans;
+mod projects;
+mod proper;
 mod queries;
 mod same;
+mod seen;
 mod snapshots;
 mod sorts;
 mod times;
 mod values;
+mod well_formed;
 
 pub use crons::{Cron, CronFault};
 pub use definitions::{Decl, Defn, Externals, Kind, Own, Reading, Reads, Sources};
@@ -38,8 +42,11 @@ pub use models::{Model, Picking};
 pub use names::{has_two_underscores, is_identifier, is_schema};
 pub use order::{cell_cmp, row_cmp};
 pub use outputs::columns_of;
-pub use plans::{Categories, Category, CategoryList, Due, Dues, Entries, Entry, Marks};
+pub use plans::{Categories, Category, CategoryList, Due, Dues, Entries, Entry, Marks, Plan};
+pub use projects::Project;
+pub use proper::is_proper;
 pub use queries::{Ctes, FromItem, Froms, Item, Items, Join, Query, Rel, Select, Selects};
+pub use seen::{has_column, is_query_seen};
 pub use snapshots::{Env, Envs, Indexes, Node, Nodes, Ref, Refs, Snapshot, Snapshots};
 pub use sorts::{one_ascending_list, sort_rows};
 pub use times::{Bounds, Schedule, Spans, Unit};
@@ -47,3 +54,4 @@ pub use values::{
     Cell, ColType, Column, Columns, Name, Names, Numbers, Pair, Pairs, Row, Rows, RowsList, Str,
     Strs,
 };
+pub use well_formed::is_well_formed;
