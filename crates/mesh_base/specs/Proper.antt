@@ -123,20 +123,22 @@ abbrev pub rank_above : List Node → ℕ → List ℕ → ℕ
 rank_above nodes rank [] = rank
 rank_above nodes rank (i ∷ is) = rank_above nodes (raised rank (slice_get nodes i)) is
 
--- the parents as relations
-abbrev pub relation_in : Option Node → List Decl
-relation_in None = []
-relation_in (Some n) = relation_of n.own ∷ []
+-- these relations and one more parent
+abbrev pub with_parent : List Decl → Option Node → List Decl
+with_parent relations None = relations
+with_parent relations (Some n) = relations ++ relation_of n.own ∷ []
 
-abbrev pub relations_at : List Node → List ℕ → List Decl
-relations_at nodes places = flat_map (λ i. relation_in (slice_get nodes i)) places
+-- these relations and the nodes at the places
+abbrev pub relations_at : List Node → List Decl → List ℕ → List Decl
+relations_at nodes relations [] = relations
+relations_at nodes relations (i ∷ is) = relations_at nodes (with_parent relations (slice_get nodes i)) is
 
 -- The parents of a node are places of nodes of smaller rank. Its rank is 0 without parents, else one more than their
 -- greatest rank, and its definition is well formed with them.
 abbrev pub is_fit : List Node → Node → Bool
 is_fit nodes n =
     are_lower nodes n.rank n.parents
-    && (nat_eq n.rank (rank_above nodes 0 n.parents) && is_well_formed (relations_at nodes n.parents) n.own)
+    && (nat_eq n.rank (rank_above nodes 0 n.parents) && is_well_formed (relations_at nodes [] n.parents) n.own)
 
 -- nodes stand by rank, and then by name
 abbrev pub node_cmp : Node → Node → Ordering

@@ -102,14 +102,14 @@ abbrev pub keys_see : List (List Column) → List Expr → Bool
 keys_see tables keys = list_all (sees tables) keys
 
 -- each column that a SELECT names is a column of its FROM item
-abbrev pub select_sees : List (List Column) → Select → Bool
+unfoldable pub select_sees : List (List Column) → Select → Bool
 select_sees tables s =
     items_see tables s.items
     && (conditions_see tables s.from
     && (sees_some tables s.filter && (keys_see tables s.keys && sees_some tables s.having)))
 
 -- a SELECT whose relations, CTEs and columns are there
-abbrev pub is_select_seen : List Decl → List (List Select) → Select → Bool
+unfoldable pub is_select_seen : List Decl → List (List Select) → Select → Bool
 is_select_seen relations ctes s =
     are_there relations ctes s.from && select_sees (tables_of relations ctes s.from) s
 

@@ -1,8 +1,8 @@
 // Whether nodes are a proper project: each fits its parents, and they stand by rank and name.
-ghost use Rattle.std.specs.Prelude.{◌≡◌, IfOk};
-ghost use Rattle.std.specs.Option.{option_copied};
+ghost use Rattle.std.specs.Prelude.{◌≡◌, [], IfOk, OnOk};
+ghost use Rattle.std.specs.List.{slice_get};
 ghost use Rattle.mesh_list.specs.Keyed.{ascends};
-ghost use Rattle.mesh_base.specs.Proper.{are_fit, are_lower, has_lower_rank, has_node, have_distinct_names, is_fit, is_proper, node_cmp, node_itself, raised, rank_above, relation_of, relations_at};
+ghost use Rattle.mesh_base.specs.Proper.{are_fit, are_lower, has_lower_rank, has_node, have_distinct_names, is_fit, is_proper, node_cmp, node_itself, raised, rank_above, relation_of, relations_at, with_parent};
 
 use crate::definitions::{Decl, Own, Sources};
 use crate::limits::MOST_MODELS;
@@ -13,10 +13,10 @@ use crate::well_formed::is_well_formed;
 use mesh_list::{Duplicate, Memory, Seq};
 use std::cmp::Ordering;
 
-fn has_lower_rank(node: Option<&Node>, rank: u32) -> bool
-    ensures { result ≡ has_lower_rank (option_copied node) rank }
+fn has_lower_rank(nodes: &[Node], place: u32, rank: u32) -> bool
+    ensures { result ≡ has_lower_rank (slice_get nodes.now place) rank }
 {
-    match node {
+    match nodes.get(place as usize) {
         Some(node) => node.rank < rank,
         None => false,
     }
@@ -27,15 +27,15 @@ fn are_lower(nodes: &[Node], rank: u32, places: &[u32]) -> bool
 {
     let mut each = true;
     for place in places {
-        each = each && has_lower_rank(nodes.get(*place as usize), rank);
+        each = each && has_lower_rank(nodes, *place, rank);
     }
     each
 }
 
-fn raised(rank: u64, node: Option<&Node>) -> u64
-    ensures { result ≡ raised rank (option_copied node) }
+fn raised(nodes: &[Node], rank: u64, place: u32) -> u64
+    ensures { result ≡ raised rank (slice_get nodes.now place) }
 {
-    match node {
+    match nodes.get(place as usize) {
         Some(node) => rank.max(node.rank as u64 + 1),
         None => rank,
     }
@@ -46,7 +46,7 @@ fn rank_above(nodes: &[Node], places: &[u32]) -> u64
 {
     let mut rank = 0;
     for place in places {
-        rank = raised(rank, nodes.get(*place as usize));
+        rank = raised(nodes, rank, *place);
     }
     rank
 }
@@ -61,15 +61,21 @@ fn relation_of(own: &Own) -> Result<Decl, Memory>
     })
 }
 
+fn add_relation(nodes: &[Node], place: u32, relations: &mut Sources) -> Result<(), Memory>
+    ensures { OnOk result (relations.new ≡ with_parent relations.old (slice_get nodes.now place)) }
+{
+    match nodes.get(place as usize) {
+        Some(node) => relations.push(relation_of(&node.own)?),
+        None => Ok(()),
+    }
+}
+
 fn relations_at(nodes: &[Node], node: &Node) -> Result<Sources, Memory>
-    ensures { IfOk result (λ relations. relations ≡ relations_at nodes.now node.now.parents) }
+    ensures { IfOk result (λ relations. relations ≡ relations_at nodes.now [] node.now.parents) }
 {
     let mut relations = Seq::new(node.parents.alloc());
     for place in node.parents.as_slice() {
-        match nodes.get(*place as usize) {
-            Some(parent) => relations.push(relation_of(&parent.own)?)?,
-            None => {}
-        }
+        add_relation(nodes, *place, &mut relations)?;
     }
     Ok(relations)
 }
@@ -79,9 +85,11 @@ fn is_fit(nodes: &[Node], node: &Node) -> Result<bool, Memory>
 {
     let relations = relations_at(nodes, node)?;
     let formed = is_well_formed(relations.as_slice(), &node.own)?;
-    Ok(are_lower(nodes, node.rank, node.parents.as_slice())
-        && node.rank as u64 == rank_above(nodes, node.parents.as_slice())
-        && formed)
+    Ok(
+        are_lower(nodes, node.rank, node.parents.as_slice())
+            && node.rank as u64 == rank_above(nodes, node.parents.as_slice())
+            && formed,
+    )
 }
 
 fn are_fit(all: &[Node], nodes: &[Node]) -> Result<bool, Memory>
@@ -141,8 +149,5 @@ pub fn is_proper(nodes: &[Node]) -> Result<bool, Memory>
     ensures { IfOk result (λ is. is ≡ is_proper nodes.now) }
 {
     let fit = are_fit(nodes, nodes)?;
-    Ok(nodes.len() as u64 <= MOST_MODELS
-        && ascend(nodes)
-        && have_distinct_names(nodes)
-        && fit)
+    Ok(nodes.len() as u64 <= MOST_MODELS && ascend(nodes) && have_distinct_names(nodes) && fit)
 }

@@ -116,6 +116,7 @@ fn sees_keys(keys: &[Expr], tables: &[Columns]) -> bool
     each
 }
 
+#[tactic(auto, unfolding(crate::specs::Seen::select_sees))]
 fn select_sees(s: &Select, tables: &[Columns]) -> bool
     ensures { result ≡ select_sees tables.now s.now }
 {
@@ -192,6 +193,7 @@ fn tables_of(
     Ok(tables)
 }
 
+#[tactic(auto, unfolding(crate::specs::Seen::is_select_seen))]
 fn is_select_seen(
     alloc: Global,
     relations: &[Decl],
@@ -202,8 +204,7 @@ fn is_select_seen(
 {
     let there = are_there(alloc, relations, ctes, s.from.as_slice())?;
     let tables = tables_of(alloc, relations, ctes, s.from.as_slice())?;
-    let sees = select_sees(s, tables.as_slice());
-    Ok(there && sees)
+    Ok(there && select_sees(s, tables.as_slice()))
 }
 
 fn are_selects_seen(
@@ -239,7 +240,11 @@ pub fn is_query_seen(alloc: Global, relations: &[Decl], query: &Query) -> Result
     ensures { IfOk result (λ seen. seen ≡ is_query_seen relations.now query.now) }
 {
     let ctes = are_ctes_seen(alloc, relations, query.ctes.as_slice())?;
-    let selects =
-        are_selects_seen(alloc, relations, query.ctes.as_slice(), query.selects.as_slice())?;
+    let selects = are_selects_seen(
+        alloc,
+        relations,
+        query.ctes.as_slice(),
+        query.selects.as_slice(),
+    )?;
     Ok(ctes && selects)
 }

@@ -21,5 +21,4 @@ pub fn sort_rows(rows: Rows) -> Result<Rows, Memory>
 #[tactic(auto, using(crate::proofs::Unique::unique))]
 pub fn one_ascending_list()
     ensures { HasOneOrder }
-{
-}
+{}

@@ -136,8 +136,7 @@ fn are_known(parents: &[Decl], own: &Own, names: &[Name]) -> bool
 {
     let mut each = true;
     for name in names {
-        each = each
-            && (is_declared(own.sources.as_slice(), name) || is_declared(parents, name));
+        each = each && (is_declared(own.sources.as_slice(), name) || is_declared(parents, name));
     }
     each
 }
@@ -160,9 +159,11 @@ fn are_its_parents(parents: &[Decl], own: &Own) -> Result<bool, Memory>
     ensures { IfOk result (λ are. are ≡ are_its_parents parents.now own.now) }
 {
     let names = defn_names(own)?;
-    Ok(ascend(parents)
-        && are_named(parents, own, names.as_slice())
-        && are_known(parents, own, names.as_slice()))
+    Ok(
+        ascend(parents)
+            && are_named(parents, own, names.as_slice())
+            && are_known(parents, own, names.as_slice()),
+    )
 }
 
 fn joined(sources: &Sources, parents: &[Decl]) -> Result<Sources, Memory>
@@ -193,10 +194,12 @@ pub fn is_well_formed(parents: &[Decl], own: &Own) -> Result<bool, Memory>
     let relations = joined(&own.sources, parents)?;
     let seen = is_body_seen(&relations, &own.defn)?;
     let are = are_its_parents(parents, own)?;
-    Ok(is_plain_schema(own.name.schema.as_slice())
-        && is_body_of(&own.kind, &own.defn)
-        && has_its_time(&own.kind, own.start, columns.as_slice())
-        && are_distinct(columns.as_slice())
-        && seen
-        && are)
+    Ok(
+        is_plain_schema(own.name.schema.as_slice())
+            && is_body_of(&own.kind, &own.defn)
+            && has_its_time(&own.kind, own.start, columns.as_slice())
+            && are_distinct(columns.as_slice())
+            && seen
+            && are,
+    )
 }
