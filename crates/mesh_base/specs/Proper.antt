@@ -1,5 +1,5 @@
 -- What a definition and its parents have to be, and which lists of models are a proper project.
-use Rattle.std.specs.Prelude.{ℕ, ℤ, ◌+◌, max, Bool, true, false, ◌&&◌, ◌||◌, not, nat_le, nat_lt, nat_eq, List, [], ◌∷◌, ◌++◌, map, length, Some, None, if◌then◌else◌}
+use Rattle.std.specs.Prelude.{ℕ, ℤ, ◌+◌, max, Bool, true, false, ◌&&◌, ◌||◌, not, nat_le, nat_lt, nat_eq, List, [], ◌∷◌, ◌++◌, length, Some, None, if◌then◌else◌}
 use Rattle.std.specs.List.{list_all, list_any, slice_get, flat_map, ends_with}
 use Rattle.std.specs.Option.{is_some}
 use Rattle.std.specs.declared.option.Option.{Option}
@@ -12,9 +12,8 @@ use Rattle.mesh_base.specs.declared.queries.Rel.{Rel}
 use Rattle.mesh_base.specs.declared.queries.Rel.TheVariants.{Named, Cte}
 use Rattle.mesh_base.specs.declared.queries.FromItem.{FromItem}
 use Rattle.mesh_base.specs.declared.queries.Select.{Select}
-use Rattle.mesh_base.specs.declared.queries.Query.{Query}
 use Rattle.mesh_base.specs.declared.definitions.Kind.{Kind}
-use Rattle.mesh_base.specs.declared.definitions.Kind.TheVariants.{Full, View, Seed as SeedKind, Incremental}
+use Rattle.mesh_base.specs.declared.definitions.Kind.TheVariants.{Seed as SeedKind, Incremental}
 use Rattle.mesh_base.specs.declared.definitions.Decl.{Decl}
 use Rattle.mesh_base.specs.declared.definitions.Defn.{Defn}
 use Rattle.mesh_base.specs.declared.definitions.Defn.TheVariants.{Seed, Sql}
