@@ -1,15 +1,18 @@
 -- The order of cells and rows is total, and ties only equal ones.
 use Rattle.std.proofs.Common.{◌≡◌, refl, ap, subst, rules, List, [], ◌∷◌}
 use Rattle.std.specs.declared.cmp.Ordering.{Ordering}
-use Rattle.std.specs.declared.cmp.Ordering.TheVariants.{Less, Equal, Greater}
-use Rattle.std.specs.Ordering.{ordering_then}
+use Rattle.std.specs.declared.cmp.Ordering.TheVariants.{Equal}
+use Rattle.std.specs.Ordering.{is_lt}
 use Rattle.std.specs.Cmp.{IsTotalOrder}
-use Rattle.std.specs.Cmp.Lexicographic.{lists_total}
+use Rattle.std.specs.Cmp.Lexicographic.{lists_total, slice_cmp}
+use Rattle.std.specs.List.Sorted.{IsSortedBy}
+use Rattle.std.proofs.lemmas.List.Sorted.{sorted_far, ranks_by}
 use Rattle.std.proofs.lemmas.Map.Lookups.{exact_signed, exact_bytes}
 use Rattle.mesh_base.specs.declared.values.Cell.{Cell}
 use Rattle.mesh_base.specs.declared.values.Cell.TheVariants.{Null, Int, Text, Date, Bool as Truth}
 use Rattle.mesh_base.specs.NameOrder.{then_equal}
 use Rattle.mesh_base.specs.Order.{cell_order, row_order}
+use Rattle.mesh_base.specs.Bag.{IsAscending}
 use Rattle.mesh_base.specs.contracts.values.CellOrd.TheImpl.{cmp-value}
 use Rattle.mesh_base.specs.contracts.values.CellOrd.TheImpl.Laws.{total-law}
 
@@ -21,6 +24,12 @@ cell_total = let P : (Cell → Cell → Ordering) → Type 0 = λ R. IsTotalOrde
 
 pub row_total : IsTotalOrder row_order
 row_total = lists_total cell_total
+
+-- what a sort by the derived order leaves
+pub ascending_from_sort : (rows : List (List Cell)) → IsSortedBy (λ x y. is_lt (slice_cmp cmp-value.it x y)) rows → IsAscending rows
+ascending_from_sort rows up =
+    let P : (Cell → Cell → Ordering) → Type 0 = λ R. IsSortedBy (λ x y. is_lt (slice_cmp R x y)) rows in
+    sorted_far _ (ranks_by row_total (λ x. x)) rows (subst P (λ i a b. cell_is a b i) up)
 
 -- cells that tie are the same
 pub cell_exact : (a b : Cell) → cell_order a b ≡ Equal → a ≡ b

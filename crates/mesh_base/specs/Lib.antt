@@ -1,12 +1,20 @@
--- Bag: lists of rows as bags, by counts.
+-- Bag: lists of rows as bags, by counts, and ascending ones.
 pub mod Bag
+-- Crons: the sets of a cron, and which ones a crontab can say.
+pub mod Crons
 -- Names: identifiers, schemas, and the order of names.
 pub mod Names
 -- NameOrder: that order is total, and ties only a name with itself.
 pub mod NameOrder
 -- Order: the order of cells and rows.
 pub mod Order
+-- Outputs: the output columns of a model.
+pub mod Outputs
 -- Picked: the columns that a query picks of a table.
 pub mod Picked
+-- Proper: what a definition and its parents have to be, and proper projects.
+pub mod Proper
+-- Seen: what a query names is there.
+pub mod Seen
 -- Value: the value of a model from scratch.
 pub mod Value

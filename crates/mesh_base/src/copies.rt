@@ -1,6 +1,12 @@
 // Copies of values, which are equal to them.
-use crate::values::{Cell, Column, Name};
+use crate::values::{Cell, ColType, Column, Name, Pair};
 use mesh_list::{Duplicate, Memory};
+
+impl Duplicate for ColType {
+    fn copy(&self) -> Result<ColType, Memory> {
+        Ok(*self)
+    }
+}
 
 impl Duplicate for Cell {
     fn copy(&self) -> Result<Cell, Memory> {
@@ -28,6 +34,15 @@ impl Duplicate for Column {
         Ok(Column {
             name: self.name.copy()?,
             kind: self.kind,
+        })
+    }
+}
+
+impl Duplicate for Pair {
+    fn copy(&self) -> Result<Pair, Memory> {
+        Ok(Pair {
+            first: self.first.copy()?,
+            second: self.second.copy()?,
         })
     }
 }

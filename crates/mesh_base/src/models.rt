@@ -9,7 +9,7 @@ use std::cmp::Ordering;
 
 /// How a model's rows come about.
 #[derive(Debug, Drop)]
-pub enum Defn {
+pub enum Picking {
     /// The rows of a file.
     Seed { columns: Columns, rows: Rows },
     /// Columns of another model's rows.
@@ -20,7 +20,7 @@ pub enum Defn {
 #[derive(Debug, Drop)]
 pub struct Model {
     pub name: Name,
-    pub defn: Defn,
+    pub picking: Picking,
 }
 
 impl Keyed for Name {

@@ -1,6 +1,12 @@
 // Tests whether two values are the same.
-use crate::values::{Cell, Column, Name};
+use crate::values::{Cell, ColType, Column, Name, Pair};
 use mesh_list::Same;
+
+impl Same for ColType {
+    fn same(&self, other: &ColType) -> bool {
+        self == other
+    }
+}
 
 impl Same for Cell {
     fn same(&self, other: &Cell) -> bool {
@@ -17,5 +23,11 @@ impl Same for Name {
 impl Same for Column {
     fn same(&self, other: &Column) -> bool {
         self == other
+    }
+}
+
+impl Same for Pair {
+    fn same(&self, other: &Pair) -> bool {
+        self.first.same(&other.first) && self.second.same(&other.second)
     }
 }

@@ -21,6 +21,10 @@ pub type Columns = Seq<Column>;
 
 pub type Names = Seq<Name>;
 
+pub type Pairs = Seq<Pair>;
+
+pub type Numbers = Seq<u64>;
+
 /// The type of a column. INT has 64 bits with a sign, DATE is a day.
 #[derive(Debug, Clone, Copy, PartialEq, Eq, PartialOrd, Ord)]
 pub enum ColType {
@@ -51,6 +55,13 @@ pub struct Name {
 pub struct Column {
     pub name: Str,
     pub kind: ColType,
+}
+
+/// Two names that belong together, as a model and the table that has its rows.
+#[derive(Debug, Drop)]
+pub struct Pair {
+    pub first: Name,
+    pub second: Name,
 }
 
 impl Name {

@@ -10,8 +10,8 @@ use Rattle.mesh_list.proofs.Ascends.{and_right}
 use Rattle.mesh_list.proofs.Each.{each_found, found-behind}
 use Rattle.mesh_base.specs.declared.values.Cell.{Cell}
 use Rattle.mesh_base.specs.declared.values.Name.{Name}
-use Rattle.mesh_base.specs.declared.models.Defn.{Defn}
-use Rattle.mesh_base.specs.declared.models.Defn.TheVariants.{Seed, Pick}
+use Rattle.mesh_base.specs.declared.models.Picking.{Picking}
+use Rattle.mesh_base.specs.declared.models.Picking.TheVariants.{Seed, Pick}
 use Rattle.mesh_base.specs.declared.models.Model.{Model}
 use Rattle.mesh_base.specs.Bag.{IsSameBag}
 use Rattle.mesh_base.specs.Names.{name_cmp}
@@ -39,16 +39,16 @@ module _ (models : List Model) where
   -- what a table has once the models of a rank were made, by the model that it belongs to
   abbrev made : ℕ → Option Model → Option Body → Option Body
   made r None before = before
-  made r (Some m) before = cond (rank m.defn == r) (Some (Rows (value models m.defn))) before
+  made r (Some m) before = cond (rank m.picking == r) (Some (Rows (value models m.picking))) before
 
   -- one model's table
   body-fills : (r : ℕ) (m : Model) (w : World) (n : Name) → body (run w (fills_at models r m)) (table_of n) ≡ cond (is_eq (name_cmp m.name n)) (made r (Some m) (body w (table_of n))) (body w (table_of n))
-  body-fills r m w n = by_rank (rank m.defn == r)
+  body-fills r m w n = by_rank (rank m.picking == r)
     where
-      by_rank : (b : Bool) → body (run w (cond b (fills models m) [])) (table_of n) ≡ cond (is_eq (name_cmp m.name n)) (cond b (Some (Rows (value models m.defn))) (body w (table_of n))) (body w (table_of n))
+      by_rank : (b : Bool) → body (run w (cond b (fills models m) [])) (table_of n) ≡ cond (is_eq (name_cmp m.name n)) (cond b (Some (Rows (value models m.picking))) (body w (table_of n))) (body w (table_of n))
       by_rank true =
-          body-filled w (table_of m.name) (columns_of models m.defn) (value models m.defn) (table_is_physical m.name) (table_of n)
-          ∙ ap (λ (b : Bool). cond b (Some (Rows (value models m.defn))) (body w (table_of n))) (same_table m.name n)
+          body-filled w (table_of m.name) (columns_of models m.picking) (value models m.picking) (table_is_physical m.name) (table_of n)
+          ∙ ap (λ (b : Bool). cond b (Some (Rows (value models m.picking))) (body w (table_of n))) (same_table m.name n)
       by_rank false = either (is_eq (name_cmp m.name n))
         where
           either : (b : Bool) → body w (table_of n) ≡ cond b (body w (table_of n)) (body w (table_of n))
@@ -111,14 +111,14 @@ module _ (models : List Model) (w : World) (up : ascends name_cmp model_name mod
       ∙ run-append seeded (executes models 1 models) (points models)
 
   -- each model's table is made at its rank
-  made_once : (m : Model) (before : Option Body) → made models 1 (Some m) (made models 0 (Some m) before) ≡ Some (Rows (value models m.defn))
-  made_once m before = by_kind m.defn
+  made_once : (m : Model) (before : Option Body) → made models 1 (Some m) (made models 0 (Some m) before) ≡ Some (Rows (value models m.picking))
+  made_once m before = by_kind m.picking
     where
-      by_kind : (d : Defn) → cond (rank d == 1) (Some (Rows (value models d))) (cond (rank d == 0) (Some (Rows (value models d))) before) ≡ Some (Rows (value models d))
+      by_kind : (d : Picking) → cond (rank d == 1) (Some (Rows (value models d))) (cond (rank d == 0) (Some (Rows (value models d))) before) ≡ Some (Rows (value models d))
       by_kind (Seed columns rows) = refl
       by_kind (Pick columns from) = refl
 
-  body_of_model : (m : Model) → model_of models m.name ≡ Some m → body last (table_of m.name) ≡ Some (Rows (value models m.defn))
+  body_of_model : (m : Model) → model_of models m.name ≡ Some m → body last (table_of m.name) ≡ Some (Rows (value models m.picking))
   body_of_model m is =
       ap (λ (u : World). body u (table_of m.name)) last_is
       ∙ body-points models filled (table_of m.name)
@@ -127,15 +127,15 @@ module _ (models : List Model) (w : World) (up : ascends name_cmp model_name mod
       ∙ ap (made models 1 (Some m)) (body-executes models 0 models w m.name up ∙ ap (λ (o : Option Model). made models 0 o (body w (table_of m.name))) is)
       ∙ made_once m (body w (table_of m.name))
 
-  shows : (m : Model) → model_of models m.name ≡ Some m → shown last m.name ≡ Some (value models m.defn)
+  shows : (m : Model) → model_of models m.name ≡ Some m → shown last m.name ≡ Some (value models m.picking)
   shows m is =
       ap (shown_at last) (ap (λ (u : World). view u m.name) last_is ∙ view-points models filled m.name up ∙ ap (λ (o : Option Model). aimed o (view filled m.name)) is)
       ∙ ap rows_of (body_of_model m is)
 
-  same_rows : (m : Model) → shown last m.name ≡ Some (value models m.defn) → IsSomeAnd (shown last m.name) (λ rows. IsSameBag rows (value models m.defn))
-  same_rows m is = let P : Option (List (List Cell)) → Type 0 = λ o. IsSomeAnd o (λ rows. IsSameBag rows (value models m.defn)) in subst P (sym is) (λ row. refl)
+  same_rows : (m : Model) → shown last m.name ≡ Some (value models m.picking) → IsSomeAnd (shown last m.name) (λ rows. IsSameBag rows (value models m.picking))
+  same_rows m is = let P : Option (List (List Cell)) → Type 0 = λ o. IsSomeAnd o (λ rows. IsSameBag rows (value models m.picking)) in subst P (sym is) (λ row. refl)
 
-  each_shows : (list : List Model) → AllByRecursion (λ (m : Model). model_of models m.name ≡ Some m) list → AllByRecursion (λ (m : Model). IsSomeAnd (shown last m.name) (λ rows. IsSameBag rows (value models m.defn))) list
+  each_shows : (list : List Model) → AllByRecursion (λ (m : Model). model_of models m.name ≡ Some m) list → AllByRecursion (λ (m : Model). IsSomeAnd (shown last m.name) (λ rows. IsSameBag rows (value models m.picking))) list
   each_shows [] all = tt
   each_shows (m ∷ ms) all = (same_rows m (shows m all.0), each_shows ms all.1)
 

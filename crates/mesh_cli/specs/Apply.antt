@@ -20,11 +20,11 @@ table_of n = record { schema = physical_schema n.schema; model = n.schema ++ cod
 
 -- a model's table is made and filled
 abbrev pub fills : List Model → Model → List Change
-fills models m = MakeTable (table_of m.name) (columns_of models m.defn) ∷ ReplaceRows (table_of m.name) (value models m.defn) ∷ []
+fills models m = MakeTable (table_of m.name) (columns_of models m.picking) ∷ ReplaceRows (table_of m.name) (value models m.picking) ∷ []
 
 -- the same for a model of that rank, and nothing for another
 abbrev pub fills_at : List Model → ℕ → Model → List Change
-fills_at models r m = if rank m.defn == r then fills models m else []
+fills_at models r m = if rank m.picking == r then fills models m else []
 
 -- the tables of the models of a rank, in the order of the list
 abbrev pub executes : List Model → ℕ → List Model → List Change
@@ -44,4 +44,4 @@ changes models = executes models 0 models ++ (executes models 1 models ++ points
 
 -- the view of each model shows the model's value, as a bag
 abbrev pub Final : List Model → World → Type 0
-Final models w = AllByRecursion (λ (m : Model). IsSomeAnd (shown w m.name) (λ rows. IsSameBag rows (value models m.defn))) models
+Final models w = AllByRecursion (λ (m : Model). IsSomeAnd (shown w m.name) (λ rows. IsSameBag rows (value models m.picking))) models

@@ -4,8 +4,8 @@ use Rattle.std.specs.declared.option.Option.{Option}
 use Rattle.std.specs.List.{list_all, ends_with}
 use Rattle.mesh_list.specs.Keyed.{placed}
 use Rattle.mesh_base.specs.declared.values.Column.{Column}
-use Rattle.mesh_base.specs.declared.models.Defn.{Defn}
-use Rattle.mesh_base.specs.declared.models.Defn.TheVariants.{Seed, Pick}
+use Rattle.mesh_base.specs.declared.models.Picking.{Picking}
+use Rattle.mesh_base.specs.declared.models.Picking.TheVariants.{Seed, Pick}
 use Rattle.mesh_base.specs.declared.models.Model.{Model}
 use Rattle.mesh_base.specs.Names.{name_cmp}
 use Rattle.mesh_base.specs.Picked.{same_text}
@@ -45,28 +45,28 @@ model_paths files = filter is_sql (listing models_folder files)
 abbrev pub paths_within : List File → Option (List (List ℕ))
 paths_within files = within 4096 (length (model_paths files)) (model_paths files)
 
-abbrev pub seed_if_there : List Column → Option (List ℕ) → Option Defn
+abbrev pub seed_if_there : List Column → Option (List ℕ) → Option Picking
 seed_if_there columns None = None
 seed_if_there columns (Some bytes) = do
   rows ← seed_rows columns bytes
   Some (Seed columns rows)
 
 -- the rows of a seed's file, which is there and has at most 4,194,304 bytes
-abbrev pub seed_of : List File → List Column → List ℕ → Option Defn
+abbrev pub seed_of : List File → List Column → List ℕ → Option Picking
 seed_of files columns path = do
   bytes ← file_within 4194304 (bytes_at path files)
   seed_if_there columns bytes
 
-abbrev pub defn_of : List File → Form → Option Defn
-defn_of files (form.Seed path columns) = seed_of files columns path
-defn_of files (form.Full columns from) = Some (Pick columns from)
+abbrev pub picking_of : List File → Form → Option Picking
+picking_of files (form.Seed path columns) = seed_of files columns path
+picking_of files (form.Full columns from) = Some (Pick columns from)
 
 -- the model of a file
 abbrev pub model_in : List File → List ℕ → List ℕ → Option Model
 model_in files path bytes = do
   text ← model_text path bytes
-  defn ← defn_of files text.form
-  Some (record { name = text.name; defn = defn })
+  picking ← picking_of files text.form
+  Some (record { name = text.name; picking = picking })
 
 abbrev pub some_model : Option Model → Option (Option Model)
 some_model None = None
@@ -112,19 +112,19 @@ has_column [] name = false
 has_column (c ∷ cs) name = if same_text c.name name then true else has_column cs name
 
 -- the model is a seed with these columns
-abbrev pub is_seed_with : List (List ℕ) → Defn → Bool
+abbrev pub is_seed_with : List (List ℕ) → Picking → Bool
 is_seed_with columns (Seed own rows) = list_all (has_column own) columns
 is_seed_with columns (Pick others from) = false
 
 abbrev pub is_some_seed_with : List (List ℕ) → Option Model → Bool
 is_some_seed_with columns None = false
-is_some_seed_with columns (Some m) = is_seed_with columns m.defn
+is_some_seed_with columns (Some m) = is_seed_with columns m.picking
 
 -- what a model reads is there
 abbrev pub is_resolved : List Model → Model → Bool
-is_resolved models m = resolves m.defn
+is_resolved models m = resolves m.picking
   where
-    resolves : Defn → Bool
+    resolves : Picking → Bool
     resolves (Seed columns rows) = true
     resolves (Pick columns from) = is_some_seed_with columns (model_of models from)
 

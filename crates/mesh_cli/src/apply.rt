@@ -6,7 +6,7 @@ ghost use Rattle.mesh_house.specs.Runs.{Makes};
 ghost use Rattle.mesh_cli.specs.Apply.{table_of, fills, fills_at, executes, pointed, points, changes};
 
 use crate::pick::{columns_of, value};
-use mesh_base::{Defn, Model, Name, Str};
+use mesh_base::{Picking, Model, Name, Str};
 use mesh_house::{Change, Warehouse, WhFail, make, make_all};
 use mesh_list::{Duplicate, Memory, Seq, Sorted};
 use std::alloc::Global;
@@ -32,12 +32,12 @@ fn table_of(alloc: Global, name: &Name) -> Result<Name, Memory>
     })
 }
 
-fn rank(defn: &Defn) -> u8
-    ensures { result ≡ rank defn.now }
+fn rank(picking: &Picking) -> u8
+    ensures { result ≡ rank picking.now }
 {
-    match defn {
-        Defn::Seed { .. } => 0,
-        Defn::Pick { .. } => 1,
+    match picking {
+        Picking::Seed { .. } => 0,
+        Picking::Pick { .. } => 1,
     }
 }
 
@@ -48,11 +48,11 @@ fn fills(alloc: Global, models: &Sorted<Model>, model: &Model) -> Result<Vec<Cha
     let mut list = Vec::new(alloc);
     list.push(Change::MakeTable {
         object: table_of(alloc, &model.name)?,
-        columns: columns_of(alloc, models, &model.defn)?,
+        columns: columns_of(alloc, models, &model.picking)?,
     })?;
     list.push(Change::ReplaceRows {
         object: table_of(alloc, &model.name)?,
-        rows: value(alloc, models, &model.defn)?,
+        rows: value(alloc, models, &model.picking)?,
     })?;
     Ok(list)
 }
@@ -80,7 +80,7 @@ fn fill_at<W: Warehouse>(
 ) -> Result<(), WhFail>
     ensures { Makes (λ w. fills_at models.now at model.now) (W.told house.old) (W.told house.new) result }
 {
-    if rank(&model.defn) == at {
+    if rank(&model.picking) == at {
         fill(alloc, models, model, house)
     } else {
         Ok(())

@@ -6,9 +6,9 @@ ghost use Rattle.mesh_base.specs.Names.{name_cmp};
 ghost use Rattle.mesh_base.specs.Value.{model_name, model_of};
 ghost use Rattle.mesh_io.specs.Files.{bytes_at};
 ghost use Rattle.mesh_cli.specs.Loading.{Asks};
-ghost use Rattle.mesh_cli.specs.Project.{file_within, paths_within, below_models, is_sql, seed_of, defn_of, model_in, model_at, named_models, has_column, is_seed_with, is_resolved, meaning};
+ghost use Rattle.mesh_cli.specs.Project.{file_within, paths_within, below_models, is_sql, seed_of, picking_of, model_in, model_at, named_models, has_column, is_seed_with, is_resolved, meaning};
 
-use mesh_base::{Column, Columns, Defn, Model, Str, Strs};
+use mesh_base::{Column, Columns, Picking, Model, Str, Strs};
 use mesh_io::{Folder, IoFail};
 use mesh_list::{Duplicate, Memory, Seq, Sorted};
 use mesh_model::{Form, ReadFault, read_model, read_seed};
@@ -94,24 +94,24 @@ fn seed_of<F: Folder>(
     folder: &mut F,
     columns: Columns,
     path: &Str,
-) -> Result<Defn, LoadFault>
+) -> Result<Picking, LoadFault>
     ensures { Asks (λ fs. seed_of fs columns path.now) (F.told folder.old) (F.told folder.new) result }
 {
     match read_within(alloc, folder, path, SEED_FILE_LIMIT)? {
         None => Err(LoadFault::Fault),
         Some(bytes) => {
             let rows = read_seed(alloc, bytes.as_slice(), &columns)?;
-            Ok(Defn::Seed { columns, rows })
+            Ok(Picking::Seed { columns, rows })
         }
     }
 }
 
-fn defn_of<F: Folder>(alloc: Global, folder: &mut F, form: Form) -> Result<Defn, LoadFault>
-    ensures { Asks (λ fs. defn_of fs form) (F.told folder.old) (F.told folder.new) result }
+fn picking_of<F: Folder>(alloc: Global, folder: &mut F, form: Form) -> Result<Picking, LoadFault>
+    ensures { Asks (λ fs. picking_of fs form) (F.told folder.old) (F.told folder.new) result }
 {
     match form {
         Form::Seed { path, columns } => seed_of(alloc, folder, columns, &path),
-        Form::Full { columns, from } => Ok(Defn::Pick { columns, from }),
+        Form::Full { columns, from } => Ok(Picking::Pick { columns, from }),
     }
 }
 
@@ -124,10 +124,10 @@ fn model_in<F: Folder>(
     ensures { Asks (λ fs. model_in fs path.now bytes.now) (F.told folder.old) (F.told folder.new) result }
 {
     let text = read_model(alloc, path, bytes.as_slice())?;
-    let defn = defn_of(alloc, folder, text.form)?;
+    let picking = picking_of(alloc, folder, text.form)?;
     Ok(Model {
         name: text.name,
-        defn,
+        picking,
     })
 }
 
@@ -236,23 +236,23 @@ fn has_columns(columns: &[Column], names: &[Str]) -> bool
     true
 }
 
-fn is_seed_with(columns: &Strs, defn: &Defn) -> bool
-    ensures { result ≡ is_seed_with columns.now defn.now }
+fn is_seed_with(columns: &Strs, picking: &Picking) -> bool
+    ensures { result ≡ is_seed_with columns.now picking.now }
 {
-    match defn {
-        Defn::Seed { columns: own, .. } => has_columns(own.as_slice(), columns.as_slice()),
-        Defn::Pick { .. } => false,
+    match picking {
+        Picking::Seed { columns: own, .. } => has_columns(own.as_slice(), columns.as_slice()),
+        Picking::Pick { .. } => false,
     }
 }
 
 fn is_resolved(models: &Sorted<Model>, model: &Model) -> bool
     ensures { result ≡ is_resolved models.now model.now }
 {
-    match &model.defn {
-        Defn::Seed { .. } => true,
-        Defn::Pick { columns, from } => match models.find(from) {
+    match &model.picking {
+        Picking::Seed { .. } => true,
+        Picking::Pick { columns, from } => match models.find(from) {
             None => false,
-            Some(parent) => is_seed_with(columns, &parent.defn),
+            Some(parent) => is_seed_with(columns, &parent.picking),
         },
     }
 }

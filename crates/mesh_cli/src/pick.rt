@@ -4,7 +4,7 @@ ghost use Rattle.mesh_base.specs.Picked.{same_text, cell_of, kind_of, picked_row
 ghost use Rattle.mesh_base.specs.Value.{model_of, parent_columns, parent_rows, columns_of, value};
 ghost use Rattle.mesh_cli.specs.Places.{place_of, places_of, cell_at, row_at};
 
-use mesh_base::{Cell, ColType, Column, Columns, Defn, Model, Name, Row, Rows, Str, Strs};
+use mesh_base::{Cell, ColType, Column, Columns, Picking, Model, Name, Row, Rows, Str, Strs};
 use mesh_list::{Duplicate, Memory, Seq, Sorted};
 use std::alloc::Global;
 
@@ -103,9 +103,9 @@ fn parent_columns<'a>(models: &'a Sorted<Model>, from: &Name) -> &'a [Column]
 {
     match models.find(from) {
         None => &[],
-        Some(model) => match &model.defn {
-            Defn::Seed { columns, .. } => columns.as_slice(),
-            Defn::Pick { .. } => &[],
+        Some(model) => match &model.picking {
+            Picking::Seed { columns, .. } => columns.as_slice(),
+            Picking::Pick { .. } => &[],
         },
     }
 }
@@ -115,9 +115,9 @@ fn parent_rows<'a>(models: &'a Sorted<Model>, from: &Name) -> &'a [Row]
 {
     match models.find(from) {
         None => &[],
-        Some(model) => match &model.defn {
-            Defn::Seed { rows, .. } => rows.as_slice(),
-            Defn::Pick { .. } => &[],
+        Some(model) => match &model.picking {
+            Picking::Seed { rows, .. } => rows.as_slice(),
+            Picking::Pick { .. } => &[],
         },
     }
 }
@@ -126,25 +126,25 @@ fn parent_rows<'a>(models: &'a Sorted<Model>, from: &Name) -> &'a [Row]
 pub(crate) fn columns_of(
     alloc: Global,
     models: &Sorted<Model>,
-    defn: &Defn,
+    picking: &Picking,
 ) -> Result<Columns, Memory>
-    ensures { IfOk result (λ columns. columns ≡ columns_of models.now defn.now) }
+    ensures { IfOk result (λ columns. columns ≡ columns_of models.now picking.now) }
 {
-    match defn {
-        Defn::Seed { columns, .. } => columns.copy(),
-        Defn::Pick { columns, from } => {
+    match picking {
+        Picking::Seed { columns, .. } => columns.copy(),
+        Picking::Pick { columns, from } => {
             picked_columns(alloc, columns.as_slice(), parent_columns(models, from))
         }
     }
 }
 
 /// A model's rows.
-pub(crate) fn value(alloc: Global, models: &Sorted<Model>, defn: &Defn) -> Result<Rows, Memory>
-    ensures { IfOk result (λ rows. rows ≡ value models.now defn.now) }
+pub(crate) fn value(alloc: Global, models: &Sorted<Model>, picking: &Picking) -> Result<Rows, Memory>
+    ensures { IfOk result (λ rows. rows ≡ value models.now picking.now) }
 {
-    match defn {
-        Defn::Seed { rows, .. } => rows.copy(),
-        Defn::Pick { columns, from } => picked_rows(
+    match picking {
+        Picking::Seed { rows, .. } => rows.copy(),
+        Picking::Pick { columns, from } => picked_rows(
             alloc,
             columns.as_slice(),
             parent_columns(models, from),

@@ -35,6 +35,24 @@ impl Duplicate for u8 {
     }
 }
 
+impl Duplicate for u32 {
+    fn copy(&self) -> Result<u32, Memory> {
+        Ok(*self)
+    }
+}
+
+impl Duplicate for u64 {
+    fn copy(&self) -> Result<u64, Memory> {
+        Ok(*self)
+    }
+}
+
+impl Duplicate for i64 {
+    fn copy(&self) -> Result<i64, Memory> {
+        Ok(*self)
+    }
+}
+
 impl<T: Duplicate> Duplicate for Seq<T> {
     fn copy(&self) -> Result<Seq<T>, Memory> {
         T::copy_items(self.alloc(), self.as_slice())

@@ -15,6 +15,24 @@ impl Same for u8 {
     }
 }
 
+impl Same for u32 {
+    fn same(&self, other: &u32) -> bool {
+        *self == *other
+    }
+}
+
+impl Same for u64 {
+    fn same(&self, other: &u64) -> bool {
+        *self == *other
+    }
+}
+
+impl Same for i64 {
+    fn same(&self, other: &i64) -> bool {
+        *self == *other
+    }
+}
+
 impl<T: Same> Same for Seq<T> {
     fn same(&self, other: &Seq<T>) -> bool {
         let (left, right) = (self.as_slice(), other.as_slice());

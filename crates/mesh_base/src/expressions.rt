@@ -1,0 +1,113 @@
+// Expressions of resolved queries: a column is named by its FROM item's place, and no alias is left.
+use crate::values::{Cell, ColType, Str};
+use mesh_list::{Boxed, Seq};
+
+pub type Exprs = Seq<Expr>;
+
+pub type Whens = Seq<When>;
+
+/// What stands between two operands. `Cat` joins texts.
+#[derive(Debug, Clone, Copy, PartialEq, Eq)]
+pub enum Op {
+    Add,
+    Sub,
+    Mul,
+    Div,
+    Rem,
+    Cat,
+    Eq,
+    Ne,
+    Lt,
+    Le,
+    Gt,
+    Ge,
+    And,
+    Or,
+}
+
+/// A function of one row's values.
+#[derive(Debug, Clone, Copy, PartialEq, Eq)]
+pub enum Func {
+    Abs,
+    Length,
+    Upper,
+    Lower,
+    Nullif,
+    Coalesce,
+}
+
+/// A function of a group's values. `Count` counts those that aren't NULL, `Countd` the different ones of these.
+#[derive(Debug, Clone, Copy, PartialEq, Eq)]
+pub enum AggKind {
+    Count,
+    Countd,
+    Sum,
+    Min,
+    Max,
+}
+
+/// A macro that stands for an end of the interval that a query is evaluated for: a day, that day as text, or a second.
+#[derive(Debug, Clone, Copy, PartialEq, Eq)]
+pub enum Var {
+    StartDate,
+    EndDate,
+    StartDs,
+    EndDs,
+    StartEpoch,
+    EndEpoch,
+}
+
+/// One WHEN of a CASE.
+#[cycle(ast)]
+#[derive(Debug, Drop, PartialEq, Eq)]
+pub struct When {
+    pub test: Expr,
+    pub value: Expr,
+}
+
+/// `item` is a place in FROM, from 0. What is negated in the text, as `IS NOT NULL`, is a `Not` of the plain form.
+#[cycle(ast)]
+#[derive(Debug, Drop, PartialEq, Eq)]
+pub enum Expr {
+    Literal(Cell),
+    Col {
+        item: u32,
+        name: Str,
+    },
+    Macro(Var),
+    Binary {
+        op: Op,
+        left: Boxed<Expr>,
+        right: Boxed<Expr>,
+    },
+    Neg(Boxed<Expr>),
+    Not(Boxed<Expr>),
+    IsNull(Boxed<Expr>),
+    Between {
+        value: Boxed<Expr>,
+        low: Boxed<Expr>,
+        high: Boxed<Expr>,
+    },
+    OneOf {
+        value: Boxed<Expr>,
+        of: Exprs,
+    },
+    Cast {
+        to: ColType,
+        value: Boxed<Expr>,
+    },
+    Call {
+        func: Func,
+        args: Exprs,
+    },
+    Case {
+        whens: Whens,
+        otherwise: Boxed<Expr>,
+    },
+    /// COUNT(*).
+    CountAll,
+    Agg {
+        kind: AggKind,
+        value: Boxed<Expr>,
+    },
+}

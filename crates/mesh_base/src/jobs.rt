@@ -1,0 +1,129 @@
+// What a query is evaluated over, and what came of a command.
+use crate::queries::Query;
+use crate::times::Bounds;
+use crate::values::{Columns, Name, Rows, Str};
+use mesh_list::{Duplicate, Memory, Same, Seq};
+
+pub type Inputs = Seq<Input>;
+
+pub type Pools = Seq<Inputs>;
+
+pub type Jobs = Seq<Job>;
+
+/// A table by the name that a query reads it by.
+#[derive(Debug, Drop)]
+pub struct Input {
+    pub name: Name,
+    pub columns: Columns,
+    pub rows: Rows,
+}
+
+/// A query to be evaluated over the inputs of the pool at the place `pool`, from 0. Where there is a time column, only
+/// rows that lie in the bounds count.
+#[derive(Debug, Drop)]
+pub struct Job {
+    pub query: Query,
+    pub pool: u32,
+    pub bounds: Bounds,
+    pub time: Option<Str>,
+}
+
+/// The columns and rows of a file.
+#[derive(Debug, Drop)]
+pub struct Seed {
+    pub columns: Columns,
+    pub rows: Rows,
+}
+
+/// How many units were computed, and how many changes the warehouse was asked for.
+#[derive(Debug, Clone, Copy, PartialEq, Eq)]
+pub struct Done {
+    pub units: u64,
+    pub changes: u64,
+}
+
+/// How much went, and how many changes the warehouse was asked for.
+#[derive(Debug, Clone, Copy, PartialEq, Eq)]
+pub struct Swept {
+    pub environments: u64,
+    pub objects: u64,
+    pub snapshots: u64,
+    pub changes: u64,
+}
+
+impl Duplicate for Input {
+    fn copy(&self) -> Result<Input, Memory> {
+        Ok(Input {
+            name: self.name.copy()?,
+            columns: self.columns.copy()?,
+            rows: self.rows.copy()?,
+        })
+    }
+}
+
+impl Duplicate for Job {
+    fn copy(&self) -> Result<Job, Memory> {
+        Ok(Job {
+            query: self.query.copy()?,
+            pool: self.pool,
+            bounds: self.bounds,
+            time: self.time.copy()?,
+        })
+    }
+}
+
+impl Duplicate for Seed {
+    fn copy(&self) -> Result<Seed, Memory> {
+        Ok(Seed {
+            columns: self.columns.copy()?,
+            rows: self.rows.copy()?,
+        })
+    }
+}
+
+impl Duplicate for Done {
+    fn copy(&self) -> Result<Done, Memory> {
+        Ok(*self)
+    }
+}
+
+impl Duplicate for Swept {
+    fn copy(&self) -> Result<Swept, Memory> {
+        Ok(*self)
+    }
+}
+
+impl Same for Input {
+    fn same(&self, other: &Input) -> bool {
+        self.name.same(&other.name)
+            && self.columns.same(&other.columns)
+            && self.rows.same(&other.rows)
+    }
+}
+
+impl Same for Job {
+    fn same(&self, other: &Job) -> bool {
+        self.query.same(&other.query)
+            && self.pool == other.pool
+            && self.bounds.same(&other.bounds)
+            && self.time.same(&other.time)
+    }
+}
+
+impl Same for Seed {
+    fn same(&self, other: &Seed) -> bool {
+        self.columns.same(&other.columns) && self.rows.same(&other.rows)
+    }
+}
+
+impl Same for Done {
+    fn same(&self, other: &Done) -> bool {
+        self == other
+    }
+}
+
+impl Same for Swept {
+    fn same(&self, other: &Swept) -> bool {
+        self == other
+    }
+}

@@ -1,0 +1,170 @@
+// What a plan says of each model: how it differs from the environment's, and what is to be computed.
+use crate::projects::Project;
+use crate::values::{Name, Names, Pairs, Str};
+use mesh_list::{Duplicate, Memory, Same, Seq};
+
+/// Seconds: the last ticks that a table's rows were computed for.
+pub type Marks = Seq<i64>;
+
+pub type CategoryList = Seq<Category>;
+
+pub type Dues = Seq<Due>;
+
+pub type Entries = Seq<Entry>;
+
+/// How a model of a project stands to the model of its name that an environment lists. It is indirect where the change
+/// is an ancestor's alone.
+#[derive(Debug, Clone, Copy, PartialEq, Eq)]
+pub enum Category {
+    Unchanged,
+    Added,
+    Breaking,
+    NonBreaking,
+    IndirectBreaking,
+    IndirectNonBreaking,
+}
+
+/// One category for each node of a project, and the models that it no longer has.
+#[derive(Debug, Drop)]
+pub struct Categories {
+    pub of: CategoryList,
+    pub removed: Names,
+}
+
+/// What is to be computed of a project's node: all its rows, or those of one unit.
+#[derive(Debug, Drop)]
+pub enum Due {
+    Whole { node: u32, marks: Marks },
+    Unit { node: u32, start: i64, end: i64 },
+}
+
+/// What is planned for a node: the table or view that will have its rows, and whether that is made already.
+#[derive(Debug, Drop)]
+pub struct Entry {
+    pub category: Category,
+    pub object: Name,
+    pub made: bool,
+}
+
+/// What a command will do to an environment at a moment. `run` computes what the environment lists, and plans no
+/// change of it. `entries` has one entry for each node of the project. `removed` pairs each model that goes with a name
+/// whose model part is the word of its kind, and `unsteady` pairs a model with one that it reads.
+#[derive(Debug, Drop)]
+pub struct Plan {
+    pub env: Str,
+    pub moment: i64,
+    pub run: bool,
+    pub project: Project,
+    pub entries: Entries,
+    pub removed: Pairs,
+    pub unsteady: Pairs,
+    pub dues: Dues,
+}
+
+impl Duplicate for Category {
+    fn copy(&self) -> Result<Category, Memory> {
+        Ok(*self)
+    }
+}
+
+impl Duplicate for Categories {
+    fn copy(&self) -> Result<Categories, Memory> {
+        Ok(Categories {
+            of: self.of.copy()?,
+            removed: self.removed.copy()?,
+        })
+    }
+}
+
+impl Duplicate for Due {
+    fn copy(&self) -> Result<Due, Memory> {
+        match self {
+            Due::Whole { node, marks } => Ok(Due::Whole {
+                node: *node,
+                marks: marks.copy()?,
+            }),
+            Due::Unit { node, start, end } => Ok(Due::Unit {
+                node: *node,
+                start: *start,
+                end: *end,
+            }),
+        }
+    }
+}
+
+impl Duplicate for Entry {
+    fn copy(&self) -> Result<Entry, Memory> {
+        Ok(Entry {
+            category: self.category,
+            object: self.object.copy()?,
+            made: self.made,
+        })
+    }
+}
+
+impl Duplicate for Plan {
+    fn copy(&self) -> Result<Plan, Memory> {
+        Ok(Plan {
+            env: self.env.copy()?,
+            moment: self.moment,
+            run: self.run,
+            project: self.project.copy()?,
+            entries: self.entries.copy()?,
+            removed: self.removed.copy()?,
+            unsteady: self.unsteady.copy()?,
+            dues: self.dues.copy()?,
+        })
+    }
+}
+
+impl Same for Category {
+    fn same(&self, other: &Category) -> bool {
+        self == other
+    }
+}
+
+impl Same for Categories {
+    fn same(&self, other: &Categories) -> bool {
+        self.of.same(&other.of) && self.removed.same(&other.removed)
+    }
+}
+
+impl Same for Due {
+    fn same(&self, other: &Due) -> bool {
+        match self {
+            Due::Whole { node, marks } => match other {
+                Due::Whole { node: n, marks: m } => *node == *n && marks.same(m),
+                Due::Unit { .. } => false,
+            },
+            Due::Unit { node, start, end } => match other {
+                Due::Whole { .. } => false,
+                Due::Unit {
+                    node: n,
+                    start: s,
+                    end: e,
+                } => *node == *n && *start == *s && *end == *e,
+            },
+        }
+    }
+}
+
+impl Same for Entry {
+    fn same(&self, other: &Entry) -> bool {
+        self.category == other.category
+            && self.object.same(&other.object)
+            && self.made == other.made
+    }
+}
+
+impl Same for Plan {
+    fn same(&self, other: &Plan) -> bool {
+        self.env.same(&other.env)
+            && self.moment == other.moment
+            && self.run == other.run
+            && self.project.same(&other.project)
+            && self.entries.same(&other.entries)
+            && self.removed.same(&other.removed)
+            && self.unsteady.same(&other.unsteady)
+            && self.dues.same(&other.dues)
+    }
+}

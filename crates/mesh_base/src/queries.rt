@@ -1,0 +1,151 @@
+// Resolved queries: each column has its name and type, and `*` is expanded.
+use crate::expressions::{Expr, Exprs};
+use crate::values::{ColType, Name, Str};
+use mesh_list::{Duplicate, Memory, Same, Seq};
+
+pub type Items = Seq<Item>;
+
+pub type Froms = Seq<FromItem>;
+
+/// The sides of a UNION ALL.
+pub type Selects = Seq<Select>;
+
+/// Each CTE by its place.
+pub type Ctes = Seq<Selects>;
+
+/// One output column.
+#[derive(Debug, Drop, PartialEq, Eq)]
+pub struct Item {
+    pub name: Str,
+    pub kind: ColType,
+    pub expr: Expr,
+}
+
+/// What a FROM item reads: a model or a source, or the CTE at a place, from 0.
+#[derive(Debug, Drop, PartialEq, Eq)]
+pub enum Rel {
+    Named(Name),
+    Cte(u32),
+}
+
+/// How a FROM item is joined to those before it.
+#[derive(Debug, Clone, Copy, PartialEq, Eq)]
+pub enum Join {
+    First,
+    Inner,
+    Left,
+    Cross,
+}
+
+#[derive(Debug, Drop, PartialEq, Eq)]
+pub struct FromItem {
+    pub join: Join,
+    pub rel: Rel,
+    pub on: Option<Expr>,
+}
+
+/// `filter` is WHERE and `keys` is GROUP BY. A SELECT may be grouped without keys.
+#[derive(Debug, Drop, PartialEq, Eq)]
+pub struct Select {
+    pub distinct: bool,
+    pub grouped: bool,
+    pub items: Items,
+    pub from: Froms,
+    pub filter: Option<Expr>,
+    pub keys: Exprs,
+    pub having: Option<Expr>,
+}
+
+#[derive(Debug, Drop, PartialEq, Eq)]
+pub struct Query {
+    pub ctes: Ctes,
+    pub selects: Selects,
+}
+
+impl Duplicate for Item {
+    fn copy(&self) -> Result<Item, Memory> {
+        Ok(Item {
+            name: self.name.copy()?,
+            kind: self.kind,
+            expr: self.expr.copy()?,
+        })
+    }
+}
+
+impl Duplicate for Rel {
+    fn copy(&self) -> Result<Rel, Memory> {
+        match self {
+            Rel::Named(name) => Ok(Rel::Named(name.copy()?)),
+            Rel::Cte(at) => Ok(Rel::Cte(*at)),
+        }
+    }
+}
+
+impl Duplicate for FromItem {
+    fn copy(&self) -> Result<FromItem, Memory> {
+        Ok(FromItem {
+            join: self.join,
+            rel: self.rel.copy()?,
+            on: self.on.copy()?,
+        })
+    }
+}
+
+impl Duplicate for Select {
+    fn copy(&self) -> Result<Select, Memory> {
+        Ok(Select {
+            distinct: self.distinct,
+            grouped: self.grouped,
+            items: self.items.copy()?,
+            from: self.from.copy()?,
+            filter: self.filter.copy()?,
+            keys: self.keys.copy()?,
+            having: self.having.copy()?,
+        })
+    }
+}
+
+impl Duplicate for Query {
+    fn copy(&self) -> Result<Query, Memory> {
+        Ok(Query {
+            ctes: self.ctes.copy()?,
+            selects: self.selects.copy()?,
+        })
+    }
+}
+
+impl Same for Item {
+    fn same(&self, other: &Item) -> bool {
+        self.name.same(&other.name) && self.kind == other.kind && self.expr.same(&other.expr)
+    }
+}
+
+impl Same for Rel {
+    fn same(&self, other: &Rel) -> bool {
+        self == other
+    }
+}
+
+impl Same for FromItem {
+    fn same(&self, other: &FromItem) -> bool {
+        self.join == other.join && self.rel.same(&other.rel) && self.on.same(&other.on)
+    }
+}
+
+impl Same for Select {
+    fn same(&self, other: &Select) -> bool {
+        self.distinct == other.distinct
+            && self.grouped == other.grouped
+            && self.items.same(&other.items)
+            && self.from.same(&other.from)
+            && self.filter.same(&other.filter)
+            && self.keys.same(&other.keys)
+            && self.having.same(&other.having)
+    }
+}
+
+impl Same for Query {
+    fn same(&self, other: &Query) -> bool {
+        self.ctes.same(&other.ctes) && self.selects.same(&other.selects)
+    }
+}

@@ -1,0 +1,137 @@
+// Models at one state of their files, and the environments that list them.
+use crate::definitions::Own;
+use crate::values::{Name, Str};
+use mesh_list::{Duplicate, Memory, Same, Seq};
+
+pub type Refs = Seq<Ref>;
+
+/// Places in a list of nodes, from 0.
+pub type Indexes = Seq<u32>;
+
+pub type Nodes = Seq<Node>;
+
+pub type Snapshots = Seq<Snapshot>;
+
+pub type Envs = Seq<Env>;
+
+/// A model at one fingerprint, which is the SHA-256 of its definition and its parents' fingerprints.
+#[derive(Debug, Drop)]
+pub struct Ref {
+    pub name: Name,
+    pub fingerprint: [u8; 32],
+}
+
+/// A model of a project. Its parents are places among the project's nodes.
+#[derive(Debug, Drop)]
+pub struct Node {
+    pub own: Own,
+    pub parents: Indexes,
+    pub rank: u32,
+    pub fingerprint: [u8; 32],
+}
+
+/// A model that was planned once, and the table or view that has its rows. From the second `expires` on it may go
+/// where no environment lists it.
+#[derive(Debug, Drop)]
+pub struct Snapshot {
+    pub name: Name,
+    pub fingerprint: [u8; 32],
+    pub own: Own,
+    pub parents: Refs,
+    pub rank: u32,
+    pub object: Name,
+    pub expires: i64,
+}
+
+/// While it is pending its views may be those of `list` or of `previous`. One without an expiry stays.
+#[derive(Debug, Drop)]
+pub struct Env {
+    pub name: Str,
+    pub pending: bool,
+    pub list: Refs,
+    pub previous: Refs,
+    pub expires: Option<i64>,
+}
+
+impl Duplicate for Ref {
+    fn copy(&self) -> Result<Ref, Memory> {
+        Ok(Ref {
+            name: self.name.copy()?,
+            fingerprint: self.fingerprint,
+        })
+    }
+}
+
+impl Duplicate for Node {
+    fn copy(&self) -> Result<Node, Memory> {
+        Ok(Node {
+            own: self.own.copy()?,
+            parents: self.parents.copy()?,
+            rank: self.rank,
+            fingerprint: self.fingerprint,
+        })
+    }
+}
+
+impl Duplicate for Snapshot {
+    fn copy(&self) -> Result<Snapshot, Memory> {
+        Ok(Snapshot {
+            name: self.name.copy()?,
+            fingerprint: self.fingerprint,
+            own: self.own.copy()?,
+            parents: self.parents.copy()?,
+            rank: self.rank,
+            object: self.object.copy()?,
+            expires: self.expires,
+        })
+    }
+}
+
+impl Duplicate for Env {
+    fn copy(&self) -> Result<Env, Memory> {
+        Ok(Env {
+            name: self.name.copy()?,
+            pending: self.pending,
+            list: self.list.copy()?,
+            previous: self.previous.copy()?,
+            expires: self.expires,
+        })
+    }
+}
+
+impl Same for Ref {
+    fn same(&self, other: &Ref) -> bool {
+        self.name.same(&other.name) && self.fingerprint == other.fingerprint
+    }
+}
+
+impl Same for Node {
+    fn same(&self, other: &Node) -> bool {
+        self.own.same(&other.own)
+            && self.parents.same(&other.parents)
+            && self.rank == other.rank
+            && self.fingerprint == other.fingerprint
+    }
+}
+
+impl Same for Snapshot {
+    fn same(&self, other: &Snapshot) -> bool {
+        self.name.same(&other.name)
+            && self.fingerprint == other.fingerprint
+            && self.own.same(&other.own)
+            && self.parents.same(&other.parents)
+            && self.rank == other.rank
+            && self.object.same(&other.object)
+            && self.expires == other.expires
+    }
+}
+
+impl Same for Env {
+    fn same(&self, other: &Env) -> bool {
+        self.name.same(&other.name)
+            && self.pending == other.pending
+            && self.list.same(&other.list)
+            && self.previous.same(&other.previous)
+            && self.expires == other.expires
+    }
+}
