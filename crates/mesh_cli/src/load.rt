@@ -8,7 +8,7 @@ ghost use Rattle.mesh_io.specs.Files.{bytes_at};
 ghost use Rattle.mesh_cli.specs.Loading.{Asks};
 ghost use Rattle.mesh_cli.specs.Project.{file_within, paths_within, below_models, is_sql, seed_of, picking_of, model_in, model_at, named_models, has_column, is_seed_with, is_resolved, meaning};
 
-use mesh_base::{Column, Columns, Picking, Model, Str, Strs};
+use mesh_base::{Column, Columns, Model, Picking, Str, Strs};
 use mesh_io::{Folder, IoFail};
 use mesh_list::{Duplicate, Memory, Seq, Sorted};
 use mesh_model::{Form, ReadFault, read_model, read_seed};

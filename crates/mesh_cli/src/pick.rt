@@ -4,7 +4,7 @@ ghost use Rattle.mesh_base.specs.Picked.{same_text, cell_of, kind_of, picked_row
 ghost use Rattle.mesh_base.specs.Value.{model_of, parent_columns, parent_rows, columns_of, value};
 ghost use Rattle.mesh_cli.specs.Places.{place_of, places_of, cell_at, row_at};
 
-use mesh_base::{Cell, ColType, Column, Columns, Picking, Model, Name, Row, Rows, Str, Strs};
+use mesh_base::{Cell, ColType, Column, Columns, Model, Name, Picking, Row, Rows, Str, Strs};
 use mesh_list::{Duplicate, Memory, Seq, Sorted};
 use std::alloc::Global;
 
@@ -139,7 +139,11 @@ pub(crate) fn columns_of(
 }
 
 /// A model's rows.
-pub(crate) fn value(alloc: Global, models: &Sorted<Model>, picking: &Picking) -> Result<Rows, Memory>
+pub(crate) fn value(
+    alloc: Global,
+    models: &Sorted<Model>,
+    picking: &Picking,
+) -> Result<Rows, Memory>
     ensures { IfOk result (λ rows. rows ≡ value models.now picking.now) }
 {
     match picking {
