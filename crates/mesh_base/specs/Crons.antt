@@ -1,5 +1,5 @@
 -- The sets of a cron, in crontab's fields: a value is in a set where the set's binary digit at that place is 1.
-use Rattle.std.specs.Prelude.{ℕ, zero, suc, ◌+◌, ◌/◌, ◌%◌, ◌^◌, Bool, true, false, not, ◌&&◌, ◌||◌, ◌==◌, nat_lt, if◌then◌else◌}
+use Rattle.std.specs.Prelude.{ℕ, zero, suc, ◌+◌, ◌/◌, ◌%◌, ◌^◌, Bool, false, not, ◌&&◌, ◌||◌, ◌==◌, nat_lt, if◌then◌else◌}
 
 -- what a cron says: the values of its five fields, and which of the two day fields are written `*`
 pub record CronSets : Type 0 where

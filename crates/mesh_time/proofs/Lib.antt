@@ -1,3 +1,11 @@
+pub mod TickLaws
+pub mod CronFacts
+pub mod Years
+pub mod Meets
+pub mod TextLaws
+pub mod FieldLaws
+pub mod SetLaws
+pub mod MadeCron
 pub mod Apart
 pub mod Added
 pub mod Forgotten
