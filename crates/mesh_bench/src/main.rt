@@ -1,0 +1,105 @@
+//! What `bench/time.py` measures. The words are two numbers: of holes in recorded ranges, and of moments. The program
+//! records 19 of each 20 hours and counts the units of the schedule that are missing, then adds up the last ticks of ten
+//! crons at that many moments from 1970 to 9999, and prints both.
+#![tactic(auto)]
+
+use mesh_base::{Schedule, Unit};
+use mesh_list::Memory;
+use mesh_time::{END_OF_SECONDS, Ranges, floor, read_cron};
+use std::alloc::Global;
+use std::env::Env;
+use std::process::ExitCode;
+
+const HOUR: i64 = 3_600;
+
+/// The last second of 9999-12-31.
+const LAST_MOMENT: i64 = 253_402_300_799;
+
+/// The number that a word says, and 0 where it says none.
+fn number_at<R: Env>(rt: &R, at: usize) -> u32 {
+    let mut buffer = [0u8; 16];
+    let Ok(length) = rt.arg(at, &mut buffer) else {
+        return 0;
+    };
+    let mut number = 0u32;
+    for digit in buffer.iter().take(length) {
+        if *digit >= b'0' && *digit <= b'9' {
+            number = number
+                .saturating_mul(10)
+                .saturating_add(u32::from(*digit - b'0'));
+        }
+    }
+    number
+}
+
+/// The first second of an hour since 1970.
+fn hour(number: u32) -> i64 {
+    i64::from(number).saturating_mul(HOUR)
+}
+
+/// Of each 20 hours the first 19.
+fn recorded(alloc: Global, holes: u32) -> Result<Ranges, Memory> {
+    let mut ranges = Ranges::new(alloc);
+    for hole in 0..holes {
+        let start = hour(hole.saturating_mul(20));
+        let end = start.saturating_add(19 * HOUR);
+        if start < end {
+            ranges.add(start, end)?;
+        }
+    }
+    Ok(ranges)
+}
+
+/// How many hours are missing.
+fn missing(alloc: Global, holes: u32) -> Result<usize, Memory> {
+    let ranges = recorded(alloc, holes)?;
+    let end = hour(holes.saturating_mul(20)).min(END_OF_SECONDS);
+    let schedule = Schedule {
+        start: 0,
+        end,
+        unit: Unit::Hour,
+    };
+    Ok(ranges.missing(alloc, &schedule)?.len())
+}
+
+/// The sum of the last ticks of a cron at moments that lie evenly from 1970 to 9999.
+fn floors(text: &[u8], moments: u32) -> i64 {
+    let Ok(cron) = read_cron(text) else {
+        return 0;
+    };
+    let mut sum = 0i64;
+    for number in 0..moments {
+        let moment = i64::from(number).saturating_mul(25_340_231);
+        if moment >= 0 && moment <= LAST_MOMENT {
+            sum = sum.wrapping_add(floor(&cron, moment));
+        }
+    }
+    sum
+}
+
+fn all_floors(moments: u32) -> i64 {
+    let front = floors(b"@hourly", moments)
+        .wrapping_add(floors(b"@daily", moments))
+        .wrapping_add(floors(b"@weekly", moments))
+        .wrapping_add(floors(b"@monthly", moments))
+        .wrapping_add(floors(b"@yearly", moments));
+    let back = floors(b"30 6 * * *", moments)
+        .wrapping_add(floors(b"0 */7 * * *", moments))
+        .wrapping_add(floors(b"0 0 29 2 *", moments))
+        .wrapping_add(floors(b"0 0 13 * 5", moments))
+        .wrapping_add(floors(b"15 12 1-7 6 *", moments));
+    front.wrapping_add(back)
+}
+
+fn main(rt: HostRuntime) -> ExitCode {
+    let holes = number_at(&rt, 1);
+    let moments = number_at(&rt, 2);
+    let Ok(count) = missing(rt.alloc(), holes) else {
+        return ExitCode::from(4);
+    };
+    let sum = all_floors(moments);
+    match println!(rt; "{count} missing, sum {sum}") {
+        Ok(()) => ExitCode::from(0),
+        Err(_) => ExitCode::from(6),
+    }
+}
