@@ -1,4 +1,4 @@
-use Rattle.std.proofs.Common.{◌≡◌, ℕ, ◌+◌, ◌*◌, ◌/◌, ◌%◌, ◌-◌, ◌<◌, ◌≤◌, Bool, false, ◌&&◌, refl, sym, ◌∙◌, subst, arith, IsTrue, ℤ, pos, ◌+ℤ◌, ◌-ℤ◌, ◌<ℤ◌, ◌≤ℤ◌, ◌↔◌, unsigned_abs, add-one, cond}
+use Rattle.std.proofs.Common.{◌&&◌, ap, ◌≡◌, ℕ, ◌+◌, ◌*◌, ◌/◌, ◌%◌, ◌-◌, ◌<◌, ◌≤◌, Bool, false, refl, sym, ◌∙◌, subst, arith, IsTrue, ℤ, pos, ◌+ℤ◌, ◌-ℤ◌, ◌<ℤ◌, ◌≤ℤ◌, ◌↔◌, unsigned_abs, add-one, cond}
 use Rattle.std.proofs.lemmas.Int.{by_lt_z}
 use Rattle.jiff_core.specs.declared.civil.date.Date.{Date}
 use Rattle.jiff_core.specs.Date.{epoch_day}
@@ -141,3 +141,7 @@ from_epoch t day second e h low = omega (arith, signed_arith)
 pub moment_between : (day start last second : ℕ) → start ≤ day → day ≤ last → second ≤ 86_399 → (moment start 0 ≤ℤ moment day second) × (moment day second ≤ℤ moment last 86_399)
 unfolding moment day_number
 moment_between day start last second low high h = (omega (arith, signed_arith), omega (arith, signed_arith))
+
+pub hour_off : (c : CronSets) (n hour : ℕ) → n / 60 ≡ hour → has c.hour hour ≡ false → minute_matches c n ≡ false
+unfolding minute_matches
+hour_off c n hour e h = ap (λ t. t && has c.minute (n % 60)) (ap (has c.hour) e ∙ h)

@@ -97,9 +97,32 @@ fn last_minute(c: &Cron, latest: u32) -> Option<u32>
         (λ m. (n : ℕ) → m < n → n ≤ latest → minute_matches c.now n ≡ false) }
     ensures found { MatchOption result ℕ (λ m. IsTrue (minute_matches c.now m) × (m ≤ latest)) }
 {
-    for back in 0..latest + 1 {
-        if ticks_in(c, latest - back) {
-            return Some(latest - back);
+    let hour = latest / 60;
+    if let Some(minute) = last_in_hour(c, hour, latest % 60) {
+        return Some(minute);
+    }
+    for back in 0..hour {
+        if let Some(minute) = last_in_hour(c, hour - 1 - back, 59) {
+            return Some(minute);
+        }
+    }
+    None
+}
+
+// The last minute of the day that matches in an hour, up to a minute of that hour.
+fn last_in_hour(c: &Cron, hour: u32, last: u32) -> Option<u32>
+    requires hour { hour < 24 }
+    requires last { last < 60 }
+    ensures quiet { MatchOption result ((n : ℕ) → hour * 60 ≤ n → n ≤ hour * 60 + last → minute_matches c.now n ≡ false)
+        (λ m. (n : ℕ) → m < n → n ≤ hour * 60 + last → minute_matches c.now n ≡ false) }
+    ensures found { MatchOption result ℕ (λ m. IsTrue (minute_matches c.now m) × (m ≤ hour * 60 + last)) }
+{
+    if !contains(c.hour as u64, hour) {
+        return None;
+    }
+    for back in 0..last + 1 {
+        if ticks_in(c, hour * 60 + last - back) {
+            return Some(hour * 60 + last - back);
         }
     }
     None
