@@ -1,0 +1,2 @@
+MODEL (name a.f, kind FULL);
+SELECT v FROM a.s

@@ -1,0 +1,5 @@
+MODEL (
+  name a.s,
+  kind SEED (path '../seeds/s.csv'),
+  columns (k TEXT, v INT)
+);
