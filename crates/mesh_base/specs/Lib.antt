@@ -2,6 +2,8 @@
 pub mod Bag
 -- Crons: the sets of a cron, and which ones a crontab can say.
 pub mod Crons
+-- Keys: what the items of a book are found by, in which order.
+pub mod Keys
 -- Names: identifiers, schemas, and the order of names.
 pub mod Names
 -- NameOrder: that order is total, and ties only a name with itself.
@@ -12,9 +14,5 @@ pub mod Order
 pub mod Outputs
 -- Picked: the columns that a query picks of a table.
 pub mod Picked
--- Proper: what a definition and its parents have to be, and proper projects.
-pub mod Proper
--- Seen: what a query names is there.
-pub mod Seen
 -- Value: the value of a model from scratch.
 pub mod Value

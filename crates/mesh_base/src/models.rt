@@ -30,11 +30,11 @@ impl Keyed for Name {
 
     ghost order = { name_cmp };
 
-    fn key(&self) -> &Name {
-        self
+    fn compare(&self, other: &Name) -> Ordering {
+        Name::compare(self, other)
     }
 
-    fn compare(&self, other: &Name) -> Ordering {
+    fn against(&self, other: &Name) -> Ordering {
         Name::compare(self, other)
     }
 
@@ -50,12 +50,12 @@ impl Keyed for Model {
 
     ghost order = { name_cmp };
 
-    fn key(&self) -> &Name {
-        &self.name
-    }
-
     fn compare(&self, other: &Name) -> Ordering {
         self.name.compare(other)
+    }
+
+    fn against(&self, other: &Model) -> Ordering {
+        self.name.compare(&other.name)
     }
 
     ghost total = { names_total };

@@ -19,8 +19,8 @@ pub fn columns_of(own: &Own) -> Result<Columns, Memory>
     }
 }
 
-/// The columns of a UNION ALL.
-pub(crate) fn select_columns(alloc: Global, selects: &[Select]) -> Result<Columns, Memory>
+/// The columns of a UNION ALL, which are those of its first SELECT.
+pub fn select_columns(alloc: Global, selects: &[Select]) -> Result<Columns, Memory>
     ensures { IfOk result (λ columns. columns ≡ select_columns selects.now) }
 {
     match selects {

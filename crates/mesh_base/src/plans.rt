@@ -1,6 +1,5 @@
 // What a plan says of each model: how it differs from the environment's, and what is to be computed.
-use crate::projects::Project;
-use crate::values::{Name, Names, Pairs, Str};
+use crate::values::{Name, Names};
 use mesh_list::{Duplicate, Memory, Same, Seq};
 
 /// Seconds: the last ticks that a table's rows were computed for.
@@ -46,21 +45,6 @@ pub struct Entry {
     pub made: bool,
 }
 
-/// What a command will do to an environment at a moment. `run` computes what the environment lists, and plans no
-/// change of it. `entries` has one entry for each node of the project. `removed` pairs each model that goes with a name
-/// whose model part is the word of its kind, and `unsteady` pairs a model with one that it reads.
-#[derive(Debug, Drop)]
-pub struct Plan {
-    pub env: Str,
-    pub moment: i64,
-    pub run: bool,
-    pub project: Project,
-    pub entries: Entries,
-    pub removed: Pairs,
-    pub unsteady: Pairs,
-    pub dues: Dues,
-}
-
 impl Duplicate for Category {
     fn copy(&self) -> Result<Category, Memory> {
         Ok(*self)
@@ -102,21 +86,6 @@ impl Duplicate for Entry {
     }
 }
 
-impl Duplicate for Plan {
-    fn copy(&self) -> Result<Plan, Memory> {
-        Ok(Plan {
-            env: self.env.copy()?,
-            moment: self.moment,
-            run: self.run,
-            project: self.project.copy()?,
-            entries: self.entries.copy()?,
-            removed: self.removed.copy()?,
-            unsteady: self.unsteady.copy()?,
-            dues: self.dues.copy()?,
-        })
-    }
-}
-
 impl Same for Category {
     fn same(&self, other: &Category) -> bool {
         self == other
@@ -153,18 +122,5 @@ impl Same for Entry {
         self.category == other.category
             && self.object.same(&other.object)
             && self.made == other.made
-    }
-}
-
-impl Same for Plan {
-    fn same(&self, other: &Plan) -> bool {
-        self.env.same(&other.env)
-            && self.moment == other.moment
-            && self.run == other.run
-            && self.project.same(&other.project)
-            && self.entries.same(&other.entries)
-            && self.removed.same(&other.removed)
-            && self.unsteady.same(&other.unsteady)
-            && self.dues.same(&other.dues)
     }
 }

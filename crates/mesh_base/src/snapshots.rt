@@ -1,7 +1,7 @@
 // Models at one state of their files, and the environments that list them.
 use crate::definitions::Own;
 use crate::values::{Name, Str};
-use mesh_list::{Duplicate, Memory, Same, Seq};
+use mesh_list::{Duplicate, Memory, Register, Same, Seq};
 
 pub type Refs = Seq<Ref>;
 
@@ -10,9 +10,11 @@ pub type Indexes = Seq<u32>;
 
 pub type Nodes = Seq<Node>;
 
-pub type Snapshots = Seq<Snapshot>;
+/// Found by name and fingerprint.
+pub type Snapshots = Register<Snapshot>;
 
-pub type Envs = Seq<Env>;
+/// Found by name.
+pub type Envs = Register<Env>;
 
 /// A model at one fingerprint, which is the SHA-256 of its definition and its parents' fingerprints.
 #[derive(Debug, Drop)]

@@ -1,9 +1,19 @@
-//! What `bench/time.py` measures. The words are two numbers: of holes in recorded ranges, and of moments. The program
-//! records 19 of each 20 hours and counts the units of the schedule that are missing, then adds up the last ticks of ten
-//! crons at that many moments from 1970 to 9999, and prints both.
+//! What `bench/time.py`, `bench/house.py` and `bench/canon.py` measure. The words are numbers: of holes in recorded
+//! ranges, of moments, of tables (below 10,000) and of changes. The program records 19 of each 20 hours and counts the
+//! units of the schedule that are missing, then adds up the last ticks of ten crons at that many moments from 1970 to
+//! 9999, then makes that many tables with their views and versions in a warehouse in memory and records hours of them by
+//! that many changes. It prints the count, the sum and the number of spans recorded. Or the words are `write` or `read`, a
+//! number of rows and a number of times: it writes, or reads, the canonical text of a seed of these rows so often, and
+//! prints the bytes of the text. Or they are `deep` and a number: it reads, copies, writes and drops expressions that nest
+//! so deep, one for each kind of node, and prints the bytes of their texts.
 #![tactic(auto)]
 
+mod canon;
+mod house;
+
+use crate::house::recorded as recorded_by_changes;
 use mesh_base::{Schedule, Unit};
+use mesh_canon::CanonFault;
 use mesh_list::Memory;
 use mesh_time::{END_OF_SECONDS, Ranges, floor, read_cron};
 use std::alloc::Global;
@@ -30,6 +40,15 @@ fn number_at<R: Env>(rt: &R, at: usize) -> u32 {
         }
     }
     number
+}
+
+/// Whether the first word begins with this letter.
+fn begins_with<R: Env>(rt: &R, letter: u8) -> bool {
+    let mut buffer = [0u8; 16];
+    match rt.arg(1, &mut buffer) {
+        Ok(_) => buffer[0] == letter,
+        Err(_) => false,
+    }
 }
 
 /// The first second of an hour since 1970.
@@ -91,14 +110,45 @@ fn all_floors(moments: u32) -> i64 {
     front.wrapping_add(back)
 }
 
+/// What the words `write`, `read` and `deep` ask for.
+fn text_bytes<R: Env>(rt: &R, alloc: Global) -> Result<usize, CanonFault> {
+    let rows = number_at(rt, 2);
+    let times = number_at(rt, 3);
+    if begins_with(rt, b'w') {
+        return canon::written(alloc, rows, times);
+    }
+    if begins_with(rt, b'r') {
+        return canon::read(alloc, rows, times);
+    }
+    canon::deep(alloc, rows)
+}
+
+fn timed_text(rt: HostRuntime) -> ExitCode {
+    let Ok(bytes) = text_bytes(&rt, rt.alloc()) else {
+        return ExitCode::from(4);
+    };
+    match println!(rt; "{bytes} bytes") {
+        Ok(()) => ExitCode::from(0),
+        Err(_) => ExitCode::from(6),
+    }
+}
+
 fn main(rt: HostRuntime) -> ExitCode {
+    if begins_with(&rt, b'w') || begins_with(&rt, b'r') || begins_with(&rt, b'd') {
+        return timed_text(rt);
+    }
     let holes = number_at(&rt, 1);
     let moments = number_at(&rt, 2);
     let Ok(count) = missing(rt.alloc(), holes) else {
         return ExitCode::from(4);
     };
     let sum = all_floors(moments);
-    match println!(rt; "{count} missing, sum {sum}") {
+    let tables = number_at(&rt, 3);
+    let changes = number_at(&rt, 4);
+    let Ok(spans) = recorded_by_changes(rt.alloc(), tables, changes) else {
+        return ExitCode::from(4);
+    };
+    match println!(rt; "{count} missing, sum {sum}, {spans} spans") {
         Ok(()) => ExitCode::from(0),
         Err(_) => ExitCode::from(6),
     }

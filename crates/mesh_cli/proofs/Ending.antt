@@ -6,7 +6,7 @@ use Rattle.mesh_base.specs.declared.models.Model.{Model}
 use Rattle.mesh_base.specs.Names.{name_cmp}
 use Rattle.mesh_base.specs.Value.{model_name}
 use Rattle.mesh_house.specs.House.{Told}
-use Rattle.mesh_house.specs.World.{run}
+use Rattle.mesh_house.specs.Step.{run}
 use Rattle.mesh_house.specs.Runs.{Ran}
 use Rattle.mesh_cli.specs.Apply.{changes, Final}
 use Rattle.mesh_cli.proofs.Meaning.{final}

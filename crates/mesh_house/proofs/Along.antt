@@ -3,7 +3,7 @@ use Rattle.std.proofs.Common.{◌≡◌, List, [], ◌∷◌, ◌++◌, Some, sy
 use Rattle.std.specs.Option.{ForSome}
 use Rattle.mesh_house.specs.declared.world.World.{World}
 use Rattle.mesh_house.specs.declared.world.Change.{Change}
-use Rattle.mesh_house.specs.World.{step, run}
+use Rattle.mesh_house.specs.Step.{step, run}
 use Rattle.mesh_house.specs.House.{Told}
 use Rattle.mesh_house.specs.Runs.{Ran, Stopped, Along}
 

@@ -1,6 +1,10 @@
 pub mod Along
+pub mod Days
 pub mod Each
 pub mod Laws
 pub mod Lists
-pub mod Physical
+pub mod Rows
 pub mod Runs
+pub mod Tested
+pub mod Undone
+pub mod Written

@@ -8,7 +8,7 @@ use Rattle.mesh_house.specs.declared.world.World.{World}
 use Rattle.mesh_house.specs.declared.world.Change.{Change}
 use Rattle.mesh_house.specs.declared.house.WhFail.{WhFail}
 use Rattle.mesh_house.specs.declared.house.WhFail.TheVariants.{Failed, Memory}
-use Rattle.mesh_house.specs.World.{step, run}
+use Rattle.mesh_house.specs.Step.{step, run}
 use Rattle.mesh_house.specs.House.{Told, Changes, Reads}
 use Rattle.mesh_house.specs.Runs.{Ran, Stopped, Makes}
 

@@ -7,7 +7,7 @@ use Rattle.mesh_house.specs.declared.world.World.{World}
 use Rattle.mesh_house.specs.declared.world.Change.{Change}
 use Rattle.mesh_house.specs.declared.house.WhFail.{WhFail}
 use Rattle.mesh_house.specs.declared.house.WhFail.TheVariants.{Failed, Memory}
-use Rattle.mesh_house.specs.World.{step}
+use Rattle.mesh_house.specs.Step.{step}
 
 -- its world, where it tells one, and how many changes were called for and how many faults came
 pub record Told : Type 0 where

@@ -6,7 +6,13 @@ pub mod House
 pub mod Memory
 -- Objects: the names that objects have.
 pub mod Objects
+-- Sources: the names that sources have.
+pub mod Sources
+-- Step: what each kind of change makes of a world.
+pub mod Step
+-- Times: the second that a cell stands for, and the rows that lie in a range of seconds.
+pub mod Times
 -- Runs: what a call that makes a list of changes leaves of a house, whole or stopped.
 pub mod Runs
--- World: what a world has, what is read of it, and what a change makes of it.
+-- World: what a world has, and what is read of it.
 pub mod World

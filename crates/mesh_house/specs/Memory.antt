@@ -10,7 +10,7 @@ use Rattle.mesh_house.specs.declared.house.WhFail.TheVariants.{Failed}
 use Rattle.mesh_list.specs.Counts.{risen}
 use Rattle.mesh_house.specs.Fails.{change_fails, read_fails, raised}
 use Rattle.mesh_house.specs.House.{Told}
-use Rattle.mesh_house.specs.World.{step}
+use Rattle.mesh_house.specs.Step.{step}
 
 -- what it tells, which is everything
 abbrev pub memory_told : MemHouse → Told

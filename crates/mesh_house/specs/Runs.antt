@@ -6,7 +6,7 @@ use Rattle.mesh_house.specs.declared.world.World.{World}
 use Rattle.mesh_house.specs.declared.world.Change.{Change}
 use Rattle.mesh_house.specs.declared.house.WhFail.{WhFail}
 use Rattle.mesh_house.specs.declared.house.WhFail.TheVariants.{Failed}
-use Rattle.mesh_house.specs.World.{step, run}
+use Rattle.mesh_house.specs.Step.{step, run}
 use Rattle.mesh_house.specs.House.{Told}
 
 -- all of a list was made, one call each

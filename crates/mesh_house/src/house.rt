@@ -1,12 +1,13 @@
 // A warehouse as the program sees it.
 ghost use Rattle.std.specs.Prelude.{◌≡◌};
 ghost use Rattle.mesh_house.specs.declared.house.WhFail.TheVariants.{Memory};
-ghost use Rattle.mesh_house.specs.World.{head, body, view};
+ghost use Rattle.mesh_house.specs.World.{head, body, view, book};
 ghost use Rattle.mesh_house.specs.House.{Told, Changes, Reads};
 
 use crate::objects::Body;
 use crate::world::Change;
 use mesh_base::{Columns, Name};
+use mesh_book::Book;
 use mesh_list::Memory;
 use std::alloc::Global;
 use thiserror::Error;
@@ -39,17 +40,21 @@ pub trait Warehouse {
     fn change(&mut self, alloc: Global, change: &Change) -> Result<(), WhFail>
         ensures { Changes change.now (told self.old) (told self.new) result };
 
-    /// The columns of the object of that name.
+    /// The columns of the object of that name where two underscores adjoin in its schema, and else of the source.
     fn head(&mut self, alloc: Global, name: &Name) -> Result<Option<Columns>, WhFail>
         ensures { Reads (λ w. head w name.now) (told self.old) (told self.new) result };
 
-    /// What the object of that name keeps.
+    /// What the object of that name keeps where two underscores adjoin in its schema, and else the source's rows.
     fn body(&mut self, alloc: Global, name: &Name) -> Result<Option<Body>, WhFail>
         ensures { Reads (λ w. body w name.now) (told self.old) (told self.new) result };
 
     /// The object that the view of that name points at.
     fn view(&mut self, alloc: Global, name: &Name) -> Result<Option<Name>, WhFail>
         ensures { Reads (λ w. view w name.now) (told self.old) (told self.new) result };
+
+    /// What is recorded beside the tables and views.
+    fn book(&mut self, alloc: Global) -> Result<Book, WhFail>
+        ensures { Reads book (told self.old) (told self.new) result };
 
     /// How many faults came so far, which never falls.
     fn faults(&self) -> u64

@@ -1,8 +1,8 @@
 //! The warehouse as the program sees it: the world that it keeps, the changes that are made to it one by one, the trait
 //! of what keeps one, and a house in memory whose calls fail by a list. Its contract: a change that is answered by `Ok`
 //! was made exactly once, one that failed was made or not and left a count of faults raised, and what is read is what
-//! the world has; a call over a list of changes makes all of it, or stops after a part of it. It stands on `mesh_list`
-//! and `mesh_base`.
+//! the world has; a call over a list of changes makes all of it, or stops after a part of it. It stands on `mesh_list`,
+//! `mesh_base`, `mesh_time` and `mesh_book`.
 #![tactic(auto)]
 
 mod copies;
@@ -11,10 +11,16 @@ mod house;
 mod making;
 mod memory;
 mod objects;
+mod reads;
 mod same;
+mod same_changes;
+mod sources;
 mod step;
 #[cfg(test)]
+mod step_tests;
+#[cfg(test)]
 mod tests;
+mod times;
 mod world;
 
 pub use fails::{Fail, Fails};
@@ -22,4 +28,5 @@ pub use house::{Warehouse, WhFail};
 pub use making::{make, make_all};
 pub use memory::MemHouse;
 pub use objects::{Body, Object, Objects};
+pub use sources::SourceTables;
 pub use world::{Change, Changes, ViewOf, World};

@@ -1,6 +1,6 @@
 // A house in memory, which tells everything and whose calls fail by a list.
 ghost use Rattle.std.specs.Prelude.{◌≡◌, []};
-ghost use Rattle.mesh_house.specs.World.{empty_world, head, body, view};
+ghost use Rattle.mesh_house.specs.World.{empty_world, head, body, view, book};
 ghost use Rattle.mesh_house.specs.House.{Changes, Reads};
 ghost use Rattle.mesh_house.specs.Memory.{memory_told, memory_world, memory_fails, fresh, next_change, next_read, ChangesAsListed, ReadsAsListed};
 
@@ -9,6 +9,7 @@ use crate::house::{Warehouse, WhFail};
 use crate::objects::Body;
 use crate::world::{Change, World};
 use mesh_base::{Columns, Name};
+use mesh_book::Book;
 use mesh_list::{Duplicate, Seq};
 use std::alloc::Global;
 
@@ -109,10 +110,7 @@ impl Warehouse for MemHouse {
         ensures listed { ReadsAsListed self.old self.new result }
     {
         self.reading()?;
-        match self.world.object_at(name) {
-            Some(object) => Ok(Some(object.columns.copy()?)),
-            None => Ok(None),
-        }
+        Ok(self.world.head(name)?)
     }
 
     fn body(&mut self, alloc: Global, name: &Name) -> Result<Option<Body>, WhFail>
@@ -120,10 +118,7 @@ impl Warehouse for MemHouse {
         ensures listed { ReadsAsListed self.old self.new result }
     {
         self.reading()?;
-        match self.world.object_at(name) {
-            Some(object) => Ok(Some(object.body.copy()?)),
-            None => Ok(None),
-        }
+        Ok(self.world.body(name)?)
     }
 
     fn view(&mut self, alloc: Global, name: &Name) -> Result<Option<Name>, WhFail>
@@ -135,6 +130,14 @@ impl Warehouse for MemHouse {
             Some(view) => Ok(Some(view.target.copy()?)),
             None => Ok(None),
         }
+    }
+
+    fn book(&mut self, alloc: Global) -> Result<Book, WhFail>
+        ensures told { Reads book (memory_told self.old) (memory_told self.new) result }
+        ensures listed { ReadsAsListed self.old self.new result }
+    {
+        self.reading()?;
+        Ok(self.world.book.copy()?)
     }
 
     fn faults(&self) -> u64 {

@@ -2,24 +2,26 @@
 ghost use Rattle.std.specs.Prelude.{◌≡◌, [], true, OnOk, OnErr};
 ghost use Rattle.std.specs.Option.{option_copied};
 ghost use Rattle.mesh_base.specs.Names.{name_cmp};
-ghost use Rattle.mesh_list.specs.Keyed.{found, placed, ascends};
+ghost use Rattle.mesh_list.specs.Keyed.{found, placed, exchanged, without, ascends};
 ghost use Rattle.mesh_base.specs.NameOrder.{names_exact, names_total};
 ghost use Rattle.mesh_house.specs.Objects.{object_name, is_physical, are_physical};
 
-use mesh_base::{Columns, Name, Rows};
-use mesh_list::{Duplicate, Keyed, Memory, Sorted};
+use mesh_base::{Columns, Name, Own, Pairs, Rows};
+use mesh_list::{Duplicate, Keyed, Memory, Same, Sorted};
 use std::alloc::Global;
 use std::cmp::Ordering;
 use std::marker::Model;
 
-/// What an object keeps: a table keeps its rows.
+/// What an object keeps: a table keeps its rows, and another object the query that its rows are computed by.
 #[derive(Debug, Drop)]
 pub enum Body {
     /// The rows of a table.
     Rows(Rows),
+    /// A stored query. The targets pair each model that it reads with the object that has its rows.
+    Stored { own: Own, targets: Pairs },
 }
 
-/// A physical table, with the columns that its rows have.
+/// A physical table or a stored query, with the columns that its rows have.
 #[derive(Debug, Drop)]
 pub struct Object {
     pub name: Name,
@@ -38,12 +40,12 @@ impl Keyed for Object {
 
     ghost exact = { names_exact };
 
-    fn key(&self) -> &Name {
-        &self.name
-    }
-
     fn compare(&self, other: &Name) -> Ordering {
         self.name.compare(other)
+    }
+
+    fn against(&self, other: &Object) -> Ordering {
+        self.name.compare(&other.name)
     }
 }
 
@@ -55,10 +57,14 @@ pub struct Objects {
 
 impl Model for Objects {
     ghost use Rattle.std.specs.Prelude.{List, true, ◌≡◌};
+    ghost use Rattle.std.specs.Coded.{codes};
+    ghost use Rattle.mesh_base.specs.contracts.expressions.Expr as expr;
     ghost use Rattle.mesh_house.specs.declared.objects.Object.{Object};
     ghost use Rattle.mesh_house.specs.Objects.{are_physical};
 
     ghost Value = { List Object };
+
+    ghost coded = { Prim.hlevel (codes, expr.the_row.coded) };
 
     ghost view = { λ a. a.list };
 
@@ -100,6 +106,23 @@ impl Objects {
         self.list.place(object)?;
         Ok(())
     }
+
+    /// Puts an object in place of the one that has its name, which is answered. Where there is none, nothing changes.
+    pub fn exchange(&mut self, object: Object) -> Option<Object>
+        requires { is_physical object.name ≡ true }
+        ensures new { self.new ≡ exchanged name_cmp object_name object self.old }
+        ensures old { result ≡ found name_cmp object_name object.name self.old }
+    {
+        self.list.exchange(object)
+    }
+
+    /// Takes the object of that name out, if it is there.
+    pub fn remove(&mut self, name: &Name) -> Option<Object>
+        ensures new { self.new ≡ without name_cmp object_name name.now self.old }
+        ensures old { result ≡ found name_cmp object_name name.now self.old }
+    {
+        self.list.remove(name)
+    }
 }
 
 impl Duplicate for Objects {
@@ -107,5 +130,11 @@ impl Duplicate for Objects {
         Ok(Objects {
             list: self.list.copy()?,
         })
+    }
+}
+
+impl Same for Objects {
+    fn same(&self, other: &Objects) -> bool {
+        self.list.same(&other.list)
     }
 }

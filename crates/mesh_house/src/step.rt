@@ -1,13 +1,58 @@
 // What a change makes of a world.
-ghost use Rattle.std.specs.Prelude.{◌≡◌, OnOk, OnErr};
+ghost use Rattle.std.specs.Prelude.{◌≡◌, ◌++◌, true, IfOk, OnOk, OnErr};
 ghost use Rattle.std.specs.Option.{option_copied};
-ghost use Rattle.mesh_house.specs.World.{empty_world, object_at, make_table, replace_rows, point_view, step};
+ghost use Rattle.mesh_book.specs.Changes.{at_version};
+ghost use Rattle.mesh_house.specs.Objects.{is_physical};
+ghost use Rattle.mesh_house.specs.World.{empty_world, object_at, version_of};
+ghost use Rattle.mesh_house.specs.Step.{with_object, with_book, kept_rows, load, make_table, make_view, replace_rows, written_object, write_range, point_view, drop_view, drop_object, step};
 
 use crate::objects::{Body, Object, Objects};
+use crate::sources::SourceTables;
+use crate::times::rewrite;
 use crate::world::{Change, ViewOf, World};
-use mesh_base::{Columns, Name, Rows, has_two_underscores};
+use mesh_base::{Columns, Input, Name, Own, Pairs, Ref, Rows, Str, has_two_underscores};
+use mesh_book::{Book, Version};
 use mesh_list::{Duplicate, Memory, Seq, Sorted};
 use std::alloc::Global;
+
+// One list of rows after another.
+fn joined(front: Rows, back: Rows) -> Result<Rows, Memory>
+    ensures { IfOk result (λ all. all ≡ front ++ back) }
+{
+    let mut all = front.into_vec();
+    let mut more = back.into_vec();
+    all.append(&mut more)?;
+    Ok(Seq::from_vec(all))
+}
+
+// A source's rows, where there is one and they are kept.
+fn kept_rows(alloc: Global, keep: bool, source: Option<&Input>) -> Result<Rows, Memory>
+    ensures { IfOk result (λ rows. rows ≡ kept_rows keep (option_copied source.entry)) }
+{
+    match source {
+        None => Ok(Seq::new(alloc)),
+        Some(source) => {
+            if keep {
+                source.rows.copy()
+            } else {
+                Ok(Seq::new(alloc))
+            }
+        }
+    }
+}
+
+impl Object {
+    // A table's rows that lie in the range go, and others come after the rest. At `Err` nothing has changed.
+    fn rewrite(&mut self, rows: Rows, time: &Str, start: i64, end: i64) -> Result<(), Memory>
+        ensures ok { OnOk result (self.new ≡ written_object self.old time.now start end rows) }
+        ensures err { OnErr result (self.new ≡ self.old) }
+    {
+        match &mut self.body {
+            Body::Rows(old) => rewrite(old, rows, self.columns.as_slice(), time, start, end),
+            Body::Stored { .. } => Ok(()),
+        }
+    }
+}
 
 impl World {
     /// The world that has nothing, which takes no memory.
@@ -15,8 +60,10 @@ impl World {
         ensures { result ≡ empty_world }
     {
         World {
+            sources: SourceTables::new(alloc),
             objects: Objects::new(alloc),
             views: Sorted::new(alloc),
+            book: Book::new(alloc),
         }
     }
 
@@ -31,6 +78,55 @@ impl World {
         }
     }
 
+    fn load(
+        &mut self,
+        alloc: Global,
+        name: &Name,
+        columns: &Columns,
+        rows: &Rows,
+        keep: bool,
+    ) -> Result<(), Memory>
+        ensures ok { OnOk result (self.new ≡ load self.old name.now columns.now rows.now keep) }
+        ensures err { OnErr result (self.new ≡ self.old) }
+    {
+        if has_two_underscores(name.schema.as_slice()) {
+            return Ok(());
+        }
+        let kept = kept_rows(alloc, keep, self.sources.find(name))?;
+        self.sources.place(Input {
+            name: name.copy()?,
+            columns: columns.copy()?,
+            rows: joined(kept, rows.copy()?)?,
+        })
+    }
+
+    // The version of an object, where there is one.
+    fn version_of(&self, object: &Name) -> Result<Option<Version>, Memory>
+        ensures { IfOk result (λ version. version ≡ version_of self.now.book object.now) }
+    {
+        match self.book.versions.find(object) {
+            Some(version) => Ok(Some(version.copy()?)),
+            None => Ok(None),
+        }
+    }
+
+    // Puts an object at its place. At `Err` the version that was there before is put back.
+    fn put_made(&mut self, object: Object, before: Option<Version>) -> Result<(), Memory>
+        requires { is_physical object.name ≡ true }
+        ensures ok { OnOk result (self.new ≡ with_object self.old object) }
+        ensures err { OnErr result (self.new ≡ with_book self.old (at_version before (λ v. v) self.old.book)) }
+    {
+        match self.objects.place(object) {
+            Ok(()) => Ok(()),
+            Err(refused) => {
+                if let Some(version) = before {
+                    self.book.versions.exchange(version);
+                }
+                Err(refused)
+            }
+        }
+    }
+
     fn make_table(&mut self, alloc: Global, object: &Name, columns: &Columns) -> Result<(), Memory>
         ensures ok { OnOk result (self.new ≡ make_table self.old object.now columns.now) }
         ensures err { OnErr result (self.new ≡ self.old) }
@@ -38,11 +134,40 @@ impl World {
         if !has_two_underscores(object.schema.as_slice()) {
             return Ok(());
         }
-        self.objects.place(Object {
+        let made = Object {
             name: object.copy()?,
             columns: columns.copy()?,
             body: Body::Rows(Seq::new(alloc)),
-        })
+        };
+        let before = self.version_of(object)?;
+        self.book.make_table(object)?;
+        self.put_made(made, before)
+    }
+
+    fn make_view(
+        &mut self,
+        object: &Name,
+        columns: &Columns,
+        own: &Own,
+        targets: &Pairs,
+    ) -> Result<(), Memory>
+        ensures ok { OnOk result (self.new ≡ make_view self.old object.now columns.now own.now targets.now) }
+        ensures err { OnErr result (self.new ≡ self.old) }
+    {
+        if !has_two_underscores(object.schema.as_slice()) {
+            return Ok(());
+        }
+        let made = Object {
+            name: object.copy()?,
+            columns: columns.copy()?,
+            body: Body::Stored {
+                own: own.copy()?,
+                targets: targets.copy()?,
+            },
+        };
+        let before = self.version_of(object)?;
+        self.book.make_view(object)?;
+        self.put_made(made, before)
     }
 
     fn replace_rows(&mut self, object: &Name, rows: &Rows) -> Result<(), Memory>
@@ -52,13 +177,46 @@ impl World {
         let Some(old) = self.object_at(object) else {
             return Ok(());
         };
-        let Body::Rows(_) = &old.body;
+        let Body::Rows(_) = &old.body else {
+            return Ok(());
+        };
         let filled = Object {
             name: object.copy()?,
             columns: old.columns.copy()?,
             body: Body::Rows(rows.copy()?),
         };
         self.objects.place(filled)
+    }
+
+    fn write_range(
+        &mut self,
+        alloc: Global,
+        object: &Name,
+        time: &Str,
+        start: i64,
+        end: i64,
+        rows: &Rows,
+    ) -> Result<(), Memory>
+        ensures ok { OnOk result (self.new ≡ write_range self.old object.now time.now start end rows.now) }
+        ensures err { OnErr result (self.new ≡ self.old) }
+    {
+        if !has_two_underscores(object.schema.as_slice()) {
+            return Ok(());
+        }
+        let more = rows.copy()?;
+        let blank = Object {
+            name: object.copy()?,
+            columns: Seq::new(alloc),
+            body: Body::Rows(Seq::new(alloc)),
+        };
+        match self.objects.exchange(blank) {
+            None => Ok(()),
+            Some(mut old) => {
+                let done = old.rewrite(more, time, start, end);
+                self.objects.exchange(old);
+                done
+            }
+        }
     }
 
     fn point_view(&mut self, view: &Name, target: &Name) -> Result<(), Memory>
@@ -71,15 +229,84 @@ impl World {
         })
     }
 
+    fn drop_view(&mut self, view: &Name)
+        ensures { self.new ≡ drop_view self.old view.now }
+    {
+        let _ = self.views.remove(view);
+    }
+
+    fn drop_object(&mut self, object: &Name)
+        ensures { self.new ≡ drop_object self.old object.now }
+    {
+        let _ = self.objects.remove(object);
+    }
+
     /// Makes the change. At `Err` nothing has changed.
     pub fn step(&mut self, alloc: Global, change: &Change) -> Result<(), Memory>
         ensures ok { OnOk result (self.new ≡ step self.old change.now) }
         ensures err { OnErr result (self.new ≡ self.old) }
     {
         match change {
+            Change::Moment { t } => {
+                self.book.raise_moment(*t);
+                Ok(())
+            }
+            Change::Load {
+                name,
+                columns,
+                rows,
+                keep,
+            } => self.load(alloc, name, columns, rows, *keep),
+            Change::PutSnapshot { snapshot } => self.book.put_snapshot(snapshot.copy()?),
             Change::MakeTable { object, columns } => self.make_table(alloc, object, columns),
+            Change::MakeView {
+                object,
+                columns,
+                own,
+                targets,
+            } => self.make_view(object, columns, own, targets),
             Change::ReplaceRows { object, rows } => self.replace_rows(object, rows),
+            Change::WriteRange {
+                object,
+                time,
+                start,
+                end,
+                rows,
+            } => self.write_range(alloc, object, time, *start, *end, rows),
+            Change::RecordRange { object, start, end } => {
+                self.book.record_range(object, *start, *end)
+            }
+            Change::RecordMarks { object, marks } => self.book.record_marks(object, marks.copy()?),
+            Change::SetPending { env, list, expires } => {
+                self.book.set_pending(env.copy()?, list.copy()?, *expires)
+            }
             Change::PointView { view, target } => self.point_view(view, target),
+            Change::DropView { view } => {
+                self.drop_view(view);
+                Ok(())
+            }
+            Change::Finalize { env } => self.book.finalize(env),
+            Change::Expire { env } => self.book.expire(env),
+            Change::ForgetVersion { object } => {
+                self.book.forget_version(object);
+                Ok(())
+            }
+            Change::DropObject { object } => {
+                self.drop_object(object);
+                Ok(())
+            }
+            Change::DeleteSnapshot { name, fingerprint } => {
+                let key = Ref {
+                    name: name.copy()?,
+                    fingerprint: *fingerprint,
+                };
+                self.book.delete_snapshot(&key);
+                Ok(())
+            }
+            Change::DeleteEnv { env } => {
+                self.book.delete_env(env);
+                Ok(())
+            }
         }
     }
 }

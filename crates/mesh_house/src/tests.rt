@@ -67,7 +67,28 @@ fn what_is_made_is_read(rt: HostRuntime) -> Result<(), TestFail> {
     let body = house.body(alloc, &target)?.ok_or("no rows")?;
     assert!(rt; body.same(&Body::Rows(rows(alloc)?)));
     assert!(rt; house.world().copy()?.same(house.world()));
+    assert!(rt; house.book(alloc)?.same(&house.world().book));
     assert_eq!(rt; (house.calls(), house.faults()), (3, 0));
+    Ok(())
+}
+
+#[test]
+fn a_loaded_source_is_read(rt: HostRuntime) -> Result<(), TestFail> {
+    let alloc = rt.alloc();
+    let source = name(alloc, b"raw", b"orders")?;
+    let load = Change::Load {
+        name: source.copy()?,
+        columns: columns(alloc)?,
+        rows: rows(alloc)?,
+        keep: true,
+    };
+    assert!(rt; load.copy()?.same(&load));
+    let mut house = MemHouse::new(alloc);
+    house.change(alloc, &load)?;
+    let head = house.head(alloc, &source)?.ok_or("no columns")?;
+    assert!(rt; head.same(&columns(alloc)?));
+    let body = house.body(alloc, &source)?.ok_or("no rows")?;
+    assert!(rt; body.same(&Body::Rows(rows(alloc)?)));
     Ok(())
 }
 

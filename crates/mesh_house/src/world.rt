@@ -3,7 +3,9 @@ ghost use Rattle.mesh_base.specs.Names.{name_cmp};
 ghost use Rattle.mesh_base.specs.NameOrder.{names_exact, names_total};
 
 use crate::objects::Objects;
-use mesh_base::{Columns, Name, Rows};
+use crate::sources::SourceTables;
+use mesh_base::{Columns, Marks, Name, Own, Pairs, Refs, Rows, Snapshot, Str};
+use mesh_book::Book;
 use mesh_list::{Keyed, Seq, Sorted};
 use std::cmp::Ordering;
 
@@ -14,22 +16,113 @@ pub struct ViewOf {
     pub target: Name,
 }
 
-/// All that a warehouse has, each list in ascending order of its names.
+/// All that a warehouse has, each list in strictly ascending order of its names. The schemas of objects have two
+/// underscores that adjoin somewhere, and those of sources have none.
 #[derive(Debug, Drop)]
 pub struct World {
+    pub sources: SourceTables,
     pub objects: Objects,
     pub views: Sorted<ViewOf>,
+    pub book: Book,
 }
 
-/// One change of a world.
+/// One change of a world. One that needs a thing that isn't there leaves the world as it is. Seconds count from
+/// 1970-01-01T00:00:00 UTC.
 #[derive(Debug, Drop)]
 pub enum Change {
-    /// An empty table is put at its place. Its schema has to have two underscores that adjoin.
-    MakeTable { object: Name, columns: Columns },
+    /// The book's moment is this second from now on, unless it is a later one.
+    Moment {
+        t: i64,
+    },
+    /// The source has these columns and rows from now on, after its old rows where `keep` says so. A schema where two
+    /// underscores adjoin is no source's.
+    Load {
+        name: Name,
+        columns: Columns,
+        rows: Rows,
+        keep: bool,
+    },
+    /// The snapshot is in the book, instead of one of its name and fingerprint, and its object has a version.
+    PutSnapshot {
+        snapshot: Snapshot,
+    },
+    /// An empty table is put at its place, and its version is made. Its schema has to have two underscores that adjoin.
+    MakeTable {
+        object: Name,
+        columns: Columns,
+    },
+    /// A stored query is put at its place, and its version is made. The same holds of its schema.
+    MakeView {
+        object: Name,
+        columns: Columns,
+        own: Own,
+        targets: Pairs,
+    },
     /// The rows of a table that is there are these from now on.
-    ReplaceRows { object: Name, rows: Rows },
+    ReplaceRows {
+        object: Name,
+        rows: Rows,
+    },
+    /// The rows of a table whose column `time` lies in the seconds from `start` up to `end`, which is not one of them,
+    /// go, and these come after the rest.
+    WriteRange {
+        object: Name,
+        time: Str,
+        start: i64,
+        end: i64,
+        rows: Rows,
+    },
+    /// The version has the rows of these seconds from now on.
+    RecordRange {
+        object: Name,
+        start: i64,
+        end: i64,
+    },
+    /// The version's rows were computed for these last ticks.
+    RecordMarks {
+        object: Name,
+        marks: Marks,
+    },
+    /// The environment is to have this list from now on, and keeps what it had until it is finalized.
+    SetPending {
+        env: Str,
+        list: Refs,
+        expires: Option<i64>,
+    },
     /// The view points at this object from now on.
-    PointView { view: Name, target: Name },
+    PointView {
+        view: Name,
+        target: Name,
+    },
+    /// The view goes.
+    DropView {
+        view: Name,
+    },
+    /// The environment has its list and nothing else.
+    Finalize {
+        env: Str,
+    },
+    /// The environment may go.
+    Expire {
+        env: Str,
+    },
+    /// The version goes.
+    ForgetVersion {
+        object: Name,
+    },
+    /// The object goes, with what it keeps.
+    DropObject {
+        object: Name,
+    },
+    /// The snapshot goes.
+    DeleteSnapshot {
+        name: Name,
+        fingerprint: [u8; 32],
+    },
+    /// The environment goes.
+    DeleteEnv {
+        env: Str,
+    },
 }
 
 /// Changes in the order in which they are made.
@@ -46,11 +139,11 @@ impl Keyed for ViewOf {
 
     ghost exact = { names_exact };
 
-    fn key(&self) -> &Name {
-        &self.view
-    }
-
     fn compare(&self, other: &Name) -> Ordering {
         self.view.compare(other)
+    }
+
+    fn against(&self, other: &ViewOf) -> Ordering {
+        self.view.compare(&other.view)
     }
 }

@@ -28,7 +28,7 @@ module _ {A K : Type 0} (R : K → K → Ordering) (total : IsTotalOrder R) (key
   below_placed k [] p q = p
   below_placed k (z ∷ zs) p q = below_put k z zs (placed R key y zs) (R (key z) (key y)) p q
 
-  below_same : (x : A) (xs : List A) → R (key x) (key y) ≡ Equal → below_first R key (key x) xs ≡ true → below_first R key (key y) xs ≡ true
+  pub below_same : (x : A) (xs : List A) → R (key x) (key y) ≡ Equal → below_first R key (key x) xs ≡ true → below_first R key (key y) xs ≡ true
   below_same x [] is h = refl
   below_same x (z ∷ zs) is h = ap is_lt (sym (total.congr (key x) (key y) (key z) is)) ∙ h
 

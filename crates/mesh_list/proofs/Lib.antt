@@ -2,3 +2,4 @@ pub mod Ascends
 pub mod Each
 pub mod Found
 pub mod Placed
+pub mod Standing

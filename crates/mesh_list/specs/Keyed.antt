@@ -1,5 +1,6 @@
 -- Lists that are looked up by a key, in the order R of the keys.
-use Rattle.std.specs.Prelude.{Bool, true, ◌&&◌, List, [], ◌∷◌, if◌then◌else◌, Some, None}
+use Rattle.std.specs.Prelude.{Bool, true, ◌&&◌, ℕ, suc, List, [], ◌∷◌, if◌then◌else◌, Some, None}
+use Rattle.std.specs.Option.{option_map}
 use Rattle.std.specs.declared.option.Option.{Option}
 use Rattle.std.specs.declared.cmp.Ordering.{Ordering}
 use Rattle.std.specs.declared.cmp.Ordering.TheVariants.{Less, Equal, Greater}
@@ -39,3 +40,13 @@ below_first R key k (x ∷ xs) = is_lt (R k (key x))
 abbrev pub ascends : {A K : Type 0} → (K → K → Ordering) → (A → K) → List A → Bool
 ascends R key [] = true
 ascends R key (x ∷ xs) = below_first R key (key x) xs && ascends R key xs
+
+-- how many items stand in front of the first whose key is not below this key
+abbrev pub place_of : {A K : Type 0} → (K → K → Ordering) → (A → K) → K → List A → ℕ
+place_of R key k [] = 0
+place_of R key k (x ∷ xs) = if is_lt (R (key x) k) then suc (place_of R key k xs) else 0
+
+-- how many items stand in front of the first with this key, if there is one
+abbrev pub first_at : {A K : Type 0} → (K → K → Ordering) → (A → K) → K → List A → Option ℕ
+first_at R key k [] = None
+first_at R key k (x ∷ xs) = if is_eq (R (key x) k) then Some 0 else option_map suc (first_at R key k xs)

@@ -1,13 +1,14 @@
 // Lists that are looked up by a key, in strictly ascending order of it.
-ghost use Rattle.std.specs.Prelude.{◌≡◌, true, ℕ, [], ◌∷◌, ◌++◌, length, IfOk, OnOk, OnErr};
+ghost use Rattle.std.specs.Prelude.{◌≡◌, [], OnOk, OnErr, true};
 ghost use Rattle.std.specs.Option.{option_copied};
 ghost use Rattle.std.specs.declared.cmp.Ordering.{Ordering};
 ghost use Rattle.std.specs.Cmp.{IsTotalOrder};
 ghost use Rattle.std.proofs.lemmas.Map.Lookups.{CmpEqualImpliesEq};
-ghost use Rattle.mesh_list.specs.Keyed.{found, placed, ascends};
+ghost use Rattle.mesh_list.specs.Keyed.{found, placed, without, exchanged, ascends};
 
 use crate::copies::Duplicate;
 use crate::memory::Memory;
+use crate::places::{exchange_in, find_in, place_in, remove_in};
 use std::alloc::Global;
 use std::cmp::Ordering;
 use std::marker::Model;
@@ -20,12 +21,13 @@ pub trait Keyed: Drop {
 
     ghost order: { Self.Key → Self.Key → Ordering };
 
-    fn key(&self) -> &Self::Key
-        ensures { result.now ≡ key self.now };
-
     /// How this value's key stands to another key.
     fn compare(&self, other: &Self::Key) -> Ordering
         ensures { result ≡ order (key self.now) other.now };
+
+    /// How this value's key stands to that of another value.
+    fn against(&self, other: &Self) -> Ordering
+        ensures { result ≡ order (key self.now) (key other.now) };
 
     ghost total: { IsTotalOrder order };
 
@@ -74,11 +76,11 @@ impl<T: Keyed> Sorted<T> {
         *self.list.allocator()
     }
 
-    /// The item with this key.
+    /// The item with this key, found by halves.
     pub fn find(&self, key: &T::Key) -> Option<&T>
         ensures { option_copied result ≡ found T.order T.key key.now self.now }
     {
-        find_in(self.list.as_slice(), key)
+        find_in(self.list.as_slice(), true, key)
     }
 
     /// Puts an item at its place, instead of the one that had its key. At `Err` nothing has changed.
@@ -86,8 +88,24 @@ impl<T: Keyed> Sorted<T> {
         ensures ok { OnOk result (self.new ≡ placed T.order T.key item self.old) }
         ensures err { OnErr result (self.new ≡ self.old) }
     {
-        place_in(&mut self.list, item)?;
+        place_in(&mut self.list, true, item)?;
         Ok(())
+    }
+
+    /// Takes the item with this key out.
+    pub fn remove(&mut self, key: &T::Key) -> Option<T>
+        ensures value { result ≡ found T.order T.key key.now self.old }
+        ensures rest { self.new ≡ without T.order T.key key.now self.old }
+    {
+        remove_in(&mut self.list, true, key)
+    }
+
+    /// Puts an item where the one with its key stands, and answers that. Where there is none nothing changes.
+    pub fn exchange(&mut self, item: T) -> Option<T>
+        ensures value { result ≡ found T.order T.key (T.key item) self.old }
+        ensures rest { self.new ≡ exchanged T.order T.key item self.old }
+    {
+        exchange_in(&mut self.list, true, item)
     }
 }
 
@@ -97,41 +115,5 @@ impl<T: Keyed + Duplicate> Duplicate for Sorted<T> {
         Ok(Sorted {
             list: items.into_vec(),
         })
-    }
-}
-
-fn find_in<'a, T: Keyed>(items: &'a [T], key: &T::Key) -> Option<&'a T>
-    ensures { option_copied result ≡ found T.order T.key key.now items.now }
-{
-    for item in items {
-        if item.compare(key).is_eq() {
-            return Some(item);
-        }
-    }
-    None
-}
-
-fn place_in<T: Keyed>(items: &mut Vec<T>, item: T) -> Result<(), Memory>
-    ensures ok { OnOk result (items.new.items ≡ placed T.order T.key item items.old.items) }
-    ensures err { OnErr result (items.new.items ≡ items.old.items) }
-{
-    for i in 0..items.len() {
-        match items[i].compare(item.key()) {
-            Ordering::Equal => {
-                items[i] = item;
-                return Ok(());
-            }
-            Ordering::Greater => {
-                return match items.insert(i, item) {
-                    Ok(()) => Ok(()),
-                    Err(_) => Err(Memory),
-                };
-            }
-            Ordering::Less => {}
-        }
-    }
-    match items.push(item) {
-        Ok(()) => Ok(()),
-        Err(_) => Err(Memory),
     }
 }

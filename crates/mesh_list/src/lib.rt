@@ -1,6 +1,6 @@
 //! The containers that every crate of `mesh` keeps its values in, and the laws of lists that they rest on. It knows
 //! no word of SQL. A `Seq` is a list, a `Boxed` is the value in it, a `Sorted` is a list in strictly ascending order
-//! of its keys; `Duplicate` copies to an equal value and `Same` tells exactly whether two values are equal. It stands
+//! of its keys, a `Register` a list in any order that is looked up by a key; `Duplicate` copies to an equal value and `Same` tells exactly whether two values are equal. It stands
 //! on std alone.
 #![tactic(auto)]
 
@@ -9,6 +9,8 @@ mod compared;
 mod copies;
 mod keyed;
 mod memory;
+mod places;
+mod registers;
 mod same;
 mod seqs;
 
@@ -16,5 +18,6 @@ pub use boxes::Boxed;
 pub use copies::Duplicate;
 pub use keyed::{Keyed, Sorted};
 pub use memory::Memory;
-pub use same::Same;
+pub use registers::Register;
+pub use same::{Same, are_same};
 pub use seqs::Seq;

@@ -1,6 +1,8 @@
 // Tests that two values are the same.
 ghost use Rattle.std.specs.Prelude.{◌≡◌, ◌↔◌, IsTrue};
 
+use crate::keyed::{Keyed, Sorted};
+use crate::registers::Register;
 use crate::seqs::Seq;
 
 /// What can be compared for being the same.
@@ -33,18 +35,36 @@ impl Same for i64 {
     }
 }
 
-impl<T: Same> Same for Seq<T> {
-    fn same(&self, other: &Seq<T>) -> bool {
-        let (left, right) = (self.as_slice(), other.as_slice());
-        if left.len() != right.len() {
+/// Whether two slices have the same elements in the same order.
+pub fn are_same<T: Same>(left: &[T], right: &[T]) -> bool
+    ensures { IsTrue result ↔ (left.now ≡ right.now) }
+{
+    if left.len() != right.len() {
+        return false;
+    }
+    for (i, x) in left.iter().enumerate() {
+        if !x.same(&right[i]) {
             return false;
         }
-        for (i, x) in left.iter().enumerate() {
-            if !x.same(&right[i]) {
-                return false;
-            }
-        }
-        true
+    }
+    true
+}
+
+impl<T: Same> Same for Seq<T> {
+    fn same(&self, other: &Seq<T>) -> bool {
+        are_same(self.as_slice(), other.as_slice())
+    }
+}
+
+impl<T: Keyed + Same> Same for Sorted<T> {
+    fn same(&self, other: &Sorted<T>) -> bool {
+        are_same(self.as_slice(), other.as_slice())
+    }
+}
+
+impl<T: Keyed + Same> Same for Register<T> {
+    fn same(&self, other: &Register<T>) -> bool {
+        are_same(self.as_slice(), other.as_slice())
     }
 }
 

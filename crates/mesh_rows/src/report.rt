@@ -93,6 +93,11 @@ fn put_body(alloc: Global, report: &mut Vec<u8>, body: &Body) -> Result<(), Trou
                 put_row(alloc, report, row)?;
             }
         }
+        Body::Stored { own, .. } => {
+            report.extend_from_slice(b"    query of ")?;
+            put_name(report, &own.name)?;
+            report.push(b'\n')?;
+        }
     }
     Ok(())
 }

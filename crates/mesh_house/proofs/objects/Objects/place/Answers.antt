@@ -1,5 +1,7 @@
-use Rattle.mesh_house.proofs.Physical.{are_physical-placed}
+use Rattle.mesh_base.specs.Names.{name_cmp}
+use Rattle.mesh_house.specs.Objects.{object_name, is_physical}
+use Rattle.mesh_house.proofs.Tested.{all-placed}
 use Rattle.mesh_house.proofs.objects.Objects.place.Goals as goal
 
 pub invariant_of-self-2 : goal.invariant_of-self-2
-invariant_of-self-2 c = rw c.in_ok-place.ensures.ok (are_physical-placed c.args.object c.requires c.self.inside.list c.self.invariant)
+invariant_of-self-2 c = rw c.in_ok-place.ensures.ok (all-placed name_cmp object_name (λ o. is_physical o.name) c.args.object c.requires c.self.inside.list c.self.invariant)

@@ -1,0 +1,124 @@
+// A warehouse in memory with many tables, views and versions, whose versions gain hour after hour.
+use mesh_base::{
+    ColType, Column, Columns, Cron, Defn, Kind, Name, Own, Query, Snapshot, Str, Unit,
+};
+use mesh_house::{Change, MemHouse, Warehouse, WhFail};
+use mesh_list::{Duplicate, Memory, Seq};
+use mesh_time::read_cron;
+use std::alloc::Global;
+
+const HOUR: i64 = 3_600;
+
+fn text(alloc: Global, bytes: &[u8]) -> Result<Str, Memory> {
+    u8::copy_items(alloc, bytes)
+}
+
+/// A number below 10,000 in four digits.
+fn digits(number: u32) -> [u8; 4] {
+    [
+        (48 + number / 1000 % 10) as u8,
+        (48 + number / 100 % 10) as u8,
+        (48 + number / 10 % 10) as u8,
+        (48 + number % 10) as u8,
+    ]
+}
+
+fn name(alloc: Global, schema: &[u8], number: u32) -> Result<Name, Memory> {
+    Ok(Name {
+        schema: text(alloc, schema)?,
+        model: text(alloc, digits(number).as_slice())?,
+    })
+}
+
+fn table(alloc: Global, number: u32) -> Result<Name, Memory> {
+    name(alloc, b"sqlmesh__bench", number)
+}
+
+fn columns(alloc: Global) -> Result<Columns, Memory> {
+    let mut columns = Seq::new(alloc);
+    columns.push(Column {
+        name: text(alloc, b"day")?,
+        kind: ColType::Date,
+    })?;
+    Ok(columns)
+}
+
+fn snapshot(alloc: Global, cron: Cron, number: u32) -> Result<Snapshot, Memory> {
+    Ok(Snapshot {
+        name: name(alloc, b"bench", number)?,
+        fingerprint: [0; 32],
+        own: Own {
+            name: name(alloc, b"bench", number)?,
+            kind: Kind::View,
+            cron,
+            unit: Unit::Hour,
+            start: None,
+            sources: Seq::new(alloc),
+            defn: Defn::Sql(Query {
+                ctes: Seq::new(alloc),
+                selects: Seq::new(alloc),
+            }),
+        },
+        parents: Seq::new(alloc),
+        rank: 0,
+        object: table(alloc, number)?,
+        expires: 0,
+    })
+}
+
+/// Makes a model's snapshot, table and view.
+fn fill(alloc: Global, house: &mut MemHouse, cron: Cron, number: u32) -> Result<(), WhFail> {
+    let put = Change::PutSnapshot {
+        snapshot: snapshot(alloc, cron, number)?,
+    };
+    house.change(alloc, &put)?;
+    let make = Change::MakeTable {
+        object: table(alloc, number)?,
+        columns: columns(alloc)?,
+    };
+    house.change(alloc, &make)?;
+    let point = Change::PointView {
+        view: name(alloc, b"bench", number)?,
+        target: table(alloc, number)?,
+    };
+    house.change(alloc, &point)?;
+    Ok(())
+}
+
+/// Records the next hour of a version.
+fn record(alloc: Global, house: &mut MemHouse, number: u32, hour: u32) -> Result<(), WhFail> {
+    let start = i64::from(hour).saturating_mul(HOUR);
+    let change = Change::RecordRange {
+        object: table(alloc, number)?,
+        start,
+        end: start.saturating_add(HOUR),
+    };
+    house.change(alloc, &change)?;
+    Ok(())
+}
+
+fn spans(house: &MemHouse) -> usize {
+    let mut count = 0usize;
+    for version in house.world().book.versions.as_slice() {
+        count = count.saturating_add(version.ranges.spans().len());
+    }
+    count
+}
+
+/// So many tables with a view and a version each, and then so many changes, which each record an hour of one version
+/// after another. The answer is how many spans are recorded.
+pub fn recorded(alloc: Global, tables: u32, changes: u32) -> Result<usize, WhFail> {
+    let Ok(cron) = read_cron(b"@hourly") else {
+        return Err(WhFail::Failed);
+    };
+    let mut house = MemHouse::new(alloc);
+    for number in 0..tables {
+        fill(alloc, &mut house, cron, number)?;
+    }
+    for change in 0..changes {
+        if tables != 0 {
+            record(alloc, &mut house, change % tables, change / tables)?;
+        }
+    }
+    Ok(spans(&house))
+}

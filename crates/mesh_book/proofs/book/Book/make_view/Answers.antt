@@ -1,0 +1,16 @@
+use Rattle.std.proofs.Common.{◌≡◌, refl, sym, ◌∙◌, ap}
+use Rattle.mesh_book.specs.Changes.{as_view}
+use Rattle.mesh_book.specs.declared.versions.Version.{Version}
+use Rattle.mesh_book.proofs.Exchanged.{version_absent, version_changed}
+use Rattle.mesh_book.proofs.book.Book.make_view.Goals as goal
+
+pub returns-in-None-clause-ok : goal.returns-in-None-clause-ok
+returns-in-None-clause-ok c =
+    let same : c.unmade-blank.result.object ≡ c.args.object.now = ap (λ (v : Version). v.object) c.unmade-blank.ensures ∙ c.in_ok-copy.ensures in
+    version_absent as_view c.args.self.now c.args.object.now c.unmade-blank.result same c.exchange.new.self (sym c.exchange.ensures.value ∙ c.in-None.is) c.exchange.ensures.rest
+
+pub returns-in-Some-clause-ok : goal.returns-in-Some-clause-ok
+returns-in-Some-clause-ok c =
+    let same : c.unmade-blank.result.object ≡ c.args.object.now = ap (λ (v : Version). v.object) c.unmade-blank.ensures ∙ c.in_ok-copy.ensures in
+    version_changed as_view c.args.self.now c.args.object.now c.unmade-blank.result same c.in-Some.version c.exchange.new.self c.exchange-in-Some.new.self (sym c.exchange.ensures.value ∙ c.in-Some.is) refl c.exchange.ensures.rest
+    (c.exchange-in-Some.ensures.rest)

@@ -1,0 +1,34 @@
+// The book of a warehouse: the moment, the snapshots, the versions and the environments.
+use crate::versions::Versions;
+use mesh_base::{Envs, Snapshots};
+use mesh_list::{Duplicate, Memory, Same};
+
+/// What a warehouse records beside its tables and views. `moment` is in seconds since 1970-01-01T00:00:00 UTC. Any lists
+/// make a book; `book_fault` tells whether it is a well-formed one.
+#[derive(Debug, Drop)]
+pub struct Book {
+    pub moment: i64,
+    pub snapshots: Snapshots,
+    pub versions: Versions,
+    pub environments: Envs,
+}
+
+impl Duplicate for Book {
+    fn copy(&self) -> Result<Book, Memory> {
+        Ok(Book {
+            moment: self.moment,
+            snapshots: self.snapshots.copy()?,
+            versions: self.versions.copy()?,
+            environments: self.environments.copy()?,
+        })
+    }
+}
+
+impl Same for Book {
+    fn same(&self, other: &Book) -> bool {
+        self.moment == other.moment
+            && self.snapshots.same(&other.snapshots)
+            && self.versions.same(&other.versions)
+            && self.environments.same(&other.environments)
+    }
+}

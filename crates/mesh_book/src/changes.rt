@@ -1,0 +1,265 @@
+// What each kind of change makes of a book. At `Err` the book is as it was.
+ghost use Rattle.std.specs.Prelude.{◌≡◌, IfOk, OnErr, OnOk};
+ghost use Rattle.std.specs.Option.{option_copied};
+ghost use Rattle.mesh_book.specs.Changes.{delete_env, delete_snapshot, empty_book, expire, finalize, forget_version, joined, make_table, make_view, new_version, previous_of, put, put_snapshot, raise_moment, record_marks, record_range, set_pending, with_refs};
+
+use crate::book::Book;
+use crate::versions::Version;
+use mesh_base::{Env, Marks, Name, Ref, Refs, Snapshot, Str};
+use mesh_list::{Duplicate, Keyed, Memory, Register, Seq};
+use mesh_time::Ranges;
+use std::alloc::Global;
+
+impl Book {
+    /// The book that has nothing, which takes no memory.
+    pub fn new(alloc: Global) -> Book
+        ensures { result ≡ empty_book }
+    {
+        Book {
+            moment: 0,
+            snapshots: Register::new(alloc),
+            versions: Register::new(alloc),
+            environments: Register::new(alloc),
+        }
+    }
+
+    /// The moment becomes the greater of it and this one.
+    pub fn raise_moment(&mut self, moment: i64)
+        ensures { self.new ≡ raise_moment self.old moment }
+    {
+        self.moment = self.moment.max(moment);
+    }
+
+    /// The snapshot stands instead of the one of its name and fingerprint, or is added. A version of its object, not
+    /// made, is added where there is none.
+    pub fn put_snapshot(&mut self, snapshot: Snapshot) -> Result<(), Memory>
+        ensures ok { OnOk result (self.new ≡ put_snapshot self.old snapshot) }
+        ensures err { OnErr result (self.new ≡ self.old) }
+    {
+        let key = Ref {
+            name: snapshot.name.copy()?,
+            fingerprint: snapshot.fingerprint,
+        };
+        let object = snapshot.object.copy()?;
+        if self.versions.find(&object).is_some() {
+            put(&mut self.snapshots, &key, snapshot)?;
+            return Ok(());
+        }
+        self.versions.place(unmade(object.copy()?))?;
+        match put(&mut self.snapshots, &key, snapshot) {
+            Ok(()) => Ok(()),
+            Err(refused) => {
+                self.versions.remove(&object);
+                Err(refused)
+            }
+        }
+    }
+
+    /// The object is a table: its version, where there is one, is made, without ranges and marks.
+    pub fn make_table(&mut self, object: &Name) -> Result<(), Memory>
+        ensures ok { OnOk result (self.new ≡ make_table self.old object.now) }
+        ensures err { OnErr result (self.new ≡ self.old) }
+    {
+        let blank = unmade(object.copy()?);
+        match self.versions.exchange(blank) {
+            None => Ok(()),
+            Some(mut version) => {
+                version.made = true;
+                version.ranges = Ranges::new(object.schema.alloc());
+                version.marks = None;
+                self.versions.exchange(version);
+                Ok(())
+            }
+        }
+    }
+
+    /// The object stores a query: its version, where there is one, is made, without marks. Its ranges stay.
+    pub fn make_view(&mut self, object: &Name) -> Result<(), Memory>
+        ensures ok { OnOk result (self.new ≡ make_view self.old object.now) }
+        ensures err { OnErr result (self.new ≡ self.old) }
+    {
+        let blank = unmade(object.copy()?);
+        match self.versions.exchange(blank) {
+            None => Ok(()),
+            Some(mut version) => {
+                version.made = true;
+                version.marks = None;
+                self.versions.exchange(version);
+                Ok(())
+            }
+        }
+    }
+
+    /// The version's ranges gain the seconds that are at least `start` and below `end`.
+    pub fn record_range(&mut self, object: &Name, start: i64, end: i64) -> Result<(), Memory>
+        ensures ok { OnOk result (self.new ≡ record_range self.old object.now start end) }
+        ensures err { OnErr result (self.new ≡ self.old) }
+    {
+        if start >= end {
+            return Ok(());
+        }
+        let blank = unmade(object.copy()?);
+        match self.versions.exchange(blank) {
+            None => Ok(()),
+            Some(mut version) => {
+                let recorded = version.ranges.add(start, end);
+                self.versions.exchange(version);
+                recorded
+            }
+        }
+    }
+
+    /// The version's marks are these.
+    pub fn record_marks(&mut self, object: &Name, marks: Marks) -> Result<(), Memory>
+        ensures ok { OnOk result (self.new ≡ record_marks self.old object.now marks) }
+        ensures err { OnErr result (self.new ≡ self.old) }
+    {
+        let blank = unmade(object.copy()?);
+        match self.versions.exchange(blank) {
+            None => Ok(()),
+            Some(mut version) => {
+                version.marks = Some(marks);
+                self.versions.exchange(version);
+                Ok(())
+            }
+        }
+    }
+
+    /// The environment is pending, with this list and this expiry. It keeps what it listed before as its previous list.
+    pub fn set_pending(&mut self, name: Str, list: Refs, expires: Option<i64>) -> Result<(), Memory>
+        ensures ok { OnOk result (self.new ≡ set_pending self.old name list expires) }
+        ensures err { OnErr result (self.new ≡ self.old) }
+    {
+        let key = name.copy()?;
+        let previous = previous_of(name.alloc(), self.environments.find(&key))?;
+        let env = Env {
+            name,
+            pending: true,
+            list,
+            previous,
+            expires,
+        };
+        put(&mut self.environments, &key, env)?;
+        Ok(())
+    }
+
+    /// The environment is no longer pending, and its previous list is empty.
+    pub fn finalize(&mut self, name: &Str) -> Result<(), Memory>
+        ensures ok { OnOk result (self.new ≡ finalize self.old name.now) }
+        ensures err { OnErr result (self.new ≡ self.old) }
+    {
+        let blank = blank_env(name)?;
+        match self.environments.exchange(blank) {
+            None => Ok(()),
+            Some(mut env) => {
+                env.pending = false;
+                env.previous = Seq::new(name.alloc());
+                self.environments.exchange(env);
+                Ok(())
+            }
+        }
+    }
+
+    /// The environment's expiry is 0.
+    pub fn expire(&mut self, name: &Str) -> Result<(), Memory>
+        ensures ok { OnOk result (self.new ≡ expire self.old name.now) }
+        ensures err { OnErr result (self.new ≡ self.old) }
+    {
+        let blank = blank_env(name)?;
+        match self.environments.exchange(blank) {
+            None => Ok(()),
+            Some(mut env) => {
+                env.expires = Some(0);
+                self.environments.exchange(env);
+                Ok(())
+            }
+        }
+    }
+
+    /// The version goes, if it is there.
+    pub fn forget_version(&mut self, object: &Name)
+        ensures { self.new ≡ forget_version self.old object.now }
+    {
+        self.versions.remove(object);
+    }
+
+    /// The snapshot goes, if it is there.
+    pub fn delete_snapshot(&mut self, key: &Ref)
+        ensures { self.new ≡ delete_snapshot self.old key.now }
+    {
+        self.snapshots.remove(key);
+    }
+
+    /// The environment goes, if it is there.
+    pub fn delete_env(&mut self, name: &Str)
+        ensures { self.new ≡ delete_env self.old name.now }
+    {
+        self.environments.remove(name);
+    }
+}
+
+fn put<T: Keyed>(list: &mut Register<T>, key: &T::Key, item: T) -> Result<(), Memory>
+    requires { key.now ≡ T.key item }
+    ensures ok { OnOk result (list.new ≡ put T.order T.key item list.old) }
+    ensures err { OnErr result (list.new ≡ list.old) }
+{
+    if list.find(key).is_some() {
+        list.exchange(item);
+        return Ok(());
+    }
+    list.place(item)?;
+    Ok(())
+}
+
+fn unmade(object: Name) -> Version
+    ensures { result ≡ new_version object }
+{
+    let alloc = object.schema.alloc();
+    Version {
+        object,
+        made: false,
+        ranges: Ranges::new(alloc),
+        marks: None,
+    }
+}
+
+// What stands for an environment while it is changed.
+fn blank_env(name: &Str) -> Result<Env, Memory>
+    ensures { IfOk result (λ e. e.name ≡ name.now) }
+{
+    Ok(Env {
+        name: name.copy()?,
+        pending: false,
+        list: Seq::new(name.alloc()),
+        previous: Seq::new(name.alloc()),
+        expires: None,
+    })
+}
+
+fn add_refs(refs: &[Ref], all: &mut Register<Ref>) -> Result<(), Memory>
+    ensures { OnOk result (all.new ≡ with_refs all.old refs.now) }
+{
+    for r in refs {
+        all.place(r.copy()?)?;
+    }
+    Ok(())
+}
+
+fn joined(list: &Refs, previous: &Refs) -> Result<Refs, Memory>
+    ensures { IfOk result (λ all. all ≡ joined list.now previous.now) }
+{
+    let mut all = Register::new(list.alloc());
+    add_refs(list.as_slice(), &mut all)?;
+    add_refs(previous.as_slice(), &mut all)?;
+    Ok(Seq::from_vec(all.into_vec()))
+}
+
+fn previous_of(alloc: Global, env: Option<&Env>) -> Result<Refs, Memory>
+    ensures { IfOk result (λ refs. refs ≡ previous_of (option_copied env.entry)) }
+{
+    match env {
+        None => Ok(Seq::new(alloc)),
+        Some(env) if env.pending => joined(&env.list, &env.previous),
+        Some(env) => env.list.copy(),
+    }
+}

@@ -1,0 +1,89 @@
+// The output columns of a definition, as they lie in it.
+ghost use Rattle.std.specs.Prelude.{◌≡◌};
+ghost use Rattle.mesh_base.specs.Outputs.{columns_of, item_columns, select_columns};
+ghost use Rattle.mesh_rules.specs.Seen.{are_distinct, has_column};
+ghost use Rattle.mesh_rules.specs.Proper.{has_its_time};
+
+use mesh_base::{Column, Defn, Item, Kind, Own, Select, Str};
+use mesh_rules::has_column;
+
+fn items_have(items: &[Item], name: &Str) -> bool
+    ensures { result ≡ has_column (item_columns items.now) name.now }
+{
+    let mut found = false;
+    for item in items {
+        found = found || item.name.as_slice().cmp(&name.as_slice()).is_eq();
+    }
+    found
+}
+
+/// Whether the columns of a UNION ALL, which are those of its first SELECT, have one of that name.
+pub fn selects_have(selects: &[Select], name: &Str) -> bool
+    ensures { result ≡ has_column (select_columns selects.now) name.now }
+{
+    match selects {
+        [] => false,
+        [first, ..] => items_have(first.items.as_slice(), name),
+    }
+}
+
+/// Whether a definition has an output column of that name.
+pub fn own_has(own: &Own, name: &Str) -> bool
+    ensures { result ≡ has_column (columns_of own.now) name.now }
+{
+    match &own.defn {
+        Defn::Seed { columns, .. } => has_column(columns.as_slice(), name),
+        Defn::Sql(query) => selects_have(query.selects.as_slice(), name),
+    }
+}
+
+fn columns_differ(columns: &[Column]) -> bool
+    ensures { result ≡ are_distinct columns.now }
+{
+    for (i, column) in columns.iter().enumerate() {
+        if has_column(&columns[i + 1..], &column.name) {
+            return false;
+        }
+    }
+    true
+}
+
+fn items_differ(items: &[Item]) -> bool
+    ensures { result ≡ are_distinct (item_columns items.now) }
+{
+    for (i, item) in items.iter().enumerate() {
+        if items_have(&items[i + 1..], &item.name) {
+            return false;
+        }
+    }
+    true
+}
+
+fn selects_differ(selects: &[Select]) -> bool
+    ensures { result ≡ are_distinct (select_columns selects.now) }
+{
+    match selects {
+        [] => true,
+        [first, ..] => items_differ(first.items.as_slice()),
+    }
+}
+
+/// Whether no two output columns have one name.
+pub fn are_distinct(own: &Own) -> bool
+    ensures { result ≡ are_distinct (columns_of own.now) }
+{
+    match &own.defn {
+        Defn::Seed { columns, .. } => columns_differ(columns.as_slice()),
+        Defn::Sql(query) => selects_differ(query.selects.as_slice()),
+    }
+}
+
+/// Whether an incremental definition has a start, and its time column among its columns.
+pub fn has_its_time(own: &Own) -> bool
+    ensures { result ≡ has_its_time own.now.kind own.now.start (columns_of own.now) }
+{
+    match &own.kind {
+        Kind::Incremental { time } => own.start.is_some() && own_has(own, time),
+        Kind::Full | Kind::View | Kind::Seed => true,
+    }
+}

@@ -1,0 +1,175 @@
+-- Definitions and lists of texts that were written are read again.
+use Rattle.std.proofs.Common.{◌≡◌, ℕ, ◌-◌, ◌^◌, Bool, true, false, List, [], ◌∷◌, ◌++◌, Option, Some, None, refl, sym, ap, subst, ◌∙◌, append_assoc, arith}
+use Rattle.std.specs.Prelude.{ℤ, codes, IsTrue, ◌↔◌}
+use Rattle.std.specs.List.{list_all}
+use Rattle.std.proofs.lemmas.Bool.{and_parts}
+use Rattle.std.proofs.lemmas.List.{append-nil}
+use Rattle.mesh_base.specs.Crons.{is_cron}
+use Rattle.mesh_base.specs.declared.times.Unit.{Unit as TimeUnit}
+use Rattle.mesh_base.specs.declared.times.Unit.TheVariants as units
+use Rattle.mesh_base.specs.declared.definitions.Kind.{Kind}
+use Rattle.mesh_base.specs.declared.definitions.Kind.TheVariants as kinds
+use Rattle.mesh_base.specs.declared.definitions.Decl.{Decl}
+use Rattle.mesh_base.specs.declared.definitions.Defn.{Defn}
+use Rattle.mesh_base.specs.declared.definitions.Defn.TheVariants as bodies
+use Rattle.mesh_base.specs.declared.definitions.Own.{Own}
+use Rattle.mesh_canon.specs.declared.fault.CanonFault.{CanonFault}
+use Rattle.mesh_canon_text.specs.Text.{body_text, column_text, cron_text, cte_text, kind_text, list_of, list_text, own_text, query_text, row_text, select_text, source_text, start_text, text_of, time_text, unit_word}
+use Rattle.mesh_canon.specs.Fits.{are_texts, body_fits, column_fits, is_own, kind_fits, name_fits, row_fits, source_fits, start_fits, text_fits, time_fits}
+use Rattle.mesh_canon.specs.Reading.{Refuses, after, body_at, column_at, incremental_at, kind_at, list_at, list_in, own_at, own_in, row_at, seed_at, source_at, start_at, text_at, time_at, unit_at, whole}
+use Rattle.mesh_canon.proofs.Numbers.{signed_again, signed_some, text_again, text_some}
+use Rattle.mesh_canon.proofs.Lists.{Member, each_of, list_again}
+use Rattle.mesh_canon.proofs.Values.{column_member, name_again, row_member, text_member}
+use Rattle.mesh_canon.proofs.Crons.{cron_again}
+use Rattle.mesh_canon.proofs.Queries.{query_again}
+
+no_time : (rest : List ℕ) → time_at (codes "none" ++ rest) ≡ Some (None, rest)
+unfolding time_at after
+no_time rest = refl
+
+time_again : (t : Option (List ℕ)) (rest : List ℕ) → time_fits t ≡ true → time_at (time_text t ++ rest) ≡ Some (t, rest)
+unfolding time_at time_text
+time_again None rest fits = no_time rest
+time_again (Some t) rest fits = rw (text_some t rest fits, text_again t rest fits) refl
+
+no_start : (rest : List ℕ) → start_at (codes "none" ++ rest) ≡ Some (None, rest)
+unfolding start_at after
+no_start rest = refl
+
+start_again : (s : Option ℤ) (rest : List ℕ) → start_fits s ≡ true → start_at (start_text s ++ (32 ∷ rest)) ≡ Some (s, 32 ∷ rest)
+unfolding start_at start_text
+start_again None rest fits = no_start (32 ∷ rest)
+start_again (Some day) rest fits = rw (signed_some (2 ^ 31 - 1) day (32 ∷ rest) (omega arith) fits, signed_again (2 ^ 31 - 1) day (32 ∷ rest) (omega arith) fits refl) refl
+
+unit_again : (u : TimeUnit) (rest : List ℕ) → unit_at (unit_word u ++ (32 ∷ rest)) ≡ Some (u, rest)
+unfolding unit_at after
+unit_again units.Hour rest = refl
+unit_again units.Day rest = refl
+
+kind_again : (k : Kind) (rest : List ℕ) → kind_fits k ≡ true → kind_at (kind_text k ++ rest) ≡ Some (k, rest)
+unfolding kind_at kind_text incremental_at after
+kind_again kinds.Full rest fits = refl
+kind_again kinds.View rest fits = refl
+kind_again kinds.Seed rest fits = refl
+kind_again (kinds.Incremental time) rest fits = rw (append_assoc (text_of time) (41 ∷ []) rest, text_again time (41 ∷ rest) fits) refl
+
+source_again : (d : Decl) (rest : List ℕ) → source_fits d ≡ true → source_at (source_text d ++ rest) ≡ Some (d, rest)
+unfolding source_at source_text after
+source_again d rest fits =
+    let p = and_parts (name_fits d.name) _ fits in
+    let q = and_parts (list_all column_fits d.columns) (time_fits d.time) p.1 in
+    let tail : List ℕ = list_of column_text d.columns ++ (32 ∷ (time_text d.time ++ (41 ∷ rest))) in
+    let e : (text_of d.name.schema ++ (32 ∷ (text_of d.name.model ++ (32 ∷ (list_of column_text d.columns ++ (32 ∷ (time_text d.time ++ (41 ∷ [])))))))) ++ rest ≡ text_of d.name.schema ++ (32 ∷ (text_of d.name.model ++ (32 ∷ tail))) = simp append_assoc in
+    rw (
+      e,
+      name_again d.name (32 ∷ tail) p.0,
+      list_again column_at column_text d.columns (each_of column_at column_text column_fits column_member d.columns q.0) (32 ∷ (time_text d.time ++ (41 ∷ rest))),
+      time_again d.time (41 ∷ rest) q.1,
+    ) refl
+
+source_member : (d : Decl) → source_fits d ≡ true → Member source_at source_text d
+unfolding source_text after
+source_member d fits = record { opens = λ rest. refl; again = λ rest. source_again d rest fits }
+
+body_again : (b : Defn) (rest : List ℕ) → body_fits b ≡ true → body_at (body_text b ++ rest) ≡ Some (b, rest)
+unfolding body_at body_text seed_at query_text after
+body_again (bodies.Seed columns rows) rest fits =
+    let p = and_parts (list_all column_fits columns) (list_all row_fits rows) fits in
+    let e : (list_of column_text columns ++ (32 ∷ (list_of row_text rows ++ (41 ∷ [])))) ++ rest ≡ list_of column_text columns ++ (32 ∷ (list_of row_text rows ++ (41 ∷ rest))) = simp append_assoc in
+    rw (
+      e,
+      list_again column_at column_text columns (each_of column_at column_text column_fits column_member columns p.0) (32 ∷ (list_of row_text rows ++ (41 ∷ rest))),
+      list_again row_at row_text rows (each_of row_at row_text row_fits row_member rows p.1) (41 ∷ rest),
+    ) refl
+body_again (bodies.Sql q) rest fits =
+    let e : (list_of cte_text q.ctes ++ (32 ∷ (list_of select_text q.selects ++ (41 ∷ [])))) ++ rest ≡ list_of cte_text q.ctes ++ (32 ∷ (list_of select_text q.selects ++ (41 ∷ rest))) = simp append_assoc in
+    rw (e, query_again q rest fits) refl
+
+-- what a definition keeps, part by part
+record OwnFits (m : Own) : Type 0 where
+  name : name_fits m.name ≡ true
+  kind : kind_fits m.kind ≡ true
+  cron : is_cron m.cron ≡ true
+  start : start_fits m.start ≡ true
+  sources : list_all source_fits m.sources ≡ true
+  body : body_fits m.defn ≡ true
+
+own_parts : (m : Own) → is_own m ≡ true → OwnFits m
+unfolding is_own
+own_parts m fits =
+    let a = and_parts (name_fits m.name) _ fits in
+    let b = and_parts (kind_fits m.kind) _ a.1 in
+    let c = and_parts (is_cron m.cron) _ b.1 in
+    let d = and_parts (start_fits m.start) _ c.1 in
+    let e = and_parts (list_all source_fits m.sources) (body_fits m.defn) d.1 in
+    record { name = a.0; kind = b.0; cron = c.0; start = d.0; sources = e.0; body = e.1 }
+
+own_regrouped : (a b c d x y z w rest : List ℕ) → (a ++ (32 ∷ (b ++ (32 ∷ (c ++ (32 ∷ (d ++ (32 ∷ (x ++ (32 ∷ (y ++ (32 ∷ (z ++ (32 ∷ (w ++ (41 ∷ [])))))))))))))))) ++ rest ≡ a ++ (32 ∷ (b ++ (32 ∷ (c ++ (32 ∷ (d ++ (32 ∷ (x ++ (32 ∷ (y ++ (32 ∷ (z ++ (32 ∷ (w ++ (41 ∷ rest)))))))))))))))
+own_regrouped a b c d x y z w rest = simp append_assoc
+
+own_again : (m : Own) (rest : List ℕ) → is_own m ≡ true → own_at (own_text m ++ rest) ≡ Some (m, rest)
+unfolding own_at own_text after
+own_again m rest fits =
+    let p = own_parts m fits in
+    let w : List ℕ = body_text m.defn ++ (41 ∷ rest) in
+    let z : List ℕ = list_of source_text m.sources ++ (32 ∷ w) in
+    let y : List ℕ = start_text m.start ++ (32 ∷ z) in
+    let x : List ℕ = unit_word m.unit ++ (32 ∷ y) in
+    let d : List ℕ = cron_text m.cron ++ (32 ∷ x) in
+    let c : List ℕ = kind_text m.kind ++ (32 ∷ d) in
+    rw (
+      own_regrouped (text_of m.name.schema) (text_of m.name.model) (kind_text m.kind) (cron_text m.cron) (unit_word m.unit) (start_text m.start) (list_of source_text m.sources) (body_text m.defn) rest,
+      name_again m.name (32 ∷ c) p.name,
+      kind_again m.kind (32 ∷ d) p.kind,
+      cron_again m.cron (32 ∷ x) p.cron,
+      p.cron,
+      unit_again m.unit y,
+      start_again m.start z p.start,
+      list_again source_at source_text m.sources (each_of source_at source_text source_fits source_member m.sources p.sources) (32 ∷ w),
+      body_again m.defn (41 ∷ rest) p.body,
+    ) refl
+
+-- the text of a definition is read as that definition
+pub own_is_read : (m : Own) → is_own m ≡ true → own_in (own_text m) ≡ Some m
+unfolding own_in
+own_is_read m fits = ap (λ t. whole (own_at t)) (sym (append-nil (own_text m))) ∙ rw (own_again m [] fits) refl
+
+-- a list of texts is read as that list
+pub list_is_read : (parts : List (List ℕ)) → are_texts parts ≡ true → list_in (list_text parts) ≡ Some parts
+unfolding list_in
+list_is_read parts fits =
+    ap (λ t. whole (list_at text_at t)) (sym (append-nil (list_text parts)))
+    ∙ rw (list_again text_at text_of parts (each_of text_at text_of text_fits text_member parts fits) []) refl
+
+some_is : {A : Type 0} (x y : A) → ◌≡◌ {A = Option A} (Some x) (Some y) → x ≡ y
+some_is x y e = cc
+
+-- definitions of one text are one
+pub same_text_same_own : (a b : Own) → is_own a ≡ true → is_own b ≡ true → own_text a ≡ own_text b → a ≡ b
+same_text_same_own a b p q e = some_is a b (sym (own_is_read a p) ∙ ap own_in e ∙ own_is_read b q)
+
+pub same_text_same_list : (a b : List (List ℕ)) → are_texts a ≡ true → are_texts b ≡ true → list_text a ≡ list_text b → a ≡ b
+same_text_same_list a b p q e = some_is a b (sym (list_is_read a p) ∙ ap list_in e ∙ list_is_read b q)
+
+-- what reading refuses has no value
+pub refused : {A : Type 0} (fault : CanonFault) (read : Option A) (x : A) → Refuses fault read → read ≡ Some x → Refuses fault (Some x)
+refused fault read x r is = subst (λ (o : Option _). Refuses fault o) is r
+
+own_written : (made m : Own) (text again : List ℕ) → is_own m ≡ true → text ≡ own_text m → own_in text ≡ Some made → again ≡ own_text made → again ≡ text
+own_written made m text again fits is read e =
+    e ∙ ap own_text (some_is made m (sym read ∙ ap own_in is ∙ own_is_read m fits)) ∙ sym is
+
+list_written : (made parts : List (List ℕ)) (text again : List ℕ) → are_texts parts ≡ true → text ≡ list_text parts → list_in text ≡ Some made → again ≡ list_text made → again ≡ text
+list_written made parts text again fits is read e =
+    e ∙ ap list_text (some_is made parts (sym read ∙ ap list_in is ∙ list_is_read parts fits)) ∙ sym is
+
+differ : (same : Bool) (again text : List ℕ) → (IsTrue same ↔ (again ≡ text)) → same ≡ false → again ≡ text → ⊥
+differ true again text iff t e = absurd cc
+differ false again text iff t e = let h = iff.1 e in absurd cc
+
+-- a text that is written again the same is no other's
+pub own_differs : (made m : Own) (text again : List ℕ) (same : Bool) → is_own m ≡ true → text ≡ own_text m → own_in text ≡ Some made → again ≡ own_text made → (IsTrue same ↔ (again ≡ text)) → same ≡ false → ⊥
+own_differs made m text again same fits is read e iff t = differ same again text iff t (own_written made m text again fits is read e)
+
+pub list_differs : (made parts : List (List ℕ)) (text again : List ℕ) (same : Bool) → are_texts parts ≡ true → text ≡ list_text parts → list_in text ≡ Some made → again ≡ list_text made → (IsTrue same ↔ (again ≡ text)) → same ≡ false → ⊥
+list_differs made parts text again same fits is read e iff t = differ same again text iff t (list_written made parts text again fits is read e)

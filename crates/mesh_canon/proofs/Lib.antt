@@ -1,0 +1,12 @@
+pub mod Below
+pub mod Crons
+pub mod Definitions
+pub mod Digits
+pub mod Exprs
+pub mod Lists
+pub mod Loop
+pub mod Nodes
+pub mod Numbers
+pub mod Prefix
+pub mod Queries
+pub mod Values

@@ -1,0 +1,616 @@
+-- Reading a canonical text: each function gives what stands at the front of some bytes and what is left behind it, or
+-- nothing where the bytes begin with no such text.
+use Rattle.std.specs.Prelude.{◌≡◌, ℕ, ℤ, pos, negsuc, zero, suc, ◌+◌, ◌-◌, ◌*◌, ◌^◌, ◌==◌, nat_le, nat_lt, Bool, true, false, if◌then◌else◌, List, [], ◌∷◌, ◌++◌, length, take, drop, codes, Option, Some, None, Result, Ok, Err}
+use Rattle.std.specs.Char.{is_ascii_digit}
+use Rattle.mesh_base.specs.Crons.{CronSets, is_cron}
+use Rattle.mesh_base.specs.declared.values.Cell.{Cell}
+use Rattle.mesh_base.specs.declared.values.Cell.TheVariants as cells
+use Rattle.mesh_base.specs.declared.values.ColType.{ColType}
+use Rattle.mesh_base.specs.declared.values.ColType.TheVariants as types
+use Rattle.mesh_base.specs.declared.values.Column.{Column}
+use Rattle.mesh_base.specs.declared.values.Name.{Name}
+use Rattle.mesh_base.specs.declared.times.Unit.{Unit as TimeUnit}
+use Rattle.mesh_base.specs.declared.times.Unit.TheVariants as units
+use Rattle.mesh_base.specs.declared.expressions.Op.{Op}
+use Rattle.mesh_base.specs.declared.expressions.Op.TheVariants as ops
+use Rattle.mesh_base.specs.declared.expressions.Func.{Func}
+use Rattle.mesh_base.specs.declared.expressions.Func.TheVariants as functions
+use Rattle.mesh_base.specs.declared.expressions.AggKind.{AggKind}
+use Rattle.mesh_base.specs.declared.expressions.AggKind.TheVariants as aggregates
+use Rattle.mesh_base.specs.declared.expressions.Var.{Var}
+use Rattle.mesh_base.specs.declared.expressions.Var.TheVariants as macros
+use Rattle.mesh_base.specs.declared.expressions.Expr.{Expr}
+use Rattle.mesh_base.specs.declared.expressions.Expr.TheVariants as exprs
+use Rattle.mesh_base.specs.declared.expressions.When.{When}
+use Rattle.mesh_base.specs.declared.queries.Item.{Item}
+use Rattle.mesh_base.specs.declared.queries.Rel.{Rel}
+use Rattle.mesh_base.specs.declared.queries.Rel.TheVariants as rels
+use Rattle.mesh_base.specs.declared.queries.Join.{Join}
+use Rattle.mesh_base.specs.declared.queries.Join.TheVariants as joins
+use Rattle.mesh_base.specs.declared.queries.FromItem.{FromItem}
+use Rattle.mesh_base.specs.declared.queries.Select.{Select}
+use Rattle.mesh_base.specs.declared.queries.Query.{Query}
+use Rattle.mesh_base.specs.declared.definitions.Kind.{Kind}
+use Rattle.mesh_base.specs.declared.definitions.Kind.TheVariants as kinds
+use Rattle.mesh_base.specs.declared.definitions.Decl.{Decl}
+use Rattle.mesh_base.specs.declared.definitions.Defn.{Defn}
+use Rattle.mesh_base.specs.declared.definitions.Defn.TheVariants as bodies
+use Rattle.mesh_base.specs.declared.definitions.Own.{Own}
+use Rattle.mesh_canon.specs.declared.fault.CanonFault.{CanonFault}
+use Rattle.mesh_canon.specs.declared.fault.CanonFault.TheVariants as faults
+use Rattle.mesh_canon.specs.declared.cron_reading.Fields.{Fields}
+use Rattle.mesh_canon.specs.declared.heads.CellHead.{CellHead}
+use Rattle.mesh_canon.specs.declared.heads.CellHead.TheVariants as cell_heads
+use Rattle.mesh_canon.specs.declared.heads.Head.{Head}
+use Rattle.mesh_canon.specs.declared.heads.Head.TheVariants as heads
+
+-- one step of reading, and then the next
+infixl 10 ◌>>=◌
+abbrev pub ◌>>=◌ : {A B : Type 0} → Option A → (A → Option B) → Option B
+None >>= next = None
+(Some x) >>= next = next x
+
+-- a refusal is one of the bytes, unless memory ran out
+abbrev pub Refuses : {Y : Type 0} → CanonFault → Option Y → Type 0
+Refuses faults.NotCanonical read = read ≡ None
+Refuses faults.Memory read = Unit {0}
+
+-- what was returned, seen by a view, is what reading gives, unless memory ran out
+abbrev pub Gives : {X Y : Type 0} → (X → Y) → Result X CanonFault → Option Y → Type 0
+Gives view (Ok x) read = read ≡ Some (view x)
+Gives view (Err e) read = Refuses e read
+
+-- what was found, seen by a view, is what reading gives
+abbrev pub Finds : {X Y : Type 0} → (X → Y) → Option X → Option Y → Type 0
+Finds view (Some x) read = read ≡ Some (view x)
+Finds view None read = read ≡ None
+
+-- what stands behind a word
+unfoldable pub after : List ℕ → List ℕ → Option (List ℕ)
+after [] bytes = Some bytes
+after (w ∷ word) [] = None
+after (w ∷ word) (b ∷ bytes) = if w == b then after word bytes else None
+
+-- a value and what is left, where its word was there, and else another choice
+abbrev pub behind : {A : Type 0} → A → Option (List ℕ) → Option (A × List ℕ) → Option (A × List ℕ)
+behind x None other = other
+behind x (Some rest) other = Some (x, rest)
+
+-- the value of the first word of a table that the bytes begin with
+abbrev pub word_at : {A : Type 0} → List (List ℕ × A) → List ℕ → Option (A × List ℕ)
+word_at [] bytes = None
+word_at (entry ∷ table) bytes = behind entry.1 (after entry.0 bytes) (word_at table bytes)
+
+-- the number of at most `most` that digits say, behind digits that say n
+unfoldable pub digits_at : ℕ → ℕ → List ℕ → Option (ℕ × List ℕ)
+digits_at most n [] = Some (n, [])
+digits_at most n (b ∷ bytes) =
+    if is_ascii_digit b
+    then (if nat_le (n * 10 + (b - 48)) most then digits_at most (n * 10 + (b - 48)) bytes else None)
+    else Some (n, b ∷ bytes)
+
+-- a number of at most `most`: one digit, or more that don't begin with 0
+unfoldable pub number_at : ℕ → List ℕ → Option (ℕ × List ℕ)
+number_at most [] = None
+number_at most (b ∷ bytes) =
+    if b == 48 then Some (0, bytes)
+    else (if is_ascii_digit b then digits_at most 0 (b ∷ bytes) else None)
+
+-- the number n below zero, where it is below zero
+abbrev pub below_zero : ℕ × List ℕ → Option (ℤ × List ℕ)
+below_zero x = if x.0 == 0 then None else Some (negsuc (x.0 - 1), x.1)
+
+-- the number from -most - 1 to -1 of these digits
+abbrev pub below_at : ℕ → List ℕ → Option (ℤ × List ℕ)
+below_at most bytes = number_at (most + 1) bytes >>= below_zero
+
+-- the number behind a minus sign, where the sign came, and else a number without one
+abbrev pub minus_or : ℕ → Option (List ℕ) → Option (ℤ × List ℕ) → Option (ℤ × List ℕ)
+minus_or most None other = other
+minus_or most (Some rest) other = below_at most rest
+
+-- a number from -most - 1 to most
+unfoldable pub signed_at : ℕ → List ℕ → Option (ℤ × List ℕ)
+signed_at most bytes = minus_or most (after (codes "-") bytes) (number_at most bytes >>= λ x. Some (pos x.0, x.1))
+
+-- a text with its length
+unfoldable pub text_at : List ℕ → Option (List ℕ × List ℕ)
+text_at bytes = do
+  n ← number_at (length bytes) bytes
+  rest ← after (codes ":") n.1
+  if nat_lt (length rest) n.0 then None else Some (take n.0 rest, drop n.0 rest)
+
+-- no members, where the bracket that ends a list was there, and else its members
+abbrev pub none_or : {A : Type 0} → Option (List ℕ) → Option (List A × List ℕ) → Option (List A × List ℕ)
+none_or None others = others
+none_or (Some rest) others = Some ([], rest)
+
+-- members behind spaces, up to the bracket that ends their list
+unfoldable pub more_at : {A : Type 0} → (List ℕ → Option (A × List ℕ)) → ℕ → List ℕ → Option (List A × List ℕ)
+more_at read zero bytes = None
+more_at read (suc n) bytes = none_or (after (codes "]") bytes) (do
+  b0 ← after (codes " ") bytes
+  x ← read b0
+  others ← more_at read n x.1
+  Some (x.0 ∷ others.0, others.1))
+
+-- the members of a list that isn't empty
+unfoldable pub members_at : {A : Type 0} → (List ℕ → Option (A × List ℕ)) → List ℕ → Option (List A × List ℕ)
+members_at read bytes = do
+  first ← read bytes
+  others ← more_at read (length first.1) first.1
+  Some (first.0 ∷ others.0, others.1)
+
+-- a list in brackets
+unfoldable pub list_at : {A : Type 0} → (List ℕ → Option (A × List ℕ)) → List ℕ → Option (List A × List ℕ)
+list_at read bytes = do
+  inner ← after (codes "[") bytes
+  none_or (after (codes "]") inner) (members_at read inner)
+
+-- how a cell begins
+unfoldable pub cell_head_at : List ℕ → Option (CellHead × List ℕ)
+cell_head_at = word_at (
+    (codes "(int ", cell_heads.Int)
+    ∷ (codes "(text ", cell_heads.Text)
+    ∷ (codes "null", cell_heads.Null)
+    ∷ (codes "(date ", cell_heads.Date)
+    ∷ (codes "true", cell_heads.True)
+    ∷ (codes "false", cell_heads.False)
+    ∷ [])
+
+-- how a node begins that is neither a literal nor an operator
+unfoldable pub node_head_at : List ℕ → Option (Head × List ℕ)
+node_head_at = word_at (
+    (codes "(col ", heads.Col)
+    ∷ (codes "(var ", heads.Macro)
+    ∷ (codes "(neg ", heads.Neg)
+    ∷ (codes "(not ", heads.Not)
+    ∷ (codes "(isnull ", heads.IsNull)
+    ∷ (codes "(between ", heads.Between)
+    ∷ (codes "(in ", heads.OneOf)
+    ∷ (codes "(cast ", heads.Cast)
+    ∷ (codes "(call ", heads.Call)
+    ∷ (codes "(case ", heads.Case)
+    ∷ (codes "(count", heads.CountAll)
+    ∷ (codes "(agg ", heads.Agg)
+    ∷ [])
+
+-- how an operator begins
+unfoldable pub op_head_at : List ℕ → Option (Op × List ℕ)
+op_head_at = word_at (
+    (codes "(add ", ops.Add)
+    ∷ (codes "(sub ", ops.Sub)
+    ∷ (codes "(mul ", ops.Mul)
+    ∷ (codes "(div ", ops.Div)
+    ∷ (codes "(rem ", ops.Rem)
+    ∷ (codes "(cat ", ops.Cat)
+    ∷ (codes "(eq ", ops.Eq)
+    ∷ (codes "(ne ", ops.Ne)
+    ∷ (codes "(lt ", ops.Lt)
+    ∷ (codes "(le ", ops.Le)
+    ∷ (codes "(gt ", ops.Gt)
+    ∷ (codes "(ge ", ops.Ge)
+    ∷ (codes "(and ", ops.And)
+    ∷ (codes "(or ", ops.Or)
+    ∷ [])
+
+-- the first of two choices that is there
+abbrev pub or_else : {A B : Type 0} → (B → A) → Option (B × List ℕ) → Option (A × List ℕ) → Option (A × List ℕ)
+or_else f None other = other
+or_else f (Some x) other = Some (f x.0, x.1)
+
+-- how a node of an expression begins
+unfoldable pub head_at : List ℕ → Option (Head × List ℕ)
+head_at bytes =
+    or_else heads.Literal (cell_head_at bytes) (or_else heads.Binary (op_head_at bytes) (node_head_at bytes))
+
+-- the word of a type
+unfoldable pub type_at : List ℕ → Option (ColType × List ℕ)
+type_at = word_at (
+    (codes "int", types.Int)
+    ∷ (codes "text", types.Text)
+    ∷ (codes "date", types.Date)
+    ∷ (codes "bool", types.Bool)
+    ∷ [])
+
+-- the word of a function and a space
+unfoldable pub func_at : List ℕ → Option (Func × List ℕ)
+func_at = word_at (
+    (codes "abs ", functions.Abs)
+    ∷ (codes "length ", functions.Length)
+    ∷ (codes "upper ", functions.Upper)
+    ∷ (codes "lower ", functions.Lower)
+    ∷ (codes "nullif ", functions.Nullif)
+    ∷ (codes "coalesce ", functions.Coalesce)
+    ∷ [])
+
+-- the word of an aggregate and a space
+unfoldable pub agg_at : List ℕ → Option (AggKind × List ℕ)
+agg_at = word_at (
+    (codes "count ", aggregates.Count)
+    ∷ (codes "countd ", aggregates.Countd)
+    ∷ (codes "sum ", aggregates.Sum)
+    ∷ (codes "min ", aggregates.Min)
+    ∷ (codes "max ", aggregates.Max)
+    ∷ [])
+
+-- the word of a macro for the start
+unfoldable pub start_var_at : List ℕ → Option (Var × List ℕ)
+start_var_at = word_at (
+    (codes "start_date", macros.StartDate)
+    ∷ (codes "start_ds", macros.StartDs)
+    ∷ (codes "start_epoch", macros.StartEpoch)
+    ∷ [])
+
+-- the word of a macro for the end
+unfoldable pub end_var_at : List ℕ → Option (Var × List ℕ)
+end_var_at = word_at (
+    (codes "end_date", macros.EndDate)
+    ∷ (codes "end_ds", macros.EndDs)
+    ∷ (codes "end_epoch", macros.EndEpoch)
+    ∷ [])
+
+-- the word of a macro
+unfoldable pub macro_at : List ℕ → Option (Var × List ℕ)
+macro_at bytes = or_else (λ var. var) (start_var_at bytes) (end_var_at bytes)
+
+-- the word of a join and a space
+unfoldable pub join_at : List ℕ → Option (Join × List ℕ)
+join_at = word_at (
+    (codes "first ", joins.First)
+    ∷ (codes "inner ", joins.Inner)
+    ∷ (codes "left ", joins.Left)
+    ∷ (codes "cross ", joins.Cross)
+    ∷ [])
+
+-- the word of a unit and a space
+unfoldable pub unit_at : List ℕ → Option (TimeUnit × List ℕ)
+unit_at = word_at (
+    (codes "hour ", units.Hour)
+    ∷ (codes "day ", units.Day)
+    ∷ [])
+
+-- whether a SELECT is distinct, and a space
+unfoldable pub distinct_at : List ℕ → Option (Bool × List ℕ)
+distinct_at = word_at (
+    (codes "distinct ", true)
+    ∷ (codes "all ", false)
+    ∷ [])
+
+-- whether a SELECT is grouped, and a space
+unfoldable pub grouped_at : List ℕ → Option (Bool × List ℕ)
+grouped_at = word_at (
+    (codes "grouped ", true)
+    ∷ (codes "plain ", false)
+    ∷ [])
+
+-- what was read before, and then what is read
+abbrev pub with_front : {A : Type 0} → List A → Option (List A × List ℕ) → Option (List A × List ℕ)
+with_front front read = read >>= λ x. Some (front ++ x.0, x.1)
+
+-- all of the bytes
+abbrev pub whole : {A : Type 0} → Option (A × List ℕ) → Option A
+whole None = None
+whole (Some (x, [])) = Some x
+whole (Some (x, b ∷ rest)) = None
+
+-- the values behind a comma, where it came, and else the set
+abbrev pub go_on : (List ℕ → Option (ℕ × List ℕ)) → ℕ × List ℕ → Option (List ℕ) → Option (ℕ × List ℕ)
+go_on read here None = Some here
+go_on read here (Some rest) = read rest
+
+-- at most so many ascending values from `low` to `most` with a comma between, in a set with what it has
+unfoldable pub values_at : ℕ → ℕ → ℕ → ℕ → List ℕ → Option (ℕ × List ℕ)
+values_at zero most low set bytes = None
+values_at (suc count) most low set bytes =
+    number_at most bytes >>= λ value.
+    if nat_lt value.0 low then None
+    else go_on (values_at count most (value.0 + 1) (set + 2 ^ value.0)) (set + 2 ^ value.0, value.1) (after (codes ",") value.1)
+
+-- each value, where `*` was there, and else the values that were read
+abbrev pub each_or : ℕ → Option (List ℕ) → Option (ℕ × List ℕ) → Option ((ℕ × Bool) × List ℕ)
+each_or each None found = found >>= λ x. Some ((x.0, false), x.1)
+each_or each (Some rest) found = Some ((each, true), rest)
+
+-- a field: its set, and whether it is `*`
+unfoldable pub field_at : ℕ → ℕ → List ℕ → Option ((ℕ × Bool) × List ℕ)
+field_at each most bytes = each_or each (after (codes "*") bytes) (values_at 60 most 0 0 bytes)
+
+unfoldable pub fields_at : List ℕ → Option (CronSets × List ℕ)
+fields_at bytes = do
+  minute ← field_at 0xfff_ffff_ffff_ffff 59 bytes
+  b0 ← after (codes " ") minute.1
+  hour ← field_at 0xff_ffff 23 b0
+  b1 ← after (codes " ") hour.1
+  dom ← field_at 0xffff_fffe 31 b1
+  b2 ← after (codes " ") dom.1
+  month ← field_at 0x1ffe 12 b2
+  b3 ← after (codes " ") month.1
+  dow ← field_at 0x7f 6 b3
+  Some (record { minute = minute.0.0; hour = hour.0.0; dom = dom.0.0; month = month.0.0; dow = dow.0.0; dom_star = dom.0.1; dow_star = dow.0.1 }, dow.1)
+
+-- five fields, and nothing else
+unfoldable pub fields_in : List ℕ → Option CronSets
+fields_in bytes = whole (fields_at bytes)
+
+-- sets, where they are those of a cron
+abbrev pub checked : CronSets → Option CronSets
+checked c = if is_cron c then Some c else None
+
+-- what five fields say
+abbrev pub sets_of : Fields → CronSets
+sets_of f = record { minute = f.minute; hour = f.hour; dom = f.dom; month = f.month; dow = f.dow; dom_star = f.dom_star; dow_star = f.dow_star }
+
+-- a text of five fields
+unfoldable pub cron_at : List ℕ → Option (CronSets × List ℕ)
+cron_at bytes = do
+  t ← text_at bytes
+  fields ← fields_in t.0
+  Some (fields, t.1)
+
+-- a value, where the bracket that ends its node comes
+abbrev pub closed : {A : Type 0} → A → List ℕ → Option (A × List ℕ)
+closed x bytes = after (codes ")") bytes >>= λ rest. Some (x, rest)
+
+-- nothing, where `none` was there, and else a value
+abbrev pub optional : {A : Type 0} → Option (List ℕ) → Option (A × List ℕ) → Option (Option A × List ℕ)
+optional None found = found >>= λ x. Some (Some x.0, x.1)
+optional (Some rest) found = Some (None, rest)
+
+-- a cell behind its head
+unfoldable pub cell_parts_at : CellHead → List ℕ → Option (Cell × List ℕ)
+cell_parts_at cell_heads.Null bytes = Some (cells.Null, bytes)
+cell_parts_at cell_heads.True bytes = Some (cells.Bool true, bytes)
+cell_parts_at cell_heads.False bytes = Some (cells.Bool false, bytes)
+cell_parts_at cell_heads.Int bytes = signed_at (2 ^ 63 - 1) bytes >>= λ n. closed (cells.Int n.0) n.1
+cell_parts_at cell_heads.Text bytes = text_at bytes >>= λ t. closed (cells.Text t.0) t.1
+cell_parts_at cell_heads.Date bytes = signed_at (2 ^ 31 - 1) bytes >>= λ n. closed (cells.Date n.0) n.1
+
+unfoldable pub cell_at : List ℕ → Option (Cell × List ℕ)
+cell_at bytes = cell_head_at bytes >>= λ h. cell_parts_at h.0 h.1
+
+unfoldable pub row_at : List ℕ → Option (List Cell × List ℕ)
+row_at = list_at cell_at
+
+unfoldable pub column_at : List ℕ → Option (Column × List ℕ)
+column_at bytes = do
+  b0 ← after (codes "(column ") bytes
+  name ← text_at b0
+  b1 ← after (codes " ") name.1
+  kind ← type_at b1
+  closed (record { name = name.0; kind = kind.0 }) kind.1
+
+unfoldable pub name_at : List ℕ → Option (Name × List ℕ)
+name_at bytes = do
+  schema ← text_at bytes
+  b0 ← after (codes " ") schema.1
+  model ← text_at b0
+  Some (record { schema = schema.0; model = model.0 }, model.1)
+
+unfoldable pub when_at : (List ℕ → Option (Expr × List ℕ)) → List ℕ → Option (When × List ℕ)
+when_at read bytes = do
+  b0 ← after (codes "(when ") bytes
+  test ← read b0
+  b1 ← after (codes " ") test.1
+  value ← read b1
+  closed (record { test = test.0; value = value.0 }) value.1
+
+unfoldable pub col_at : List ℕ → Option (Expr × List ℕ)
+col_at bytes = do
+  item ← number_at (2 ^ 32 - 1) bytes
+  b0 ← after (codes " ") item.1
+  name ← text_at b0
+  closed (exprs.Col item.0 name.0) name.1
+
+unfoldable pub binary_at : Op → (List ℕ → Option (Expr × List ℕ)) → List ℕ → Option (Expr × List ℕ)
+binary_at op read bytes = do
+  left ← read bytes
+  b0 ← after (codes " ") left.1
+  right ← read b0
+  closed (exprs.Binary op left.0 right.0) right.1
+
+unfoldable pub between_at : (List ℕ → Option (Expr × List ℕ)) → List ℕ → Option (Expr × List ℕ)
+between_at read bytes = do
+  value ← read bytes
+  b0 ← after (codes " ") value.1
+  low ← read b0
+  b1 ← after (codes " ") low.1
+  high ← read b1
+  closed (exprs.Between value.0 low.0 high.0) high.1
+
+unfoldable pub one_of_at : (List ℕ → Option (Expr × List ℕ)) → List ℕ → Option (Expr × List ℕ)
+one_of_at read bytes = do
+  value ← read bytes
+  b0 ← after (codes " ") value.1
+  of ← list_at read b0
+  closed (exprs.OneOf value.0 of.0) of.1
+
+unfoldable pub cast_at : (List ℕ → Option (Expr × List ℕ)) → List ℕ → Option (Expr × List ℕ)
+cast_at read bytes = do
+  to ← type_at bytes
+  b0 ← after (codes " ") to.1
+  value ← read b0
+  closed (exprs.Cast to.0 value.0) value.1
+
+unfoldable pub call_at : (List ℕ → Option (Expr × List ℕ)) → List ℕ → Option (Expr × List ℕ)
+call_at read bytes = do
+  func ← func_at bytes
+  args ← list_at read func.1
+  closed (exprs.Call func.0 args.0) args.1
+
+unfoldable pub case_at : (List ℕ → Option (Expr × List ℕ)) → List ℕ → Option (Expr × List ℕ)
+case_at read bytes = do
+  whens ← list_at (when_at read) bytes
+  b0 ← after (codes " ") whens.1
+  otherwise ← read b0
+  closed (exprs.Case whens.0 otherwise.0) otherwise.1
+
+unfoldable pub agg_parts_at : (List ℕ → Option (Expr × List ℕ)) → List ℕ → Option (Expr × List ℕ)
+agg_parts_at read bytes = do
+  kind ← agg_at bytes
+  value ← read kind.1
+  closed (exprs.Agg kind.0 value.0) value.1
+
+-- a node behind its head, with its parts as they are read
+unfoldable pub parts_at : (List ℕ → Option (Expr × List ℕ)) → Head → List ℕ → Option (Expr × List ℕ)
+parts_at read (heads.Literal cell) bytes = cell_parts_at cell bytes >>= λ c. Some (exprs.Literal c.0, c.1)
+parts_at read heads.Col bytes = col_at bytes
+parts_at read heads.Macro bytes = macro_at bytes >>= λ var. closed (exprs.Macro var.0) var.1
+parts_at read (heads.Binary op) bytes = binary_at op read bytes
+parts_at read heads.Neg bytes = read bytes >>= λ x. closed (exprs.Neg x.0) x.1
+parts_at read heads.Not bytes = read bytes >>= λ x. closed (exprs.Not x.0) x.1
+parts_at read heads.IsNull bytes = read bytes >>= λ x. closed (exprs.IsNull x.0) x.1
+parts_at read heads.Between bytes = between_at read bytes
+parts_at read heads.OneOf bytes = one_of_at read bytes
+parts_at read heads.Cast bytes = cast_at read bytes
+parts_at read heads.Call bytes = call_at read bytes
+parts_at read heads.Case bytes = case_at read bytes
+parts_at read heads.CountAll bytes = closed exprs.CountAll bytes
+parts_at read heads.Agg bytes = agg_parts_at read bytes
+
+-- an expression of at most so many nodes inside one another
+unfoldable pub expr_at : ℕ → List ℕ → Option (Expr × List ℕ)
+expr_at zero bytes = None
+expr_at (suc n) bytes = head_at bytes >>= λ h. parts_at (expr_at n) h.0 h.1
+
+-- an expression: no text has more nodes than bytes
+abbrev pub any_expr_at : List ℕ → Option (Expr × List ℕ)
+any_expr_at bytes = expr_at (length bytes) bytes
+
+unfoldable pub option_at : List ℕ → Option (Option Expr × List ℕ)
+option_at bytes = optional (after (codes "none") bytes) (any_expr_at bytes)
+
+unfoldable pub item_at : List ℕ → Option (Item × List ℕ)
+item_at bytes = do
+  b0 ← after (codes "(as ") bytes
+  name ← text_at b0
+  b1 ← after (codes " ") name.1
+  kind ← type_at b1
+  b2 ← after (codes " ") kind.1
+  expr ← any_expr_at b2
+  closed (record { name = name.0; kind = kind.0; expr = expr.0 }) expr.1
+
+-- a model or a source by its name
+unfoldable pub named_at : List ℕ → Option (Rel × List ℕ)
+named_at bytes = name_at bytes >>= λ name. closed (rels.Named name.0) name.1
+
+-- a CTE by its place
+unfoldable pub place_at : List ℕ → Option (Rel × List ℕ)
+place_at bytes = number_at (2 ^ 32 - 1) bytes >>= λ n. closed (rels.Cte n.0) n.1
+
+-- what a FROM item reads, behind the word that says which, if it was there
+abbrev pub rel_by : Option (List ℕ) → Option (Rel × List ℕ) → Option (Rel × List ℕ)
+rel_by None other = other
+rel_by (Some rest) other = named_at rest
+
+unfoldable pub rel_at : List ℕ → Option (Rel × List ℕ)
+rel_at bytes = rel_by (after (codes "(rel ") bytes) (after (codes "(cte ") bytes >>= place_at)
+
+unfoldable pub from_at : List ℕ → Option (FromItem × List ℕ)
+from_at bytes = do
+  b0 ← after (codes "(item ") bytes
+  join ← join_at b0
+  rel ← rel_at join.1
+  b1 ← after (codes " ") rel.1
+  on ← option_at b1
+  closed (record { join = join.0; rel = rel.0; on = on.0 }) on.1
+
+unfoldable pub select_at : List ℕ → Option (Select × List ℕ)
+select_at bytes = do
+  b0 ← after (codes "(select ") bytes
+  distinct ← distinct_at b0
+  grouped ← grouped_at distinct.1
+  items ← list_at item_at grouped.1
+  b1 ← after (codes " ") items.1
+  from ← list_at from_at b1
+  b2 ← after (codes " ") from.1
+  filter ← option_at b2
+  b3 ← after (codes " ") filter.1
+  keys ← list_at any_expr_at b3
+  b4 ← after (codes " ") keys.1
+  having ← option_at b4
+  closed (record { distinct = distinct.0; grouped = grouped.0; items = items.0; from = from.0; filter = filter.0; keys = keys.0; having = having.0 }) having.1
+
+unfoldable pub cte_at : List ℕ → Option (List Select × List ℕ)
+cte_at bytes = do
+  b0 ← after (codes "(cte ") bytes
+  selects ← list_at select_at b0
+  closed selects.0 selects.1
+
+unfoldable pub query_at : List ℕ → Option (Query × List ℕ)
+query_at bytes = do
+  ctes ← list_at cte_at bytes
+  b0 ← after (codes " ") ctes.1
+  selects ← list_at select_at b0
+  closed (record { ctes = ctes.0; selects = selects.0 }) selects.1
+
+unfoldable pub seed_at : List ℕ → Option (Defn × List ℕ)
+seed_at bytes = do
+  columns ← list_at column_at bytes
+  b0 ← after (codes " ") columns.1
+  rows ← list_at row_at b0
+  closed (bodies.Seed columns.0 rows.0) rows.1
+
+-- a body, behind the word of a seed, if it was there
+abbrev pub body_by : Option (List ℕ) → Option (Defn × List ℕ) → Option (Defn × List ℕ)
+body_by None other = other
+body_by (Some rest) other = seed_at rest
+
+unfoldable pub body_at : List ℕ → Option (Defn × List ℕ)
+body_at bytes =
+    body_by (after (codes "(seed ") bytes)
+    (after (codes "(query ") bytes >>= λ b. query_at b >>= λ q. Some (bodies.Sql q.0, q.1))
+
+unfoldable pub time_at : List ℕ → Option (Option (List ℕ) × List ℕ)
+time_at bytes = optional (after (codes "none") bytes) (text_at bytes)
+
+unfoldable pub start_at : List ℕ → Option (Option ℤ × List ℕ)
+start_at bytes = optional (after (codes "none") bytes) (signed_at (2 ^ 31 - 1) bytes)
+
+unfoldable pub source_at : List ℕ → Option (Decl × List ℕ)
+source_at bytes = do
+  b0 ← after (codes "(source ") bytes
+  name ← name_at b0
+  b1 ← after (codes " ") name.1
+  columns ← list_at column_at b1
+  b2 ← after (codes " ") columns.1
+  time ← time_at b2
+  closed (record { name = name.0; columns = columns.0; time = time.0 }) time.1
+
+unfoldable pub incremental_at : List ℕ → Option (Kind × List ℕ)
+incremental_at bytes = do
+  b0 ← after (codes "(incremental ") bytes
+  time ← text_at b0
+  closed (kinds.Incremental time.0) time.1
+
+unfoldable pub kind_at : List ℕ → Option (Kind × List ℕ)
+kind_at bytes =
+    behind kinds.Full (after (codes "(full)") bytes)
+    (behind kinds.View (after (codes "(view)") bytes)
+    (behind kinds.Seed (after (codes "(seed)") bytes) (incremental_at bytes)))
+
+unfoldable pub own_at : List ℕ → Option (Own × List ℕ)
+own_at bytes = do
+  b0 ← after (codes "(own ") bytes
+  name ← name_at b0
+  b1 ← after (codes " ") name.1
+  kind ← kind_at b1
+  b2 ← after (codes " ") kind.1
+  fields ← cron_at b2
+  cron ← checked fields.0
+  b3 ← after (codes " ") fields.1
+  unit ← unit_at b3
+  start ← start_at unit.1
+  b4 ← after (codes " ") start.1
+  sources ← list_at source_at b4
+  b5 ← after (codes " ") sources.1
+  body ← body_at b5
+  closed (record { name = name.0; kind = kind.0; cron = cron; unit = unit.0; start = start.0; sources = sources.0; defn = body.0 }) body.1
+
+-- a list of texts, and nothing else
+unfoldable pub list_in : List ℕ → Option (List (List ℕ))
+list_in bytes = whole (list_at text_at bytes)
+
+-- a definition, and nothing else
+unfoldable pub own_in : List ℕ → Option Own
+own_in bytes = whole (own_at bytes)

@@ -1,0 +1,210 @@
+// Definitions, read, and lists of texts.
+ghost use Rattle.std.specs.Prelude.{◌≡◌, ◌↔◌, ℕ, List, true, IfOk, IsTrue};
+ghost use Rattle.mesh_base.specs.declared.definitions.Own.{Own};
+ghost use Rattle.mesh_canon.specs.Fits.{are_texts, is_own};
+ghost use Rattle.mesh_canon_text.specs.Text.{list_text, own_text};
+ghost use Rattle.mesh_canon.specs.Reading.{Gives, body_at, incremental_at, kind_at, list_in, own_at, own_in, seed_at, source_at, start_at, time_at};
+
+use crate::cron_reading::{cron_fields, made};
+use crate::depth::is_too_deep;
+use crate::fault::CanonFault;
+use crate::heads::unit;
+use crate::query_reading::query;
+use crate::read::{Readable, list};
+use crate::value_reading::{day, name};
+use crate::words::{after, expect, text};
+use mesh_base::{Decl, Defn, Kind, Own, Str, Strs};
+use mesh_canon_text::{list_text, own_text};
+use std::alloc::Global;
+
+#[tactic(auto, unfolding(crate::specs::Reading::time_at))]
+fn time(alloc: Global, bytes: &[u8]) -> Result<(Option<Str>, &[u8]), CanonFault>
+    ensures { Gives (λ x. (x.0, x.1.now)) result (time_at bytes.now) }
+{
+    if let Some(rest) = after(bytes, b"none") {
+        return Ok((None, rest));
+    }
+    let (time, rest) = text(alloc, bytes)?;
+    Ok((Some(time), rest))
+}
+
+#[tactic(auto, unfolding(crate::specs::Reading::start_at))]
+fn start(bytes: &[u8]) -> Result<(Option<i32>, &[u8]), CanonFault>
+    ensures { Gives (λ x. (x.0, x.1.now)) result (start_at bytes.now) }
+{
+    if let Some(rest) = after(bytes, b"none") {
+        return Ok((None, rest));
+    }
+    let (day, rest) = day(bytes)?;
+    Ok((Some(day), rest))
+}
+
+impl Readable for Decl {
+    ghost reading = { source_at };
+
+    #[tactic(auto, unfolding(crate::specs::Reading::source_at))]
+    fn read(alloc: Global, bytes: &[u8]) -> Result<(Decl, &[u8]), CanonFault> {
+        let rest = expect(bytes, b"(source ")?;
+        let (name, rest) = name(alloc, rest)?;
+        let rest = expect(rest, b" ")?;
+        let (columns, rest) = list(alloc, rest)?;
+        let rest = expect(rest, b" ")?;
+        let (time, rest) = time(alloc, rest)?;
+        let rest = expect(rest, b")")?;
+        Ok((
+            Decl {
+                name,
+                columns,
+                time,
+            },
+            rest,
+        ))
+    }
+}
+
+#[tactic(auto, unfolding(crate::specs::Reading::seed_at))]
+fn seed(alloc: Global, bytes: &[u8]) -> Result<(Defn, &[u8]), CanonFault>
+    ensures { Gives (λ x. (x.0, x.1.now)) result (seed_at bytes.now) }
+{
+    let (columns, rest) = list(alloc, bytes)?;
+    let rest = expect(rest, b" ")?;
+    let (rows, rest) = list(alloc, rest)?;
+    let rest = expect(rest, b")")?;
+    Ok((Defn::Seed { columns, rows }, rest))
+}
+
+#[tactic(auto, unfolding(crate::specs::Reading::body_at))]
+fn body(alloc: Global, bytes: &[u8]) -> Result<(Defn, &[u8]), CanonFault>
+    ensures { Gives (λ x. (x.0, x.1.now)) result (body_at bytes.now) }
+{
+    if let Some(rest) = after(bytes, b"(seed ") {
+        return seed(alloc, rest);
+    }
+    let rest = expect(bytes, b"(query ")?;
+    let (query, rest) = query(alloc, rest)?;
+    Ok((Defn::Sql(query), rest))
+}
+
+#[tactic(auto, unfolding(crate::specs::Reading::incremental_at))]
+fn incremental(alloc: Global, bytes: &[u8]) -> Result<(Kind, &[u8]), CanonFault>
+    ensures { Gives (λ x. (x.0, x.1.now)) result (incremental_at bytes.now) }
+{
+    let rest = expect(bytes, b"(incremental ")?;
+    let (time, rest) = text(alloc, rest)?;
+    let rest = expect(rest, b")")?;
+    Ok((Kind::Incremental { time }, rest))
+}
+
+#[tactic(auto, unfolding(crate::specs::Reading::kind_at))]
+fn kind(alloc: Global, bytes: &[u8]) -> Result<(Kind, &[u8]), CanonFault>
+    ensures { Gives (λ x. (x.0, x.1.now)) result (kind_at bytes.now) }
+{
+    if let Some(rest) = after(bytes, b"(full)") {
+        return Ok((Kind::Full, rest));
+    }
+    if let Some(rest) = after(bytes, b"(view)") {
+        return Ok((Kind::View, rest));
+    }
+    if let Some(rest) = after(bytes, b"(seed)") {
+        return Ok((Kind::Seed, rest));
+    }
+    incremental(alloc, bytes)
+}
+
+#[tactic(auto, unfolding(crate::specs::Reading::own_at))]
+fn own(alloc: Global, bytes: &[u8]) -> Result<(Own, &[u8]), CanonFault>
+    ensures { Gives (λ x. (x.0, x.1.now)) result (own_at bytes.now) }
+{
+    let rest = expect(bytes, b"(own ")?;
+    let (name, rest) = name(alloc, rest)?;
+    let rest = expect(rest, b" ")?;
+    let (kind, rest) = kind(alloc, rest)?;
+    let rest = expect(rest, b" ")?;
+    let (fields, rest) = cron_fields(alloc, rest)?;
+    let cron = made(&fields)?;
+    let rest = expect(rest, b" ")?;
+    let Some((unit, rest)) = unit(rest) else {
+        return Err(CanonFault::NotCanonical);
+    };
+    let (start, rest) = start(rest)?;
+    let rest = expect(rest, b" ")?;
+    let (sources, rest) = list(alloc, rest)?;
+    let rest = expect(rest, b" ")?;
+    let (defn, rest) = body(alloc, rest)?;
+    let rest = expect(rest, b")")?;
+    let made = Own {
+        name,
+        kind,
+        cron,
+        unit,
+        start,
+        sources,
+        defn,
+    };
+    Ok((made, rest))
+}
+
+#[tactic(auto, unfolding(crate::specs::Reading::own_in))]
+fn whole_own(alloc: Global, bytes: &[u8]) -> Result<Own, CanonFault>
+    ensures { Gives (λ m. m) result (own_in bytes.now) }
+{
+    let (made, rest) = own(alloc, bytes)?;
+    match rest {
+        [] => Ok(made),
+        [_, ..] => Err(CanonFault::NotCanonical),
+    }
+}
+
+#[tactic(auto, unfolding(crate::specs::Reading::list_in))]
+fn whole_list(alloc: Global, bytes: &[u8]) -> Result<Strs, CanonFault>
+    ensures { Gives (λ parts. parts) result (list_in bytes.now) }
+{
+    let (made, rest) = list(alloc, bytes)?;
+    match rest {
+        [] => Ok(made),
+        [_, ..] => Err(CanonFault::NotCanonical),
+    }
+}
+
+fn is_same(left: &[u8], right: &[u8]) -> bool
+    ensures { IsTrue result ↔ (left.now ≡ right.now) }
+{
+    left == right
+}
+
+/// The definition that has this canonical text. What is read is written again and compared. Expressions are read by
+/// recursion, so a text in which more than 4,200 nodes are open round a place is refused for want of memory: the stack
+/// might not hold them. No definition of a project has as many, as an expression has at most 4,096 nodes.
+pub fn read_own(alloc: Global, text: &[u8]) -> Result<Own, CanonFault>
+    // What is read has this text.
+    ensures found { IfOk result (λ m. text.now ≡ own_text m) }
+    // A definition that has this text is read, unless memory runs out.
+    ensures only { (m : Own) → is_own m ≡ true → text.now ≡ own_text m → Gives (λ x. x) result (Some m) }
+{
+    if is_too_deep(text) {
+        return Err(CanonFault::Memory);
+    }
+    let made = whole_own(alloc, text)?;
+    let again = own_text(alloc, &made)?;
+    if is_same(again.as_slice(), text) {
+        Ok(made)
+    } else {
+        Err(CanonFault::NotCanonical)
+    }
+}
+
+/// The texts that have this text as a list.
+pub fn read_list(alloc: Global, text: &[u8]) -> Result<Strs, CanonFault>
+    // What is read has this text.
+    ensures found { IfOk result (λ parts. text.now ≡ list_text parts) }
+    // A list that has this text is read, unless memory runs out.
+    ensures only { (parts : List (List ℕ)) → are_texts parts ≡ true → text.now ≡ list_text parts → Gives (λ x. x) result (Some parts) }
+{
+    let made = whole_list(alloc, text)?;
+    let written = list_text(alloc, &made)?;
+    if is_same(written.as_slice(), text) {
+        Ok(made)
+    } else {
+        Err(CanonFault::NotCanonical)
+    }
+}

@@ -1,0 +1,298 @@
+// Expressions, read. The functions call one another, as the types lead to one another.
+ghost use Rattle.std.specs.Prelude.{◌≡◌, length};
+ghost use Rattle.mesh_canon.specs.Reading.{Gives, agg_parts_at, any_expr_at, between_at, binary_at, call_at, case_at, cast_at, col_at, expr_at, list_at, members_at, more_at, one_of_at, option_at, parts_at, when_at, with_front};
+
+use crate::fault::CanonFault;
+use crate::heads::{Head, aggregate, any_head, column_type, func, macro_var};
+use crate::read::Readable;
+use crate::value_reading::cell_parts;
+use crate::words::{after, expect, number, text};
+use mesh_base::{Expr, Exprs, Op, When, Whens};
+use mesh_list::{Boxed, Seq};
+use std::alloc::Global;
+
+const MOST_PLACE: u64 = 0xffff_ffff;
+
+/// An expression of at most `depth` nodes inside one another.
+#[cycle(read)]
+#[tactic(auto, unfolding(crate::specs::Reading::expr_at))]
+fn expr(alloc: Global, depth: usize, bytes: &[u8]) -> Result<(Expr, &[u8]), CanonFault>
+    ensures { Gives (λ x. (x.0, x.1.now)) result (expr_at depth bytes.now) }
+{
+    if depth == 0 {
+        return Err(CanonFault::NotCanonical);
+    }
+    match any_head(bytes) {
+        Some((head, rest)) => parts(alloc, depth - 1, head, rest),
+        None => Err(CanonFault::NotCanonical),
+    }
+}
+
+// A node behind its head.
+#[cycle(read)]
+#[tactic(auto, unfolding(crate::specs::Reading::parts_at))]
+fn parts(alloc: Global, depth: usize, head: Head, bytes: &[u8]) -> Result<(Expr, &[u8]), CanonFault>
+    ensures { Gives (λ x. (x.0, x.1.now)) result (parts_at (expr_at depth) head bytes.now) }
+{
+    match head {
+        Head::Literal(cell) => {
+            let (cell, rest) = cell_parts(alloc, cell, bytes)?;
+            Ok((Expr::Literal(cell), rest))
+        }
+        Head::Col => col(alloc, bytes),
+        Head::Macro => {
+            let Some((var, rest)) = macro_var(bytes) else {
+                return Err(CanonFault::NotCanonical);
+            };
+            let rest = expect(rest, b")")?;
+            Ok((Expr::Macro(var), rest))
+        }
+        Head::Binary(op) => binary(alloc, depth, op, bytes),
+        Head::Neg => {
+            let (value, rest) = boxed(alloc, depth, bytes)?;
+            let rest = expect(rest, b")")?;
+            Ok((Expr::Neg(value), rest))
+        }
+        Head::Not => {
+            let (value, rest) = boxed(alloc, depth, bytes)?;
+            let rest = expect(rest, b")")?;
+            Ok((Expr::Not(value), rest))
+        }
+        Head::IsNull => {
+            let (value, rest) = boxed(alloc, depth, bytes)?;
+            let rest = expect(rest, b")")?;
+            Ok((Expr::IsNull(value), rest))
+        }
+        Head::Between => between(alloc, depth, bytes),
+        Head::OneOf => one_of(alloc, depth, bytes),
+        Head::Cast => cast(alloc, depth, bytes),
+        Head::Call => call(alloc, depth, bytes),
+        Head::Case => case(alloc, depth, bytes),
+        Head::CountAll => {
+            let rest = expect(bytes, b")")?;
+            Ok((Expr::CountAll, rest))
+        }
+        Head::Agg => agg(alloc, depth, bytes),
+    }
+}
+
+#[tactic(auto, unfolding(crate::specs::Reading::col_at))]
+fn col(alloc: Global, bytes: &[u8]) -> Result<(Expr, &[u8]), CanonFault>
+    ensures { Gives (λ x. (x.0, x.1.now)) result (col_at bytes.now) }
+{
+    let (item, rest) = number(bytes, MOST_PLACE)?;
+    let rest = expect(rest, b" ")?;
+    let (name, rest) = text(alloc, rest)?;
+    let rest = expect(rest, b")")?;
+    let item = item as u32;
+    Ok((Expr::Col { item, name }, rest))
+}
+
+#[cycle(read)]
+fn boxed(alloc: Global, depth: usize, bytes: &[u8]) -> Result<(Boxed<Expr>, &[u8]), CanonFault>
+    ensures { Gives (λ x. (x.0, x.1.now)) result (expr_at depth bytes.now) }
+{
+    let (value, rest) = expr(alloc, depth, bytes)?;
+    Ok((Boxed::new(alloc, value)?, rest))
+}
+
+#[cycle(read)]
+#[tactic(auto, unfolding(crate::specs::Reading::binary_at))]
+fn binary(alloc: Global, depth: usize, op: Op, bytes: &[u8]) -> Result<(Expr, &[u8]), CanonFault>
+    ensures { Gives (λ x. (x.0, x.1.now)) result (binary_at op (expr_at depth) bytes.now) }
+{
+    let (left, rest) = boxed(alloc, depth, bytes)?;
+    let rest = expect(rest, b" ")?;
+    let (right, rest) = boxed(alloc, depth, rest)?;
+    let rest = expect(rest, b")")?;
+    Ok((Expr::Binary { op, left, right }, rest))
+}
+
+#[cycle(read)]
+#[tactic(auto, unfolding(crate::specs::Reading::between_at))]
+fn between(alloc: Global, depth: usize, bytes: &[u8]) -> Result<(Expr, &[u8]), CanonFault>
+    ensures { Gives (λ x. (x.0, x.1.now)) result (between_at (expr_at depth) bytes.now) }
+{
+    let (value, rest) = boxed(alloc, depth, bytes)?;
+    let rest = expect(rest, b" ")?;
+    let (low, rest) = boxed(alloc, depth, rest)?;
+    let rest = expect(rest, b" ")?;
+    let (high, rest) = boxed(alloc, depth, rest)?;
+    let rest = expect(rest, b")")?;
+    Ok((Expr::Between { value, low, high }, rest))
+}
+
+#[cycle(read)]
+#[tactic(auto, unfolding(crate::specs::Reading::one_of_at))]
+fn one_of(alloc: Global, depth: usize, bytes: &[u8]) -> Result<(Expr, &[u8]), CanonFault>
+    ensures { Gives (λ x. (x.0, x.1.now)) result (one_of_at (expr_at depth) bytes.now) }
+{
+    let (value, rest) = boxed(alloc, depth, bytes)?;
+    let rest = expect(rest, b" ")?;
+    let (of, rest) = exprs(alloc, depth, rest)?;
+    let rest = expect(rest, b")")?;
+    Ok((Expr::OneOf { value, of }, rest))
+}
+
+#[cycle(read)]
+#[tactic(auto, unfolding(crate::specs::Reading::cast_at))]
+fn cast(alloc: Global, depth: usize, bytes: &[u8]) -> Result<(Expr, &[u8]), CanonFault>
+    ensures { Gives (λ x. (x.0, x.1.now)) result (cast_at (expr_at depth) bytes.now) }
+{
+    let Some((to, rest)) = column_type(bytes) else {
+        return Err(CanonFault::NotCanonical);
+    };
+    let rest = expect(rest, b" ")?;
+    let (value, rest) = boxed(alloc, depth, rest)?;
+    let rest = expect(rest, b")")?;
+    Ok((Expr::Cast { to, value }, rest))
+}
+
+#[cycle(read)]
+#[tactic(auto, unfolding(crate::specs::Reading::call_at))]
+fn call(alloc: Global, depth: usize, bytes: &[u8]) -> Result<(Expr, &[u8]), CanonFault>
+    ensures { Gives (λ x. (x.0, x.1.now)) result (call_at (expr_at depth) bytes.now) }
+{
+    let Some((func, rest)) = func(bytes) else {
+        return Err(CanonFault::NotCanonical);
+    };
+    let (args, rest) = exprs(alloc, depth, rest)?;
+    let rest = expect(rest, b")")?;
+    Ok((Expr::Call { func, args }, rest))
+}
+
+#[cycle(read)]
+#[tactic(auto, unfolding(crate::specs::Reading::case_at))]
+fn case(alloc: Global, depth: usize, bytes: &[u8]) -> Result<(Expr, &[u8]), CanonFault>
+    ensures { Gives (λ x. (x.0, x.1.now)) result (case_at (expr_at depth) bytes.now) }
+{
+    let (whens, rest) = whens(alloc, depth, bytes)?;
+    let rest = expect(rest, b" ")?;
+    let (otherwise, rest) = boxed(alloc, depth, rest)?;
+    let rest = expect(rest, b")")?;
+    Ok((Expr::Case { whens, otherwise }, rest))
+}
+
+#[cycle(read)]
+#[tactic(auto, unfolding(crate::specs::Reading::agg_parts_at))]
+fn agg(alloc: Global, depth: usize, bytes: &[u8]) -> Result<(Expr, &[u8]), CanonFault>
+    ensures { Gives (λ x. (x.0, x.1.now)) result (agg_parts_at (expr_at depth) bytes.now) }
+{
+    let Some((kind, rest)) = aggregate(bytes) else {
+        return Err(CanonFault::NotCanonical);
+    };
+    let (value, rest) = boxed(alloc, depth, rest)?;
+    let rest = expect(rest, b")")?;
+    Ok((Expr::Agg { kind, value }, rest))
+}
+
+#[cycle(read)]
+#[tactic(auto, unfolding(crate::specs::Reading::when_at))]
+fn when(alloc: Global, depth: usize, bytes: &[u8]) -> Result<(When, &[u8]), CanonFault>
+    ensures { Gives (λ x. (x.0, x.1.now)) result (when_at (expr_at depth) bytes.now) }
+{
+    let rest = expect(bytes, b"(when ")?;
+    let (test, rest) = expr(alloc, depth, rest)?;
+    let rest = expect(rest, b" ")?;
+    let (value, rest) = expr(alloc, depth, rest)?;
+    let rest = expect(rest, b")")?;
+    Ok((When { test, value }, rest))
+}
+
+#[cycle(read)]
+#[tactic(auto, unfolding(crate::specs::Reading::list_at, crate::specs::Reading::members_at))]
+fn exprs(alloc: Global, depth: usize, bytes: &[u8]) -> Result<(Exprs, &[u8]), CanonFault>
+    ensures { Gives (λ x. (x.0, x.1.now)) result (list_at (expr_at depth) bytes.now) }
+{
+    let inner = expect(bytes, b"[")?;
+    let mut made = Seq::new(alloc);
+    if let Some(rest) = after(inner, b"]") {
+        return Ok((made, rest));
+    }
+    let (first, rest) = expr(alloc, depth, inner)?;
+    made.push(first)?;
+    more_exprs(alloc, depth, made, rest)
+}
+
+#[cycle(read)]
+fn more_exprs(
+    alloc: Global,
+    depth: usize,
+    front: Exprs,
+    bytes: &[u8],
+) -> Result<(Exprs, &[u8]), CanonFault>
+    ensures { Gives (λ x. (x.0, x.1.now)) result (with_front front (more_at (expr_at depth) (length bytes.now) bytes.now)) }
+{
+    let mut made = front;
+    let mut rest = bytes;
+    for _ in 0..bytes.len() {
+        match after(rest, b"]") {
+            Some(behind) => return Ok((made, behind)),
+            None => {}
+        }
+        let behind = expect(rest, b" ")?;
+        let (item, left) = expr(alloc, depth, behind)?;
+        made.push(item)?;
+        rest = left;
+    }
+    Err(CanonFault::NotCanonical)
+}
+
+#[cycle(read)]
+#[tactic(auto, unfolding(crate::specs::Reading::list_at, crate::specs::Reading::members_at))]
+fn whens(alloc: Global, depth: usize, bytes: &[u8]) -> Result<(Whens, &[u8]), CanonFault>
+    ensures { Gives (λ x. (x.0, x.1.now)) result (list_at (when_at (expr_at depth)) bytes.now) }
+{
+    let inner = expect(bytes, b"[")?;
+    let mut made = Seq::new(alloc);
+    if let Some(rest) = after(inner, b"]") {
+        return Ok((made, rest));
+    }
+    let (first, rest) = when(alloc, depth, inner)?;
+    made.push(first)?;
+    more_whens(alloc, depth, made, rest)
+}
+
+#[cycle(read)]
+fn more_whens(
+    alloc: Global,
+    depth: usize,
+    front: Whens,
+    bytes: &[u8],
+) -> Result<(Whens, &[u8]), CanonFault>
+    ensures { Gives (λ x. (x.0, x.1.now)) result (with_front front (more_at (when_at (expr_at depth)) (length bytes.now) bytes.now)) }
+{
+    let mut made = front;
+    let mut rest = bytes;
+    for _ in 0..bytes.len() {
+        match after(rest, b"]") {
+            Some(behind) => return Ok((made, behind)),
+            None => {}
+        }
+        let behind = expect(rest, b" ")?;
+        let (item, left) = when(alloc, depth, behind)?;
+        made.push(item)?;
+        rest = left;
+    }
+    Err(CanonFault::NotCanonical)
+}
+
+impl Readable for Expr {
+    ghost reading = { any_expr_at };
+
+    fn read(alloc: Global, bytes: &[u8]) -> Result<(Expr, &[u8]), CanonFault> {
+        expr(alloc, bytes.len(), bytes)
+    }
+}
+
+/// An expression, or `none`.
+#[tactic(auto, unfolding(crate::specs::Reading::option_at))]
+pub(crate) fn option(alloc: Global, bytes: &[u8]) -> Result<(Option<Expr>, &[u8]), CanonFault>
+    ensures { Gives (λ x. (x.0, x.1.now)) result (option_at bytes.now) }
+{
+    if let Some(rest) = after(bytes, b"none") {
+        return Ok((None, rest));
+    }
+    let (value, rest) = expr(alloc, bytes.len(), bytes)?;
+    Ok((Some(value), rest))
+}

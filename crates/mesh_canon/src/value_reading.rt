@@ -1,0 +1,109 @@
+// Cells, rows, columns and names, read.
+ghost use Rattle.std.specs.Prelude.{◌≡◌, ◌-◌, ◌^◌};
+ghost use Rattle.mesh_canon.specs.Reading.{Gives, cell_at, cell_parts_at, column_at, name_at, row_at, signed_at, text_at};
+
+use crate::fault::CanonFault;
+use crate::heads::{CellHead, cell_head, column_type};
+use crate::read::{Readable, list};
+use crate::words::{expect, signed, text};
+use mesh_base::{Cell, Column, Name, Row, Str};
+use std::alloc::Global;
+
+const MOST_INT: u64 = 0x7fff_ffff_ffff_ffff;
+
+const MOST_DAY: u64 = 0x7fff_ffff;
+
+impl Readable for Str {
+    ghost reading = { text_at };
+
+    fn read(alloc: Global, bytes: &[u8]) -> Result<(Str, &[u8]), CanonFault> {
+        text(alloc, bytes)
+    }
+}
+
+/// A day, or another number of 32 bits with a sign.
+pub(crate) fn day(bytes: &[u8]) -> Result<(i32, &[u8]), CanonFault>
+    ensures { Gives (λ x. (x.0, x.1.now)) result (signed_at (2 ^ 31 - 1) bytes.now) }
+{
+    let (number, rest) = signed(bytes, MOST_DAY)?;
+    Ok((number as i32, rest))
+}
+
+/// A cell behind its head.
+#[tactic(auto, unfolding(crate::specs::Reading::cell_parts_at))]
+pub(crate) fn cell_parts(
+    alloc: Global,
+    head: CellHead,
+    bytes: &[u8],
+) -> Result<(Cell, &[u8]), CanonFault>
+    ensures { Gives (λ x. (x.0, x.1.now)) result (cell_parts_at head bytes.now) }
+{
+    match head {
+        CellHead::Null => Ok((Cell::Null, bytes)),
+        CellHead::True => Ok((Cell::Bool(true), bytes)),
+        CellHead::False => Ok((Cell::Bool(false), bytes)),
+        CellHead::Int => {
+            let (number, rest) = signed(bytes, MOST_INT)?;
+            let rest = expect(rest, b")")?;
+            Ok((Cell::Int(number), rest))
+        }
+        CellHead::Text => {
+            let (text, rest) = text(alloc, bytes)?;
+            let rest = expect(rest, b")")?;
+            Ok((Cell::Text(text), rest))
+        }
+        CellHead::Date => {
+            let (day, rest) = day(bytes)?;
+            let rest = expect(rest, b")")?;
+            Ok((Cell::Date(day), rest))
+        }
+    }
+}
+
+impl Readable for Cell {
+    ghost reading = { cell_at };
+
+    #[tactic(auto, unfolding(crate::specs::Reading::cell_at))]
+    fn read(alloc: Global, bytes: &[u8]) -> Result<(Cell, &[u8]), CanonFault> {
+        match cell_head(bytes) {
+            Some((head, rest)) => cell_parts(alloc, head, rest),
+            None => Err(CanonFault::NotCanonical),
+        }
+    }
+}
+
+impl Readable for Row {
+    ghost reading = { row_at };
+
+    #[tactic(auto, unfolding(crate::specs::Reading::row_at))]
+    fn read(alloc: Global, bytes: &[u8]) -> Result<(Row, &[u8]), CanonFault> {
+        list(alloc, bytes)
+    }
+}
+
+impl Readable for Column {
+    ghost reading = { column_at };
+
+    #[tactic(auto, unfolding(crate::specs::Reading::column_at))]
+    fn read(alloc: Global, bytes: &[u8]) -> Result<(Column, &[u8]), CanonFault> {
+        let rest = expect(bytes, b"(column ")?;
+        let (name, rest) = text(alloc, rest)?;
+        let rest = expect(rest, b" ")?;
+        let Some((kind, rest)) = column_type(rest) else {
+            return Err(CanonFault::NotCanonical);
+        };
+        let rest = expect(rest, b")")?;
+        Ok((Column { name, kind }, rest))
+    }
+}
+
+/// A schema and a model.
+#[tactic(auto, unfolding(crate::specs::Reading::name_at))]
+pub(crate) fn name(alloc: Global, bytes: &[u8]) -> Result<(Name, &[u8]), CanonFault>
+    ensures { Gives (λ x. (x.0, x.1.now)) result (name_at bytes.now) }
+{
+    let (schema, rest) = text(alloc, bytes)?;
+    let rest = expect(rest, b" ")?;
+    let (model, rest) = text(alloc, rest)?;
+    Ok((Name { schema, model }, rest))
+}

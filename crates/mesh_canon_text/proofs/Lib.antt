@@ -1,0 +1,4 @@
+pub mod Digits
+pub mod Joined
+pub mod Members
+pub mod Places

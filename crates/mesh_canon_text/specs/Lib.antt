@@ -1,0 +1,2 @@
+-- Text: the canonical text of a definition, and of a list of texts.
+pub mod Text

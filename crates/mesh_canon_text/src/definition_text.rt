@@ -1,0 +1,205 @@
+// Definitions, written, and lists of texts.
+ghost use Rattle.std.specs.Prelude.{◌≡◌, ◌++◌, codes, IfOk, OnOk};
+ghost use Rattle.std.specs.List.{flat_map};
+ghost use Rattle.hex.specs.Hex.{encode_lower};
+ghost use Rattle.mesh_canon_text.specs.Text.{◌·◌, body_text, cron_text, kind_text, list_of, list_text, node_text, own_text, parent_text, source_text, start_text, text_of, time_text, unit_word};
+
+use crate::cron_text::put_cron;
+use crate::number_text::{put, put_signed, put_text};
+use crate::query_text::put_query;
+use crate::value_text::put_name;
+use crate::written::{Written, put_list};
+use mesh_base::{Decl, Defn, Kind, Own, Ref, Refs, Str, Strs, Unit};
+use mesh_list::{Memory, Seq};
+use std::alloc::Global;
+
+#[tactic(auto, unfolding(crate::specs::Text::kind_text))]
+fn put_kind(out: &mut Vec<u8>, kind: &Kind) -> Result<(), Memory>
+    ensures { OnOk result (out.new.items ≡ out.old.items ++ kind_text kind.now) }
+{
+    match kind {
+        Kind::Full => out.extend_from_slice(b"(full)")?,
+        Kind::View => out.extend_from_slice(b"(view)")?,
+        Kind::Seed => out.extend_from_slice(b"(seed)")?,
+        Kind::Incremental { time } => {
+            out.extend_from_slice(b"(incremental ")?;
+            put_text(out, time.as_slice())?;
+            out.push(b')')?;
+        }
+    }
+    Ok(())
+}
+
+fn unit_word(unit: Unit) -> &'static [u8]
+    ensures { result.now ≡ unit_word unit }
+{
+    match unit {
+        Unit::Hour => b"hour",
+        Unit::Day => b"day",
+    }
+}
+
+// A day, or `none`.
+#[tactic(auto, unfolding(crate::specs::Text::start_text))]
+fn put_start(out: &mut Vec<u8>, start: Option<i32>) -> Result<(), Memory>
+    ensures { OnOk result (out.new.items ≡ out.old.items ++ start_text start) }
+{
+    match start {
+        None => {
+            out.extend_from_slice(b"none")?;
+            Ok(())
+        }
+        Some(day) => put_signed(out, i64::from(day)),
+    }
+}
+
+// A text, or `none`.
+#[tactic(auto, unfolding(crate::specs::Text::time_text))]
+fn put_time(out: &mut Vec<u8>, time: &Option<Str>) -> Result<(), Memory>
+    ensures { OnOk result (out.new.items ≡ out.old.items ++ time_text time.now) }
+{
+    match time {
+        None => {
+            out.extend_from_slice(b"none")?;
+            Ok(())
+        }
+        Some(time) => put_text(out, time.as_slice()),
+    }
+}
+
+impl Written for Decl {
+    ghost text = { source_text };
+
+    #[tactic(auto, unfolding(crate::specs::Text::source_text))]
+    fn put(&self, out: &mut Vec<u8>) -> Result<(), Memory> {
+        out.extend_from_slice(b"(source ")?;
+        put_name(out, &self.name)?;
+        out.push(b' ')?;
+        put_list(out, self.columns.as_slice())?;
+        out.push(b' ')?;
+        put_time(out, &self.time)?;
+        out.push(b')')?;
+        Ok(())
+    }
+}
+
+#[tactic(auto, unfolding(crate::specs::Text::body_text))]
+fn put_body(out: &mut Vec<u8>, body: &Defn) -> Result<(), Memory>
+    ensures { OnOk result (out.new.items ≡ out.old.items ++ body_text body.now) }
+{
+    match body {
+        Defn::Seed { columns, rows } => {
+            out.extend_from_slice(b"(seed ")?;
+            put_list(out, columns.as_slice())?;
+            out.push(b' ')?;
+            put_list(out, rows.as_slice())?;
+            out.push(b')')?;
+            Ok(())
+        }
+        Defn::Sql(query) => put_query(out, query),
+    }
+}
+
+#[tactic(auto, unfolding(crate::specs::Text::own_text))]
+fn put_own(alloc: Global, out: &mut Vec<u8>, m: &Own) -> Result<(), Memory>
+    ensures { OnOk result (out.new.items ≡ out.old.items ++ own_text m.now) }
+{
+    put_head(out, m)?;
+    put_times(alloc, out, m)?;
+    put_rest(out, m)
+}
+
+// The name and the kind.
+fn put_head(out: &mut Vec<u8>, m: &Own) -> Result<(), Memory>
+    ensures { OnOk result (out.new.items ≡ out.old.items ++ (codes "(own " · text_of m.now.name.schema · codes " " · text_of m.now.name.model · codes " " · kind_text m.now.kind · codes " ")) }
+{
+    put(out, b"(own ")?;
+    put_name(out, &m.name)?;
+    put(out, b" ")?;
+    put_kind(out, &m.kind)?;
+    put(out, b" ")
+}
+
+// The cron, the unit and the start.
+fn put_times(alloc: Global, out: &mut Vec<u8>, m: &Own) -> Result<(), Memory>
+    ensures { OnOk result (out.new.items ≡ out.old.items ++ (cron_text m.now.cron · codes " " · unit_word m.now.unit · codes " " · start_text m.now.start · codes " ")) }
+{
+    put_cron(alloc, out, &m.cron)?;
+    put(out, b" ")?;
+    put(out, unit_word(m.unit))?;
+    put(out, b" ")?;
+    put_start(out, m.start)?;
+    put(out, b" ")
+}
+
+// The sources and the body.
+fn put_rest(out: &mut Vec<u8>, m: &Own) -> Result<(), Memory>
+    ensures { OnOk result (out.new.items ≡ out.old.items ++ (list_of source_text m.now.sources · codes " " · body_text m.now.defn · codes ")")) }
+{
+    put_list(out, m.sources.as_slice())?;
+    put(out, b" ")?;
+    put_body(out, &m.defn)?;
+    put(out, b")")
+}
+
+// The line of a parent. A fingerprint is 64 hexadecimal digits of lower case.
+#[tactic(auto, unfolding(crate::specs::Text::parent_text))]
+fn put_parent(out: &mut Vec<u8>, parent: &Ref) -> Result<(), Memory>
+    ensures { OnOk result (out.new.items ≡ out.old.items ++ parent_text parent.now) }
+{
+    out.extend_from_slice(b"(parent ")?;
+    put_name(out, &parent.name)?;
+    out.push(b' ')?;
+    put_fingerprint(out, &parent.fingerprint)?;
+    out.extend_from_slice(b")\n")?;
+    Ok(())
+}
+
+fn put_fingerprint(out: &mut Vec<u8>, fingerprint: &[u8; 32]) -> Result<(), Memory>
+    ensures { OnOk result (out.new.items ≡ out.old.items ++ encode_lower fingerprint.now) }
+{
+    let mut digits = [0u8; 64];
+    if let Ok(()) = hex::encode_to_slice(*fingerprint, &mut digits) {
+        out.extend_from_slice(&digits)?;
+    }
+    Ok(())
+}
+
+fn put_parents(out: &mut Vec<u8>, parents: &[Ref]) -> Result<(), Memory>
+    ensures { OnOk result (out.new.items ≡ out.old.items ++ flat_map parent_text parents.now) }
+{
+    for parent in parents {
+        put_parent(out, parent)?;
+    }
+    Ok(())
+}
+
+/// The canonical text of a definition.
+pub fn own_text(alloc: Global, m: &Own) -> Result<Str, Memory>
+    ensures { IfOk result (λ text. text ≡ own_text m.now) }
+{
+    let mut out = Vec::new(alloc);
+    put_own(alloc, &mut out, m)?;
+    Ok(Seq::from_vec(out))
+}
+
+/// The text that a model's fingerprint is made of, with the parents in the order given.
+#[tactic(auto, unfolding(crate::specs::Text::node_text))]
+pub fn node_text(alloc: Global, m: &Own, parents: &Refs) -> Result<Str, Memory>
+    ensures { IfOk result (λ text. text ≡ node_text m.now parents.now) }
+{
+    let mut out = Vec::new(alloc);
+    put_own(alloc, &mut out, m)?;
+    out.push(b'\n')?;
+    put_parents(&mut out, parents.as_slice())?;
+    Ok(Seq::from_vec(out))
+}
+
+/// The list of these texts, each with its length.
+pub fn list_text(alloc: Global, parts: &Strs) -> Result<Str, Memory>
+    ensures { IfOk result (λ text. text ≡ list_text parts.now) }
+{
+    let mut out = Vec::new(alloc);
+    put_list(&mut out, parts.as_slice())?;
+    Ok(Seq::from_vec(out))
+}

@@ -1,0 +1,237 @@
+// Expressions, written. The functions call one another, as the types lead to one another.
+ghost use Rattle.std.specs.Prelude.{◌≡◌, ◌++◌, map, OnOk};
+ghost use Rattle.mesh_base.specs.declared.expressions.Expr.TheOpen.{Col, Macro};
+ghost use Rattle.mesh_canon_text.specs.Text.{agg_word, expr_here, expr_text, func_word, gap, list_of, macro_word, op_word, option_text, when_text};
+
+use crate::number_text::{put, put_number, put_text};
+use crate::value_text::{put_cell, type_word};
+use crate::written::Written;
+use mesh_base::{AggKind, Expr, Func, Op, Str, Var, When};
+use mesh_list::Memory;
+
+fn op_word(op: Op) -> &'static [u8]
+    ensures { result.now ≡ op_word op }
+{
+    match op {
+        Op::Add => b"add",
+        Op::Sub => b"sub",
+        Op::Mul => b"mul",
+        Op::Div => b"div",
+        Op::Rem => b"rem",
+        Op::Cat => b"cat",
+        Op::Eq => b"eq",
+        Op::Ne => b"ne",
+        Op::Lt => b"lt",
+        Op::Le => b"le",
+        Op::Gt => b"gt",
+        Op::Ge => b"ge",
+        Op::And => b"and",
+        Op::Or => b"or",
+    }
+}
+
+fn func_word(func: Func) -> &'static [u8]
+    ensures { result.now ≡ func_word func }
+{
+    match func {
+        Func::Abs => b"abs",
+        Func::Length => b"length",
+        Func::Upper => b"upper",
+        Func::Lower => b"lower",
+        Func::Nullif => b"nullif",
+        Func::Coalesce => b"coalesce",
+    }
+}
+
+fn agg_word(kind: AggKind) -> &'static [u8]
+    ensures { result.now ≡ agg_word kind }
+{
+    match kind {
+        AggKind::Count => b"count",
+        AggKind::Countd => b"countd",
+        AggKind::Sum => b"sum",
+        AggKind::Min => b"min",
+        AggKind::Max => b"max",
+    }
+}
+
+fn macro_word(var: Var) -> &'static [u8]
+    ensures { result.now ≡ macro_word var }
+{
+    match var {
+        Var::StartDate => b"start_date",
+        Var::EndDate => b"end_date",
+        Var::StartDs => b"start_ds",
+        Var::EndDs => b"end_ds",
+        Var::StartEpoch => b"start_epoch",
+        Var::EndEpoch => b"end_epoch",
+    }
+}
+
+// What stands before a member at a place.
+fn gap(place: usize) -> &'static [u8]
+    ensures { result.now ≡ gap place }
+{
+    if place == 0 { b"" } else { b" " }
+}
+
+#[tactic(auto, unfolding(crate::specs::Text::expr_here))]
+fn put_col(out: &mut Vec<u8>, item: u32, name: &Str) -> Result<(), Memory>
+    ensures { OnOk result (out.new.items ≡ out.old.items ++ expr_here (Col item name.now)) }
+{
+    put(out, b"(col ")?;
+    put_number(out, u64::from(item))?;
+    put(out, b" ")?;
+    put_text(out, name.as_slice())?;
+    put(out, b")")
+}
+
+#[tactic(auto, unfolding(crate::specs::Text::expr_here))]
+fn put_macro(out: &mut Vec<u8>, var: Var) -> Result<(), Memory>
+    ensures { OnOk result (out.new.items ≡ out.old.items ++ expr_here (Macro var)) }
+{
+    put(out, b"(var ")?;
+    put(out, macro_word(var))?;
+    put(out, b")")
+}
+
+#[cycle(put)]
+#[tactic(auto, unfolding(crate::specs::Text::expr_here))]
+fn put_expr(out: &mut Vec<u8>, e: &Expr) -> Result<(), Memory>
+    ensures { OnOk result (out.new.items ≡ out.old.items ++ expr_text e.now) }
+{
+    match e {
+        Expr::Literal(cell) => put_cell(out, cell),
+        Expr::Col { item, name } => put_col(out, *item, name),
+        Expr::Macro(var) => put_macro(out, *var),
+        Expr::CountAll => put(out, b"(count)"),
+        Expr::Binary { op, left, right } => {
+            put(out, b"(")?;
+            put(out, op_word(*op))?;
+            put(out, b" ")?;
+            put_expr(out, left.get())?;
+            put(out, b" ")?;
+            put_expr(out, right.get())?;
+            put(out, b")")
+        }
+        Expr::Neg(value) => {
+            put(out, b"(neg ")?;
+            put_expr(out, value.get())?;
+            put(out, b")")
+        }
+        Expr::Not(value) => {
+            put(out, b"(not ")?;
+            put_expr(out, value.get())?;
+            put(out, b")")
+        }
+        Expr::IsNull(value) => {
+            put(out, b"(isnull ")?;
+            put_expr(out, value.get())?;
+            put(out, b")")
+        }
+        Expr::Between { value, low, high } => {
+            put(out, b"(between ")?;
+            put_expr(out, value.get())?;
+            put(out, b" ")?;
+            put_expr(out, low.get())?;
+            put(out, b" ")?;
+            put_expr(out, high.get())?;
+            put(out, b")")
+        }
+        Expr::OneOf { value, of } => {
+            put(out, b"(in ")?;
+            put_expr(out, value.get())?;
+            put(out, b" ")?;
+            put_exprs(out, of.as_slice())?;
+            put(out, b")")
+        }
+        Expr::Cast { to, value } => {
+            put(out, b"(cast ")?;
+            put(out, type_word(*to))?;
+            put(out, b" ")?;
+            put_expr(out, value.get())?;
+            put(out, b")")
+        }
+        Expr::Call { func, args } => {
+            put(out, b"(call ")?;
+            put(out, func_word(*func))?;
+            put(out, b" ")?;
+            put_exprs(out, args.as_slice())?;
+            put(out, b")")
+        }
+        Expr::Case { whens, otherwise } => {
+            put(out, b"(case ")?;
+            put_whens(out, whens.as_slice())?;
+            put(out, b" ")?;
+            put_expr(out, otherwise.get())?;
+            put(out, b")")
+        }
+        Expr::Agg { kind, value } => {
+            put(out, b"(agg ")?;
+            put(out, agg_word(*kind))?;
+            put(out, b" ")?;
+            put_expr(out, value.get())?;
+            put(out, b")")
+        }
+    }
+}
+
+#[cycle(put)]
+#[tactic(auto, unfolding(crate::specs::Text::list_of), using(crate::proofs::Members::members_push))]
+fn put_exprs(out: &mut Vec<u8>, all: &[Expr]) -> Result<(), Memory>
+    ensures { OnOk result (out.new.items ≡ out.old.items ++ list_of (λ t. t) (map expr_text all.now)) }
+{
+    put(out, b"[")?;
+    for (i, e) in all.iter().enumerate() {
+        put(out, gap(i))?;
+        put_expr(out, e)?;
+    }
+    put(out, b"]")
+}
+
+#[cycle(put)]
+#[tactic(auto, unfolding(crate::specs::Text::list_of), using(crate::proofs::Members::members_push))]
+fn put_whens(out: &mut Vec<u8>, all: &[When]) -> Result<(), Memory>
+    ensures { OnOk result (out.new.items ≡ out.old.items ++ list_of (λ t. t) (map when_text all.now)) }
+{
+    put(out, b"[")?;
+    for (i, w) in all.iter().enumerate() {
+        put(out, gap(i))?;
+        put_when(out, w)?;
+    }
+    put(out, b"]")
+}
+
+#[cycle(put)]
+#[tactic(auto, unfolding(crate::specs::Text::when_here))]
+fn put_when(out: &mut Vec<u8>, w: &When) -> Result<(), Memory>
+    ensures { OnOk result (out.new.items ≡ out.old.items ++ when_text w.now) }
+{
+    put(out, b"(when ")?;
+    put_expr(out, &w.test)?;
+    put(out, b" ")?;
+    put_expr(out, &w.value)?;
+    put(out, b")")
+}
+
+impl Written for Expr {
+    ghost text = { expr_text };
+
+    fn put(&self, out: &mut Vec<u8>) -> Result<(), Memory> {
+        put_expr(out, self)
+    }
+}
+
+/// An expression, or `none`.
+#[tactic(auto, unfolding(crate::specs::Text::option_text))]
+pub(crate) fn put_option(out: &mut Vec<u8>, e: &Option<Expr>) -> Result<(), Memory>
+    ensures { OnOk result (out.new.items ≡ out.old.items ++ option_text e.now) }
+{
+    match e {
+        None => {
+            out.extend_from_slice(b"none")?;
+            Ok(())
+        }
+        Some(e) => put_expr(out, e),
+    }
+}

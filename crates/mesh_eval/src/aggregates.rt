@@ -1,0 +1,111 @@
+// The values of aggregates over a list of cells.
+ghost use Rattle.std.specs.Prelude.{◌≡◌, IfOk};
+ghost use Rattle.std.specs.List.{fold, list_any};
+ghost use Rattle.mesh_meaning.specs.Aggregates.{distinct, same_cell, known, is_number, addend, total, smaller, larger, agg_value};
+
+use crate::cells::is_null;
+use mesh_base::{AggKind, Cell, Row, cell_cmp};
+use mesh_list::{Duplicate, Memory};
+
+pub(crate) fn aggregate(kind: AggKind, cells: &Row) -> Result<Cell, Memory>
+    ensures { IfOk result (λ v. v ≡ agg_value kind cells.now) }
+{
+    match kind {
+        AggKind::Count => Ok(Cell::Int(known_cells(cells)?.len() as i64)),
+        AggKind::Countd => Ok(Cell::Int(distinct_cells(&known_cells(cells)?)?.len() as i64)),
+        AggKind::Sum => Ok(total_of(cells.as_slice())),
+        AggKind::Min => smallest(cells),
+        AggKind::Max => largest(cells),
+    }
+}
+
+fn known_cells(cells: &Row) -> Result<Row, Memory>
+    ensures { IfOk result (λ made. made ≡ known cells.now) }
+{
+    let mut made = Row::new(cells.alloc());
+    for c in cells.as_slice() {
+        if !is_null(c) {
+            made.push(c.copy()?)?;
+        }
+    }
+    Ok(made)
+}
+
+fn distinct_cells(cells: &Row) -> Result<Row, Memory>
+    ensures { IfOk result (λ made. made ≡ distinct same_cell cells.now) }
+{
+    let mut made = Row::new(cells.alloc());
+    for c in cells.as_slice() {
+        if !stands_in(c, made.as_slice()) {
+            made.push(c.copy()?)?;
+        }
+    }
+    Ok(made)
+}
+
+fn stands_in(c: &Cell, cells: &[Cell]) -> bool
+    ensures { result ≡ list_any (same_cell c.now) cells.now }
+{
+    cells.iter().any(|other| cell_cmp(other, c).is_eq())
+}
+
+fn is_number(c: &Cell) -> bool
+    ensures { result ≡ is_number c.now }
+{
+    matches!(c, Cell::Int(_))
+}
+
+fn addend(c: &Cell) -> i64
+    ensures { result ≡ addend c.now }
+{
+    match c {
+        Cell::Int(n) => *n,
+        _ => 0,
+    }
+}
+
+fn has_number(cells: &[Cell]) -> bool
+    ensures { result ≡ list_any is_number cells.now }
+{
+    cells.iter().any(|c| is_number(c))
+}
+
+fn total_of(cells: &[Cell]) -> Cell
+    ensures { result ≡ total cells.now }
+{
+    if !has_number(cells) {
+        return Cell::Null;
+    }
+    let mut sum: i128 = 0;
+    for c in cells {
+        sum += addend(c) as i128;
+    }
+    match i64::try_from(sum) {
+        Ok(n) => Cell::Int(n),
+        Err(_) => Cell::Null,
+    }
+}
+
+fn smallest(cells: &Row) -> Result<Cell, Memory>
+    ensures { IfOk result (λ v. v ≡ fold smaller Cell.Null cells.now) }
+{
+    let mut best = Cell::Null;
+    for c in cells.as_slice() {
+        if is_null(&best) || !is_null(c) && cell_cmp(c, &best).is_lt() {
+            best = c.copy()?;
+        }
+    }
+    Ok(best)
+}
+
+fn largest(cells: &Row) -> Result<Cell, Memory>
+    ensures { IfOk result (λ v. v ≡ fold larger Cell.Null cells.now) }
+{
+    let mut best = Cell::Null;
+    for c in cells.as_slice() {
+        if cell_cmp(&best, c).is_lt() {
+            best = c.copy()?;
+        }
+    }
+    Ok(best)
+}

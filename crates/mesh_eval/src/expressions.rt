@@ -1,0 +1,198 @@
+// The value of an expression.
+ghost use Rattle.std.specs.Prelude.{◌≡◌, IfOk, map, pos, length};
+ghost use Rattle.std.specs.List.{fold};
+ghost use Rattle.mesh_meaning.specs.Cells.{chosen, one_of, func_value};
+ghost use Rattle.mesh_meaning.specs.Ev.{Ev, Ev_node, Ev_each, Ev_when, Ev_whens, at_row, seen, key_of, over_group};
+ghost use Rattle.mesh_meaning.specs.Aggregates.{agg_value, count_of};
+ghost use Rattle.mesh_eval.specs.Frames.{scope_of};
+
+use crate::aggregates::aggregate;
+use crate::casts::cast;
+use crate::cells::{call, equal, is_null, is_true, lies_between, negate, not, operate, or};
+use crate::frames::{Frame, cell_at, column};
+use crate::macros::bound;
+use mesh_base::{AggKind, Bounds, Cell, Columns, Expr, Func, Row, When};
+use mesh_list::{Duplicate, Memory};
+use mesh_meaning::Joined;
+use std::alloc::Global;
+
+#[tactic(auto, using(mesh_meaning::proofs::Nodes::Ev_out))]
+#[cycle(ev)]
+pub(crate) fn ev(alloc: Global, e: &Expr, f: &Frame) -> Result<Cell, Memory>
+    ensures { IfOk result (λ v. v ≡ Ev e.now (scope_of f.now)) }
+{
+    match key_of(e, f) {
+        Some(k) => cell_at(f.key_values, k),
+        None => ev_node(alloc, e, f),
+    }
+}
+
+fn key_of(e: &Expr, f: &Frame) -> Option<usize>
+    ensures { result ≡ key_of (scope_of f.now) e.now }
+{
+    f.keys.iter().position(|key| key == e)
+}
+
+#[cycle(ev)]
+fn ev_node(alloc: Global, e: &Expr, f: &Frame) -> Result<Cell, Memory>
+    ensures { IfOk result (λ v. v ≡ Ev_node e.now (scope_of f.now)) }
+{
+    match e {
+        Expr::Literal(c) => c.copy(),
+        Expr::Col { item, name } => column(f, *item, name),
+        Expr::Macro(var) => bound(alloc, *var, f.bounds),
+        Expr::Binary { op, left, right } => operate(
+            *op,
+            &ev(alloc, left.get(), f)?,
+            &ev(alloc, right.get(), f)?,
+        ),
+        Expr::Neg(value) => Ok(negate(&ev(alloc, value.get(), f)?)),
+        Expr::Not(value) => Ok(not(&ev(alloc, value.get(), f)?)),
+        Expr::IsNull(value) => Ok(Cell::Bool(is_null(&ev(alloc, value.get(), f)?))),
+        Expr::Between { value, low, high } => Ok(lies_between(
+            &ev(alloc, value.get(), f)?,
+            &ev(alloc, low.get(), f)?,
+            &ev(alloc, high.get(), f)?,
+        )),
+        Expr::OneOf { value, of } => {
+            let x = ev(alloc, value.get(), f)?;
+            Ok(ev_one_of(alloc, &x, of.as_slice(), f)?)
+        }
+        Expr::Cast { to, value } => cast(alloc, *to, ev(alloc, value.get(), f)?),
+        Expr::Call { func, args } => Ok(ev_call(alloc, *func, args.as_slice(), f)?),
+        Expr::Case { whens, otherwise } => {
+            // ELSE has its value only where no WHEN is true.
+            match ev_whens(alloc, whens.as_slice(), f)? {
+                Some(v) => Ok(v),
+                None => Ok(ev(alloc, otherwise.get(), f)?),
+            }
+        }
+        Expr::CountAll => Ok(count_group(f)),
+        Expr::Agg { kind, value } => Ok(ev_agg(alloc, *kind, value.get(), f)?),
+    }
+}
+
+#[cycle(ev)]
+fn ev_call(alloc: Global, func: Func, args: &[Expr], f: &Frame) -> Result<Cell, Memory>
+    ensures { IfOk result (λ v. v ≡ func_value func (Ev_each args.now (scope_of f.now))) }
+{
+    call(func, ev_each(alloc, args, f)?)
+}
+
+#[cycle(ev)]
+fn ev_agg(alloc: Global, kind: AggKind, value: &Expr, f: &Frame) -> Result<Cell, Memory>
+    ensures { IfOk result (λ v. v ≡ over_group (λ rows. agg_value kind (map (λ row. Ev value.now (at_row f.now.bounds row)) rows)) (scope_of f.now).group) }
+{
+    match f.group {
+        None => Ok(Cell::Null),
+        Some(rows) => {
+            let cells = ev_rows(alloc, value, f.columns, rows, f.bounds)?;
+            aggregate(kind, &cells)
+        }
+    }
+}
+
+fn count_group(f: &Frame) -> Cell
+    ensures { result ≡ over_group count_of (scope_of f.now).group }
+{
+    match f.group {
+        None => Cell::Null,
+        Some(rows) => count_rows(rows),
+    }
+}
+
+#[cycle(ev)]
+pub(crate) fn ev_each(alloc: Global, all: &[Expr], f: &Frame) -> Result<Row, Memory>
+    ensures { IfOk result (λ v. v ≡ Ev_each all.now (scope_of f.now)) }
+{
+    let mut made = Row::new(alloc);
+    for e in all {
+        made.push(ev(alloc, e, f)?)?;
+    }
+    Ok(made)
+}
+
+#[cycle(ev)]
+fn ev_one_of(alloc: Global, x: &Cell, all: &[Expr], f: &Frame) -> Result<Cell, Memory>
+    ensures { IfOk result (λ v. v ≡ one_of x.now (Ev_each all.now (scope_of f.now))) }
+{
+    let mut found = Cell::Bool(false);
+    for e in all {
+        found = or(&found, &equal(x, &ev(alloc, e, f)?));
+    }
+    Ok(found)
+}
+
+#[cycle(ev)]
+fn ev_whens(alloc: Global, whens: &[When], f: &Frame) -> Result<Option<Cell>, Memory>
+    ensures { IfOk result (λ v. v ≡ fold chosen None (Ev_whens whens.now (scope_of f.now))) }
+{
+    let mut found = None;
+    for w in whens {
+        if found.is_none() {
+            found = ev_when(alloc, w, f)?;
+        }
+    }
+    Ok(found)
+}
+
+#[tactic(auto, using(mesh_meaning::proofs::Nodes::Ev_when_is))]
+#[cycle(ev)]
+fn ev_when(alloc: Global, w: &When, f: &Frame) -> Result<Option<Cell>, Memory>
+    ensures { IfOk result (λ v. v ≡ chosen None (Ev_when w.now (scope_of f.now))) }
+{
+    let test = ev(alloc, &w.test, f)?;
+    if is_true(&test) {
+        let value = ev(alloc, &w.value, f)?;
+        Ok(Some(value))
+    } else {
+        Ok(None)
+    }
+}
+
+fn count_rows(rows: &[Joined]) -> Cell
+    ensures { result ≡ Cell.Int (pos (length rows.now)) }
+{
+    Cell::Int(rows.len() as i64)
+}
+
+/// The values at each row of a group.
+#[cycle(ev)]
+fn ev_rows(
+    alloc: Global,
+    value: &Expr,
+    columns: &[Columns],
+    rows: &[Joined],
+    bounds: Bounds,
+) -> Result<Row, Memory>
+    ensures { IfOk result (λ v. v ≡ map (λ row. Ev value.now (at_row bounds row)) (map (seen columns.now) rows.now)) }
+{
+    let mut made = Row::new(alloc);
+    for row in rows {
+        let value_here = ev_row(alloc, value, columns, row.as_slice(), bounds)?;
+        made.push(value_here)?;
+    }
+    Ok(made)
+}
+
+/// The value at a row by itself.
+#[cycle(ev)]
+pub(crate) fn ev_row<'x>(
+    alloc: Global,
+    value: &Expr,
+    columns: &'x [Columns],
+    row: &'x [Row],
+    bounds: Bounds,
+) -> Result<Cell, Memory>
+    ensures { IfOk result (λ v. v ≡ Ev value.now (at_row bounds (seen columns.now row.now))) }
+{
+    let f = Frame {
+        columns,
+        row,
+        keys: &[],
+        key_values: &[],
+        group: None,
+        bounds,
+    };
+    ev(alloc, value, &f)
+}

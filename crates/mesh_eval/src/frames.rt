@@ -1,0 +1,89 @@
+// What an expression sees.
+ghost use Rattle.std.specs.Prelude.{◌≡◌, IfOk, slice_get, slice_index_or, []};
+ghost use Rattle.std.specs.Option.{option_copied};
+ghost use Rattle.mesh_base.specs.Picked.{same_text, cell_of};
+ghost use Rattle.mesh_meaning.specs.Ev.{seen};
+ghost use Rattle.mesh_eval.specs.Frames.{cell_or_null};
+
+use mesh_base::{Bounds, Cell, Column, Columns, Expr, Row, Str};
+use mesh_list::{Duplicate, Memory};
+use mesh_meaning::Joined;
+
+/// The columns and the row of each item of a FROM, the keys with their values, and the rows of the group.
+#[derive(Drop)]
+pub(crate) struct Frame<'a> {
+    pub(crate) columns: &'a [Columns],
+    pub(crate) row: &'a [Row],
+    pub(crate) keys: &'a [Expr],
+    pub(crate) key_values: &'a [Cell],
+    pub(crate) group: Option<&'a [Joined]>,
+    pub(crate) bounds: Bounds,
+}
+
+/// The cell at a place, where there is one.
+pub(crate) fn cell_at(cells: &[Cell], k: usize) -> Result<Cell, Memory>
+    ensures { IfOk result (λ v. v ≡ slice_index_or cells.now k Cell.Null) }
+{
+    match cells.get(k) {
+        Some(c) => c.copy(),
+        None => Ok(Cell::Null),
+    }
+}
+
+fn is_named(column: &Column, name: &Str) -> bool
+    ensures { result ≡ same_text column.now.name name.now }
+{
+    column.name.as_slice().cmp(&name.as_slice()).is_eq()
+}
+
+fn found_at(row: &[Cell], at: usize) -> Option<&Cell>
+    ensures { option_copied result ≡ slice_get row.now at }
+{
+    row.get(at)
+}
+
+// A row's cell in the column of that name.
+fn cell_of<'a>(columns: &[Column], row: &'a [Cell], name: &Str) -> Option<&'a Cell>
+    ensures { cell_or_null (option_copied result) ≡ cell_of columns.now row.now name.now }
+{
+    for (i, column) in columns.iter().enumerate() {
+        if is_named(column, name) {
+            return found_at(row, i);
+        }
+    }
+    None
+}
+
+fn columns_at<'a>(columns: &'a [Columns], item: u32) -> &'a [Column]
+    ensures { result.now ≡ slice_index_or columns.now item [] }
+{
+    match columns.get(item as usize) {
+        Some(found) => found.as_slice(),
+        None => &[],
+    }
+}
+
+fn cells_at<'a>(row: &'a [Row], item: u32) -> &'a [Cell]
+    ensures { result.now ≡ slice_index_or row.now item [] }
+{
+    match row.get(item as usize) {
+        Some(found) => found.as_slice(),
+        None => &[],
+    }
+}
+
+fn field(columns: &[Column], row: &[Cell], name: &Str) -> Result<Cell, Memory>
+    ensures { IfOk result (λ v. v ≡ cell_of columns.now row.now name.now) }
+{
+    match cell_of(columns, row, name) {
+        Some(cell) => cell.copy(),
+        None => Ok(Cell::Null),
+    }
+}
+
+/// The cell of a FROM item's column.
+pub(crate) fn column(f: &Frame, item: u32, name: &Str) -> Result<Cell, Memory>
+    ensures { IfOk result (λ v. v ≡ seen f.now.columns.now f.now.row.now item name.now) }
+{
+    field(columns_at(f.columns, item), cells_at(f.row, item), name)
+}

@@ -1,0 +1,23 @@
+//! The rows of a query. Its contract: `eval` gives, as a bag, exactly the rows that the definition of the query has over
+//! its inputs and its bounds, for every query. It stands on `mesh_list`, `mesh_base`, `mesh_time`, the definitions of
+//! `mesh_meaning`, and `itoa`.
+#![tactic(auto)]
+
+mod aggregates;
+mod casts;
+mod cells;
+mod days;
+mod expressions;
+mod filing;
+mod frames;
+mod macros;
+#[cfg(test)]
+mod made;
+mod queries;
+#[cfg(test)]
+mod query_tests;
+mod tables;
+#[cfg(test)]
+mod value_tests;
+
+pub use queries::eval;

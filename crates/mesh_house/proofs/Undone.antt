@@ -1,0 +1,19 @@
+-- A version that was changed is put back.
+use Rattle.std.proofs.Common.{◌≡◌, Some, None, refl, ◌∙◌, ap, sym}
+use Rattle.std.specs.declared.option.Option.{Option}
+use Rattle.mesh_base.specs.declared.values.Name.{Name}
+use Rattle.mesh_base.specs.Names.{name_cmp}
+use Rattle.mesh_base.specs.NameOrder.{names_total, names_exact}
+use Rattle.mesh_list.specs.Keyed.{found}
+use Rattle.mesh_book.specs.declared.book.Book.{Book}
+use Rattle.mesh_book.specs.declared.versions.Version.{Version}
+use Rattle.mesh_book.specs.Changes.{version_object, at_version}
+use Rattle.mesh_book.proofs.Exchanged.{exchanged_twice, exchanged_itself, found_key}
+
+pub undone : (f : Version → Version) (b : Book) (name : Name) (o : Option Version) → ((v : Version) → (f v).object ≡ v.object) → found name_cmp version_object name b.versions ≡ o → at_version o (λ v. v) (at_version o f b) ≡ b
+undone f b name None kept is = refl
+undone f b name (Some v) kept is =
+    let key : v.object ≡ name = found_key name_cmp version_object names_exact name v b.versions is in
+    let here : found name_cmp version_object v.object b.versions ≡ Some v = ap (λ (n : Name). found name_cmp version_object n b.versions) key ∙ is in
+    ap (λ vs. record b { versions = vs })
+    (exchanged_twice name_cmp version_object names_total v (f v) b.versions (sym (kept v)) ∙ exchanged_itself name_cmp version_object v b.versions here)

@@ -1,0 +1,7 @@
+use Rattle.mesh_base.specs.Names.{name_cmp}
+use Rattle.mesh_house.specs.Objects.{object_name, is_physical}
+use Rattle.mesh_house.proofs.Tested.{all-exchanged}
+use Rattle.mesh_house.proofs.objects.Objects.exchange.Goals as goal
+
+pub invariant_of-self : goal.invariant_of-self
+invariant_of-self c = rw c.exchange.ensures.rest (all-exchanged name_cmp object_name (λ o. is_physical o.name) c.args.object c.requires c.self.inside.list c.self.invariant)

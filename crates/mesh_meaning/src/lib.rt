@@ -1,0 +1,11 @@
+//! What an expression and a query mean, in the terms of ISO/IEC 9075. Its definitions are read in this order: `Dates`,
+//! `Cells`, `Casts` and `Macros` for values, `Aggregates`, `Ev` for the value of an expression for a row or a group, `Tables`
+//! for what a query reads, and `Sel` for its rows. They are its contract, with the law that an expression's value hangs
+//! on the columns that it names alone. It stands on `mesh_list`, `mesh_base`, `mesh_time` and the calendar of `jiff`.
+#![tactic(auto)]
+
+mod groups;
+mod laws;
+
+pub use groups::{Group, Joined};
+pub use laws::values_hang_on_named_columns;

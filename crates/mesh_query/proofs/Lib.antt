@@ -1,0 +1,2 @@
+pub mod NextToken
+pub mod Refused

@@ -1,0 +1,188 @@
+// Looking at the next token, and taking it.
+ghost use Rattle.std.specs.Prelude.{◌≡◌, ◌<◌, ◌+◌, drop, length, IsTrue, IfOk};
+ghost use Rattle.mesh_query.specs.Signs.{place as place_of, IsWord, IsSign, IsName, IsType, IsFunction, IsQualified, IsOptional};
+ghost use Rattle.mesh_query.specs.Places.{Takes, Reaches};
+
+use crate::fault::Fault;
+use crate::words::{function_of, is_reserved, is_same, type_of};
+use mesh_base::{ColType, Str};
+use mesh_list::Duplicate;
+use mesh_surface::Function;
+use mesh_tokens::{Token, TokenKind};
+
+/// The place of a token's first byte, or 0 at the end of the tokens.
+pub fn place(tokens: &[Token], at: usize) -> u64
+    ensures { result ≡ place_of (drop at tokens.now) }
+{
+    if at < tokens.len() {
+        tokens[at].start
+    } else {
+        0
+    }
+}
+
+pub fn is_word(tokens: &[Token], at: usize, word: &[u8]) -> bool
+    ensures { IsTrue result → Takes (IsWord word.now) tokens.now at (at + 1) }
+{
+    if at < tokens.len() {
+        match &tokens[at].kind {
+            TokenKind::Ident(found) => is_same(found.as_slice(), word),
+            _ => false,
+        }
+    } else {
+        false
+    }
+}
+
+pub fn is_sign(tokens: &[Token], at: usize, sign: &[u8]) -> bool
+    ensures { IsTrue result → Takes (IsSign sign.now) tokens.now at (at + 1) }
+{
+    if at < tokens.len() {
+        match &tokens[at].kind {
+            TokenKind::Sign(found) => is_same(found.as_slice(), sign),
+            _ => false,
+        }
+    } else {
+        false
+    }
+}
+
+pub fn is_text(tokens: &[Token], at: usize) -> bool {
+    if at < tokens.len() {
+        match &tokens[at].kind {
+            TokenKind::Text(_) => true,
+            _ => false,
+        }
+    } else {
+        false
+    }
+}
+
+/// Whether the word `date` and a text stand here.
+pub fn is_date(tokens: &[Token], at: usize) -> bool {
+    is_word(tokens, at, b"date") && is_text(tokens, at + 1)
+}
+
+/// Whether the token is an identifier that is no word of queries.
+pub fn is_name(tokens: &[Token], at: usize) -> bool
+    ensures { IsTrue result → (at < length tokens.now) }
+{
+    if at < tokens.len() {
+        match &tokens[at].kind {
+            TokenKind::Ident(found) => !is_reserved(found.as_slice()),
+            _ => false,
+        }
+    } else {
+        false
+    }
+}
+
+/// The place behind a word that has to stand here.
+pub fn word(tokens: &[Token], at: usize, word: &[u8]) -> Result<usize, Fault>
+    ensures { IfOk result (Takes (IsWord word.now) tokens.now at) }
+{
+    if is_word(tokens, at, word) {
+        Ok(at + 1)
+    } else {
+        Err(Fault::Syntax { token: at })
+    }
+}
+
+/// The place behind a sign that has to stand here.
+pub fn sign(tokens: &[Token], at: usize, sign: &[u8]) -> Result<usize, Fault>
+    ensures { IfOk result (Takes (IsSign sign.now) tokens.now at) }
+{
+    if is_sign(tokens, at, sign) {
+        Ok(at + 1)
+    } else {
+        Err(Fault::Syntax { token: at })
+    }
+}
+
+/// A name that has to stand here, and the place behind it.
+pub fn name(tokens: &[Token], at: usize) -> Result<(Str, usize), Fault>
+    ensures { IfOk result (λ p. Takes (IsName p.0) tokens.now at p.1) }
+{
+    if at < tokens.len() {
+        match &tokens[at].kind {
+            TokenKind::Ident(found) => {
+                if is_reserved(found.as_slice()) {
+                    return Err(Fault::Syntax { token: at });
+                }
+                Ok((found.copy()?, at + 1))
+            }
+            _ => Err(Fault::Syntax { token: at }),
+        }
+    } else {
+        Err(Fault::Syntax { token: at })
+    }
+}
+
+/// A name of one part or two that has to stand here, and the place behind it.
+pub fn qualified(tokens: &[Token], from: usize) -> Result<((Option<Str>, Str), usize), Fault>
+    ensures { IfOk result (λ p. Reaches (IsQualified p.0.0 p.0.1) tokens.now from p.1) }
+{
+    let (first, next) = name(tokens, from)?;
+    if is_sign(tokens, next, b".") {
+        let (second, next) = name(tokens, next + 1)?;
+        return Ok(((Some(first), second), next));
+    }
+    Ok(((None, first), next))
+}
+
+/// The place behind a word, if it stands here.
+pub fn optional(tokens: &[Token], at: usize, word: &[u8]) -> usize
+    ensures { Reaches (IsOptional word.now) tokens.now at result }
+{
+    if is_word(tokens, at, word) {
+        at + 1
+    } else {
+        at
+    }
+}
+
+/// A type that has to stand here, and the place behind it.
+pub fn column_type(tokens: &[Token], at: usize) -> Result<(ColType, usize), Fault>
+    ensures { IfOk result (λ p. Takes (IsType p.0) tokens.now at p.1) }
+{
+    if at < tokens.len() {
+        match &tokens[at].kind {
+            TokenKind::Ident(found) => match type_of(found.as_slice()) {
+                Some(kind) => Ok((kind, at + 1)),
+                None => Err(Fault::Syntax { token: at }),
+            },
+            _ => Err(Fault::Syntax { token: at }),
+        }
+    } else {
+        Err(Fault::Syntax { token: at })
+    }
+}
+
+/// A function's name that has to stand before its parenthesis, and the place behind it. Where the name is no function's
+/// the fault is at the parenthesis, since the name alone might have been a column's.
+pub fn called(tokens: &[Token], at: usize) -> Result<(Function, usize), Fault>
+    ensures { IfOk result (λ p. Takes (IsFunction p.0) tokens.now at p.1) }
+{
+    if at < tokens.len() {
+        match &tokens[at].kind {
+            TokenKind::Ident(found) => match function_of(found.as_slice()) {
+                Some(function) => Ok((function, at + 1)),
+                None => Err(Fault::Syntax { token: at + 1 }),
+            },
+            _ => Err(Fault::Syntax { token: at }),
+        }
+    } else {
+        Err(Fault::Syntax { token: at })
+    }
+}
+
+/// How much deeper it may go inside what is opened here.
+pub fn nested(depth: u32) -> Result<u32, Fault>
+    ensures { IfOk result (λ deeper. depth ≡ deeper + 1) }
+{
+    if depth == 0 {
+        Err(Fault::Nesting)
+    } else {
+        Ok(depth - 1)
+    }
+}

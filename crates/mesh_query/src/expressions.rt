@@ -1,0 +1,653 @@
+// Expressions, level by level. Each function reads its form from a token on, and answers it with the place behind it.
+// `depth` is how many parentheses, CASEs, NOTs and minus signs may still be opened.
+ghost use Rattle.std.specs.Prelude.{◌≡◌, ℕ, codes, true, IfOk};
+ghost use Rattle.mesh_surface.specs.declared.signs.Function.{Function as Functions};
+ghost use Rattle.mesh_surface.specs.declared.signs.Function.TheVariants.{Count};
+ghost use Rattle.mesh_query.specs.Signs.{IsWord};
+ghost use Rattle.mesh_query.specs.Grammar.{expr as an_expr, conjunction as a_conjunction, negation as a_negation, pred as a_pred, tested, ranged, cat as a_cat, sum as a_sum, product as a_product, signed, post as a_post, value, operand, arms as some_arms, arm as an_arm, otherwise, arguments, exprs as some_exprs, takes_one};
+ghost use Rattle.mesh_query.specs.Places.{Reads, ReadsBehind, ReadsOn};
+
+use crate::cursor::{
+    called, column_type, is_date, is_name, is_sign, is_word, nested, place, sign, word,
+};
+use crate::fault::Fault;
+use crate::literals::{column, literal};
+use crate::nodes::Nodes;
+use crate::signs::{add_sign, comparison, mul_sign};
+use mesh_list::{Boxed, Seq};
+use mesh_surface::{
+    AddExpr, AddStep, AndExpr, Args, Arm, CatExpr, Function, MulExpr, MulStep, NotExpr, OrExpr,
+    Post, Pred, Primary, Test, Unary,
+};
+use mesh_tokens::Token;
+use std::alloc::Global;
+
+/// Parts with OR between them.
+#[cycle(parser)]
+pub fn expr(
+    alloc: Global,
+    tokens: &[Token],
+    nodes: &mut Nodes,
+    depth: u32,
+    from: usize,
+) -> Result<(OrExpr, usize), Fault>
+    ensures { IfOk result (Reads depth an_expr tokens.now from) }
+{
+    let (first, mut at) = conjunction(alloc, tokens, nodes, depth, from)?;
+    let mut parts = Seq::new(alloc);
+    parts.push(first)?;
+    'ors: while is_word(tokens, at, b"or") {
+        nodes.meet();
+        let (part, next) = conjunction(alloc, tokens, nodes, depth, at + 1)?;
+        parts.push(part)?;
+        at = next;
+    }
+    let whole = OrExpr {
+        at: place(tokens, from),
+        parts,
+    };
+    Ok((whole, at))
+}
+
+// Parts with AND between them.
+#[cycle(parser)]
+fn conjunction(
+    alloc: Global,
+    tokens: &[Token],
+    nodes: &mut Nodes,
+    depth: u32,
+    from: usize,
+) -> Result<(AndExpr, usize), Fault>
+    ensures { IfOk result (Reads depth a_conjunction tokens.now from) }
+{
+    let (first, mut at) = negation(alloc, tokens, nodes, depth, from)?;
+    let mut parts = Seq::new(alloc);
+    parts.push(first)?;
+    'ands: while is_word(tokens, at, b"and") {
+        nodes.meet();
+        let (part, next) = negation(alloc, tokens, nodes, depth, at + 1)?;
+        parts.push(part)?;
+        at = next;
+    }
+    let whole = AndExpr {
+        at: place(tokens, from),
+        parts,
+    };
+    Ok((whole, at))
+}
+
+#[cycle(parser)]
+fn negation(
+    alloc: Global,
+    tokens: &[Token],
+    nodes: &mut Nodes,
+    depth: u32,
+    from: usize,
+) -> Result<(NotExpr, usize), Fault>
+    ensures { IfOk result (Reads depth a_negation tokens.now from) }
+{
+    let at = place(tokens, from);
+    if is_word(tokens, from, b"not") {
+        let deeper = nested(depth)?;
+        nodes.meet();
+        let (inner, next) = negation(alloc, tokens, nodes, deeper, from + 1)?;
+        let inner = Boxed::new(alloc, inner)?;
+        return Ok((NotExpr::Not { at, inner }, next));
+    }
+    let (pred, next) = pred(alloc, tokens, nodes, depth, from)?;
+    Ok((NotExpr::Plain { at, pred }, next))
+}
+
+// A value, and what is asked about it.
+#[cycle(parser)]
+fn pred(
+    alloc: Global,
+    tokens: &[Token],
+    nodes: &mut Nodes,
+    depth: u32,
+    from: usize,
+) -> Result<(Pred, usize), Fault>
+    ensures { IfOk result (Reads depth a_pred tokens.now from) }
+{
+    let (left, at) = cat(alloc, tokens, nodes, depth, from)?;
+    let (test, next) = test(alloc, tokens, nodes, depth, at)?;
+    let whole = Pred {
+        at: place(tokens, from),
+        left,
+        test,
+    };
+    Ok((whole, next))
+}
+
+#[cycle(parser)]
+fn test(
+    alloc: Global,
+    tokens: &[Token],
+    nodes: &mut Nodes,
+    depth: u32,
+    from: usize,
+) -> Result<(Test, usize), Fault>
+    ensures { IfOk result (Reads depth tested tokens.now from) }
+{
+    if is_word(tokens, from, b"is") {
+        nodes.meet();
+        return null_test(tokens, from + 1);
+    }
+    if is_word(tokens, from, b"not") {
+        return range_test(alloc, tokens, nodes, true, depth, from + 1);
+    }
+    if is_word(tokens, from, b"between") || is_word(tokens, from, b"in") {
+        return range_test(alloc, tokens, nodes, false, depth, from);
+    }
+    match comparison(tokens, from) {
+        Some(cmp) => {
+            nodes.meet();
+            let (right, next) = cat(alloc, tokens, nodes, depth, from + 1)?;
+            Ok((Test::Compare { cmp, right }, next))
+        }
+        None => Ok((Test::Nothing, from)),
+    }
+}
+
+// What stands behind IS.
+fn null_test(tokens: &[Token], from: usize) -> Result<(Test, usize), Fault>
+    ensures { IfOk result (λ p. (n : ℕ) → ReadsBehind (IsWord (codes "is")) n tested tokens.now from p) }
+{
+    if is_word(tokens, from, b"not") {
+        let at = word(tokens, from + 1, b"null")?;
+        return Ok((Test::IsNull { negated: true }, at));
+    }
+    let at = word(tokens, from, b"null")?;
+    Ok((Test::IsNull { negated: false }, at))
+}
+
+// BETWEEN or IN.
+#[cycle(parser)]
+fn range_test(
+    alloc: Global,
+    tokens: &[Token],
+    nodes: &mut Nodes,
+    negated: bool,
+    depth: u32,
+    from: usize,
+) -> Result<(Test, usize), Fault>
+    ensures { IfOk result (Reads depth (ranged negated) tokens.now from) }
+{
+    if is_word(tokens, from, b"between") {
+        nodes.meet();
+        return between(alloc, tokens, nodes, negated, depth, from + 1);
+    }
+    let at = word(tokens, from, b"in")?;
+    nodes.meet();
+    one_of(alloc, tokens, nodes, negated, depth, at)
+}
+
+// What stands behind BETWEEN.
+#[cycle(parser)]
+fn between(
+    alloc: Global,
+    tokens: &[Token],
+    nodes: &mut Nodes,
+    negated: bool,
+    depth: u32,
+    from: usize,
+) -> Result<(Test, usize), Fault>
+    ensures { IfOk result (ReadsBehind (IsWord (codes "between")) depth (ranged negated) tokens.now from) }
+{
+    let (low, at) = cat(alloc, tokens, nodes, depth, from)?;
+    let at = word(tokens, at, b"and")?;
+    let (high, at) = cat(alloc, tokens, nodes, depth, at)?;
+    let test = Test::Between { negated, low, high };
+    Ok((test, at))
+}
+
+// What stands behind IN.
+#[cycle(parser)]
+fn one_of(
+    alloc: Global,
+    tokens: &[Token],
+    nodes: &mut Nodes,
+    negated: bool,
+    depth: u32,
+    from: usize,
+) -> Result<(Test, usize), Fault>
+    ensures { IfOk result (ReadsBehind (IsWord (codes "in")) depth (ranged negated) tokens.now from) }
+{
+    let at = sign(tokens, from, b"(")?;
+    let deeper = nested(depth)?;
+    let (of, at) = exprs(alloc, tokens, nodes, deeper, at)?;
+    let at = sign(tokens, at, b")")?;
+    Ok((Test::OneOf { negated, of }, at))
+}
+
+// Parts with `||` between them.
+#[cycle(parser)]
+fn cat(
+    alloc: Global,
+    tokens: &[Token],
+    nodes: &mut Nodes,
+    depth: u32,
+    from: usize,
+) -> Result<(CatExpr, usize), Fault>
+    ensures { IfOk result (Reads depth a_cat tokens.now from) }
+{
+    let (first, mut at) = sum(alloc, tokens, nodes, depth, from)?;
+    let mut parts = Seq::new(alloc);
+    parts.push(first)?;
+    'cats: while is_sign(tokens, at, b"||") {
+        nodes.meet();
+        let (part, next) = sum(alloc, tokens, nodes, depth, at + 1)?;
+        parts.push(part)?;
+        at = next;
+    }
+    let whole = CatExpr {
+        at: place(tokens, from),
+        parts,
+    };
+    Ok((whole, at))
+}
+
+// Parts with `+` and `-` between them.
+#[cycle(parser)]
+fn sum(
+    alloc: Global,
+    tokens: &[Token],
+    nodes: &mut Nodes,
+    depth: u32,
+    from: usize,
+) -> Result<(AddExpr, usize), Fault>
+    ensures { IfOk result (Reads depth a_sum tokens.now from) }
+{
+    let (first, mut at) = product(alloc, tokens, nodes, depth, from)?;
+    let mut rest = Seq::new(alloc);
+    'sums: while let Some(sign) = add_sign(tokens, at) {
+        nodes.meet();
+        let (part, next) = product(alloc, tokens, nodes, depth, at + 1)?;
+        rest.push(AddStep {
+            at: place(tokens, at),
+            sign,
+            part,
+        })?;
+        at = next;
+    }
+    let whole = AddExpr {
+        at: place(tokens, from),
+        first,
+        rest,
+    };
+    Ok((whole, at))
+}
+
+// Parts with `*`, `/` and `%` between them.
+#[cycle(parser)]
+fn product(
+    alloc: Global,
+    tokens: &[Token],
+    nodes: &mut Nodes,
+    depth: u32,
+    from: usize,
+) -> Result<(MulExpr, usize), Fault>
+    ensures { IfOk result (Reads depth a_product tokens.now from) }
+{
+    let (first, mut at) = unary(alloc, tokens, nodes, depth, from)?;
+    let mut rest = Seq::new(alloc);
+    'products: while let Some(sign) = mul_sign(tokens, at) {
+        nodes.meet();
+        let (part, next) = unary(alloc, tokens, nodes, depth, at + 1)?;
+        rest.push(MulStep {
+            at: place(tokens, at),
+            sign,
+            part,
+        })?;
+        at = next;
+    }
+    let whole = MulExpr {
+        at: place(tokens, from),
+        first,
+        rest,
+    };
+    Ok((whole, at))
+}
+
+#[cycle(parser)]
+fn unary(
+    alloc: Global,
+    tokens: &[Token],
+    nodes: &mut Nodes,
+    depth: u32,
+    from: usize,
+) -> Result<(Unary, usize), Fault>
+    ensures { IfOk result (Reads depth signed tokens.now from) }
+{
+    let at = place(tokens, from);
+    if is_sign(tokens, from, b"-") {
+        let deeper = nested(depth)?;
+        nodes.meet();
+        let (inner, next) = unary(alloc, tokens, nodes, deeper, from + 1)?;
+        let inner = Boxed::new(alloc, inner)?;
+        return Ok((Unary::Minus { at, inner }, next));
+    }
+    let (post, next) = post(alloc, tokens, nodes, depth, from)?;
+    Ok((Unary::Plain { at, post }, next))
+}
+
+// A value and the types behind it.
+#[cycle(parser)]
+fn post(
+    alloc: Global,
+    tokens: &[Token],
+    nodes: &mut Nodes,
+    depth: u32,
+    from: usize,
+) -> Result<(Post, usize), Fault>
+    ensures { IfOk result (Reads depth a_post tokens.now from) }
+{
+    let (value, mut at) = primary(alloc, tokens, nodes, depth, from)?;
+    let mut casts = Seq::new(alloc);
+    'casts: while is_sign(tokens, at, b"::") {
+        nodes.meet();
+        let (kind, next) = column_type(tokens, at + 1)?;
+        casts.push(kind)?;
+        at = next;
+    }
+    let whole = Post {
+        at: place(tokens, from),
+        value,
+        casts,
+    };
+    Ok((whole, at))
+}
+
+#[cycle(parser)]
+fn primary(
+    alloc: Global,
+    tokens: &[Token],
+    nodes: &mut Nodes,
+    depth: u32,
+    from: usize,
+) -> Result<(Primary, usize), Fault>
+    ensures { IfOk result (Reads depth value tokens.now from) }
+{
+    if is_sign(tokens, from, b"(") {
+        return group(alloc, tokens, nodes, depth, from);
+    }
+    if is_word(tokens, from, b"case") {
+        return case(alloc, tokens, nodes, depth, from);
+    }
+    if is_word(tokens, from, b"cast") {
+        return cast(alloc, tokens, nodes, depth, from);
+    }
+    if is_date(tokens, from) || !is_name(tokens, from) {
+        return literal(tokens, nodes, from);
+    }
+    nodes.meet();
+    if is_sign(tokens, from + 1, b"(") {
+        return call(alloc, tokens, nodes, depth, from);
+    }
+    column(tokens, from)
+}
+
+// An expression in parentheses.
+#[cycle(parser)]
+fn group(
+    alloc: Global,
+    tokens: &[Token],
+    nodes: &mut Nodes,
+    depth: u32,
+    from: usize,
+) -> Result<(Primary, usize), Fault>
+    ensures { IfOk result (Reads depth value tokens.now from) }
+{
+    let at = place(tokens, from);
+    let next = sign(tokens, from, b"(")?;
+    let deeper = nested(depth)?;
+    let (inner, next) = expr(alloc, tokens, nodes, deeper, next)?;
+    let next = sign(tokens, next, b")")?;
+    let inner = Boxed::new(alloc, inner)?;
+    Ok((Primary::Group { at, inner }, next))
+}
+
+#[cycle(parser)]
+fn cast(
+    alloc: Global,
+    tokens: &[Token],
+    nodes: &mut Nodes,
+    depth: u32,
+    from: usize,
+) -> Result<(Primary, usize), Fault>
+    ensures { IfOk result (Reads depth value tokens.now from) }
+{
+    let at = place(tokens, from);
+    let next = word(tokens, from, b"cast")?;
+    nodes.meet();
+    let next = sign(tokens, next, b"(")?;
+    let deeper = nested(depth)?;
+    let (value, next) = expr(alloc, tokens, nodes, deeper, next)?;
+    let next = word(tokens, next, b"as")?;
+    let (to, next) = column_type(tokens, next)?;
+    let next = sign(tokens, next, b")")?;
+    let value = Boxed::new(alloc, value)?;
+    Ok((Primary::Cast { at, value, to }, next))
+}
+
+#[cycle(parser)]
+fn case(
+    alloc: Global,
+    tokens: &[Token],
+    nodes: &mut Nodes,
+    depth: u32,
+    from: usize,
+) -> Result<(Primary, usize), Fault>
+    ensures { IfOk result (Reads depth value tokens.now from) }
+{
+    let at = place(tokens, from);
+    let next = word(tokens, from, b"case")?;
+    let deeper = nested(depth)?;
+    nodes.meet();
+    let (operand, next) = case_operand(alloc, tokens, nodes, deeper, next)?;
+    let (arms, next) = arms(alloc, tokens, nodes, deeper, next)?;
+    let (otherwise, next) = case_else(alloc, tokens, nodes, deeper, next)?;
+    let next = word(tokens, next, b"end")?;
+    let whole = Primary::Case {
+        at,
+        operand,
+        arms,
+        otherwise,
+    };
+    Ok((whole, next))
+}
+
+// What a CASE compares with, if something stands before its first WHEN.
+#[cycle(parser)]
+fn case_operand(
+    alloc: Global,
+    tokens: &[Token],
+    nodes: &mut Nodes,
+    depth: u32,
+    from: usize,
+) -> Result<(Option<Boxed<OrExpr>>, usize), Fault>
+    ensures { IfOk result (Reads depth operand tokens.now from) }
+{
+    if is_word(tokens, from, b"when") {
+        return Ok((None, from));
+    }
+    let (operand, next) = expr(alloc, tokens, nodes, depth, from)?;
+    let operand = Boxed::new(alloc, operand)?;
+    Ok((Some(operand), next))
+}
+
+// One WHEN or more.
+#[cycle(parser)]
+fn arms(
+    alloc: Global,
+    tokens: &[Token],
+    nodes: &mut Nodes,
+    depth: u32,
+    from: usize,
+) -> Result<(Seq<Arm>, usize), Fault>
+    ensures { IfOk result (Reads depth some_arms tokens.now from) }
+{
+    let (first, mut at) = arm(alloc, tokens, nodes, depth, from)?;
+    let mut arms = Seq::new(alloc);
+    arms.push(first)?;
+    'whens: while is_word(tokens, at, b"when") {
+        let (next, behind) = arm(alloc, tokens, nodes, depth, at)?;
+        arms.push(next)?;
+        at = behind;
+    }
+    Ok((arms, at))
+}
+
+#[cycle(parser)]
+fn arm(
+    alloc: Global,
+    tokens: &[Token],
+    nodes: &mut Nodes,
+    depth: u32,
+    from: usize,
+) -> Result<(Arm, usize), Fault>
+    ensures { IfOk result (ReadsOn depth an_arm tokens.now from) }
+{
+    let next = word(tokens, from, b"when")?;
+    let (test, next) = expr(alloc, tokens, nodes, depth, next)?;
+    let next = word(tokens, next, b"then")?;
+    let (value, next) = expr(alloc, tokens, nodes, depth, next)?;
+    let whole = Arm {
+        at: place(tokens, from),
+        test,
+        value,
+    };
+    Ok((whole, next))
+}
+
+#[cycle(parser)]
+fn case_else(
+    alloc: Global,
+    tokens: &[Token],
+    nodes: &mut Nodes,
+    depth: u32,
+    from: usize,
+) -> Result<(Option<Boxed<OrExpr>>, usize), Fault>
+    ensures { IfOk result (Reads depth otherwise tokens.now from) }
+{
+    if is_word(tokens, from, b"else") {
+        let (otherwise, next) = expr(alloc, tokens, nodes, depth, from + 1)?;
+        let otherwise = Boxed::new(alloc, otherwise)?;
+        return Ok((Some(otherwise), next));
+    }
+    Ok((None, from))
+}
+
+// A function's name and its arguments.
+#[cycle(parser)]
+fn call(
+    alloc: Global,
+    tokens: &[Token],
+    nodes: &mut Nodes,
+    depth: u32,
+    from: usize,
+) -> Result<(Primary, usize), Fault>
+    ensures { IfOk result (Reads depth value tokens.now from) }
+{
+    let at = place(tokens, from);
+    let (function, next) = called(tokens, from)?;
+    let next = sign(tokens, next, b"(")?;
+    let deeper = nested(depth)?;
+    let (args, next) = args(alloc, tokens, nodes, function, deeper, next)?;
+    let next = sign(tokens, next, b")")?;
+    Ok((Primary::Call { at, function, args }, next))
+}
+
+// The arguments of a function, as many as it takes.
+#[cycle(parser)]
+fn args(
+    alloc: Global,
+    tokens: &[Token],
+    nodes: &mut Nodes,
+    function: Function,
+    depth: u32,
+    from: usize,
+) -> Result<(Args, usize), Fault>
+    ensures { IfOk result (Reads depth (arguments function) tokens.now from) }
+{
+    let at = place(tokens, from);
+    match function {
+        Function::Count => count_args(alloc, tokens, nodes, depth, from),
+        Function::Coalesce => {
+            let (values, next) = exprs(alloc, tokens, nodes, depth, from)?;
+            Ok((Args::List { at, values }, next))
+        }
+        Function::Nullif => {
+            let (first, next) = expr(alloc, tokens, nodes, depth, from)?;
+            let next = sign(tokens, next, b",")?;
+            let (second, next) = expr(alloc, tokens, nodes, depth, next)?;
+            let mut values = Seq::new(alloc);
+            values.push(first)?;
+            values.push(second)?;
+            Ok((Args::List { at, values }, next))
+        }
+        _ => one_arg(alloc, tokens, nodes, depth, from),
+    }
+}
+
+// What COUNT takes: `*`, a value, or the different ones of a value.
+#[cycle(parser)]
+fn count_args(
+    alloc: Global,
+    tokens: &[Token],
+    nodes: &mut Nodes,
+    depth: u32,
+    from: usize,
+) -> Result<(Args, usize), Fault>
+    ensures { IfOk result (Reads depth (arguments Count) tokens.now from) }
+{
+    let at = place(tokens, from);
+    if is_sign(tokens, from, b"*") {
+        return Ok((Args::Star { at }, from + 1));
+    }
+    if is_word(tokens, from, b"distinct") {
+        let (value, next) = expr(alloc, tokens, nodes, depth, from + 1)?;
+        let value = Boxed::new(alloc, value)?;
+        return Ok((Args::Distinct { at, value }, next));
+    }
+    one_arg(alloc, tokens, nodes, depth, from)
+}
+
+#[cycle(parser)]
+fn one_arg(
+    alloc: Global,
+    tokens: &[Token],
+    nodes: &mut Nodes,
+    depth: u32,
+    from: usize,
+) -> Result<(Args, usize), Fault>
+    ensures { IfOk result (λ p. (f : Functions) → takes_one f ≡ true → Reads depth (arguments f) tokens.now from p) }
+{
+    let at = place(tokens, from);
+    let (value, next) = expr(alloc, tokens, nodes, depth, from)?;
+    let mut values = Seq::new(alloc);
+    values.push(value)?;
+    Ok((Args::List { at, values }, next))
+}
+
+// Expressions with commas between them.
+#[cycle(parser)]
+fn exprs(
+    alloc: Global,
+    tokens: &[Token],
+    nodes: &mut Nodes,
+    depth: u32,
+    from: usize,
+) -> Result<(Seq<OrExpr>, usize), Fault>
+    ensures { IfOk result (Reads depth some_exprs tokens.now from) }
+{
+    let (first, mut at) = expr(alloc, tokens, nodes, depth, from)?;
+    let mut list = Seq::new(alloc);
+    list.push(first)?;
+    'commas: while is_sign(tokens, at, b",") {
+        let (more, next) = expr(alloc, tokens, nodes, depth, at + 1)?;
+        list.push(more)?;
+        at = next;
+    }
+    Ok((list, at))
+}

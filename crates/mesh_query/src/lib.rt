@@ -1,0 +1,22 @@
+//! The grammar of queries: tokens are read as a syntax tree. Its contract: the tree that `parse` gives is spelled, from
+//! the token named to the last one, as the grammar says, with at most 64 parentheses, CASEs, NOTs and minus signs open
+//! at once. It stands on `mesh_list`, `mesh_base`, `mesh_tokens`, `mesh_surface` and the days of `mesh_time`.
+#![tactic(auto)]
+
+mod cursor;
+mod expressions;
+mod fault;
+mod literals;
+mod nodes;
+mod queries;
+mod reader;
+mod relations;
+#[cfg(test)]
+mod shown;
+mod signs;
+#[cfg(test)]
+mod tests;
+mod words;
+
+pub use mesh_tokens::tokens_of as tokens;
+pub use reader::parse;

@@ -1,0 +1,321 @@
+// Whole queries. Each function reads its form from a token on, and answers it with the place behind it.
+ghost use Rattle.std.specs.Prelude.{codes, IfOk};
+ghost use Rattle.mesh_query.specs.Signs.{IsAlias, IsFlag, IsOptionalSign};
+ghost use Rattle.mesh_query.specs.Grammar.{Spells, query as a_query, ctes as some_ctes, cte_list as a_cte_list, exprs as some_exprs, cte as a_cte, union as a_union, select as a_select, items as some_items, item as an_item, condition, keys as some_keys};
+ghost use Rattle.mesh_query.specs.Places.{Reads, Reaches, ReachesBy};
+
+use crate::cursor::{is_name, is_sign, is_word, name, nested, place, sign, word};
+use crate::expressions::expr;
+use crate::fault::Fault;
+use crate::nodes::Nodes;
+use crate::relations::source;
+use mesh_base::Str;
+use mesh_list::Seq;
+use mesh_surface::{OrExpr, Surface, SurfaceCte, SurfaceItem, SurfaceSelect, SurfaceUnion};
+use mesh_tokens::Token;
+use std::alloc::Global;
+
+/// A query with its common table expressions, and a `;` if one stands behind it.
+pub fn query(
+    alloc: Global,
+    tokens: &[Token],
+    nodes: &mut Nodes,
+    depth: u32,
+    from: usize,
+) -> Result<(Surface, usize), Fault>
+    ensures { IfOk result (Reads depth a_query tokens.now from) }
+{
+    let (ctes, at) = ctes(alloc, tokens, nodes, depth, from)?;
+    let (body, at) = union(alloc, tokens, nodes, depth, at)?;
+    let whole = Surface {
+        at: place(tokens, from),
+        ctes,
+        body,
+    };
+    if is_sign(tokens, at, b";") {
+        return Ok((whole, at + 1));
+    }
+    Ok((whole, at))
+}
+
+// WITH and the common table expressions behind it, or none.
+fn ctes(
+    alloc: Global,
+    tokens: &[Token],
+    nodes: &mut Nodes,
+    depth: u32,
+    from: usize,
+) -> Result<(Seq<SurfaceCte>, usize), Fault>
+    ensures { IfOk result (Reads depth some_ctes tokens.now from) }
+{
+    if is_word(tokens, from, b"with") {
+        return cte_list(alloc, tokens, nodes, depth, from + 1);
+    }
+    let none = Seq::new(alloc);
+    Ok((none, from))
+}
+
+// Common table expressions with commas between them.
+fn cte_list(
+    alloc: Global,
+    tokens: &[Token],
+    nodes: &mut Nodes,
+    depth: u32,
+    from: usize,
+) -> Result<(Seq<SurfaceCte>, usize), Fault>
+    ensures { IfOk result (Reads depth a_cte_list tokens.now from) }
+{
+    let (first, mut at) = cte(alloc, tokens, nodes, depth, from)?;
+    let mut list = Seq::new(alloc);
+    list.push(first)?;
+    'commas: while is_sign(tokens, at, b",") {
+        let (more, next) = cte(alloc, tokens, nodes, depth, at + 1)?;
+        list.push(more)?;
+        at = next;
+    }
+    Ok((list, at))
+}
+
+fn cte(
+    alloc: Global,
+    tokens: &[Token],
+    nodes: &mut Nodes,
+    depth: u32,
+    from: usize,
+) -> Result<(SurfaceCte, usize), Fault>
+    ensures { IfOk result (Reads depth a_cte tokens.now from) }
+{
+    let (name, next) = name(tokens, from)?;
+    let next = word(tokens, next, b"as")?;
+    let next = sign(tokens, next, b"(")?;
+    let deeper = nested(depth)?;
+    let (body, next) = union(alloc, tokens, nodes, deeper, next)?;
+    let next = sign(tokens, next, b")")?;
+    let whole = SurfaceCte {
+        at: place(tokens, from),
+        name,
+        body,
+    };
+    Ok((whole, next))
+}
+
+// SELECTs with UNION ALL between them.
+fn union(
+    alloc: Global,
+    tokens: &[Token],
+    nodes: &mut Nodes,
+    depth: u32,
+    from: usize,
+) -> Result<(SurfaceUnion, usize), Fault>
+    ensures { IfOk result (Reads depth a_union tokens.now from) }
+{
+    let (first, mut at) = select(alloc, tokens, nodes, depth, from)?;
+    let mut selects = Seq::new(alloc);
+    selects.push(first)?;
+    'unions: while is_word(tokens, at, b"union") {
+        let behind = word(tokens, at + 1, b"all")?;
+        let (more, next) = select(alloc, tokens, nodes, depth, behind)?;
+        selects.push(more)?;
+        at = next;
+    }
+    let whole = SurfaceUnion {
+        at: place(tokens, from),
+        selects,
+    };
+    Ok((whole, at))
+}
+
+fn select(
+    alloc: Global,
+    tokens: &[Token],
+    nodes: &mut Nodes,
+    depth: u32,
+    from: usize,
+) -> Result<(SurfaceSelect, usize), Fault>
+    ensures { IfOk result (Reads depth a_select tokens.now from) }
+{
+    let at = place(tokens, from);
+    let next = word(tokens, from, b"select")?;
+    let (distinct, next) = distinct(tokens, next);
+    let (items, next) = items(alloc, tokens, nodes, depth, next)?;
+    let (from, next) = source(alloc, tokens, nodes, depth, next)?;
+    let (filter, next) = filter(alloc, tokens, nodes, depth, next)?;
+    let (keys, next) = keys(alloc, tokens, nodes, depth, next)?;
+    let (having, next) = having(alloc, tokens, nodes, depth, next)?;
+    let whole = SurfaceSelect {
+        at,
+        distinct,
+        items,
+        from,
+        filter,
+        keys,
+        having,
+    };
+    Ok((whole, next))
+}
+
+fn distinct(tokens: &[Token], from: usize) -> (bool, usize)
+    ensures { Reaches (IsFlag (codes "distinct") result.0) tokens.now from result.1 }
+{
+    if is_word(tokens, from, b"distinct") {
+        (true, from + 1)
+    } else {
+        (false, from)
+    }
+}
+
+// Items with commas between them, and with one behind the last item or without.
+fn items(
+    alloc: Global,
+    tokens: &[Token],
+    nodes: &mut Nodes,
+    depth: u32,
+    from: usize,
+) -> Result<(Seq<SurfaceItem>, usize), Fault>
+    ensures { IfOk result (λ p. ReachesBy (Spells depth (some_items p.0)) (IsOptionalSign (codes ",")) tokens.now from p.1) }
+{
+    let (first, mut at) = item(alloc, tokens, nodes, depth, from)?;
+    let mut list = Seq::new(alloc);
+    list.push(first)?;
+    'commas: while is_sign(tokens, at, b",") {
+        if are_items_over(tokens, at + 1) {
+            return Ok((list, at + 1));
+        }
+        let (more, next) = item(alloc, tokens, nodes, depth, at + 1)?;
+        list.push(more)?;
+        at = next;
+    }
+    Ok((list, at))
+}
+
+// Whether what stands here comes behind the items of a SELECT.
+fn are_items_over(tokens: &[Token], at: usize) -> bool {
+    at >= tokens.len()
+        || is_word(tokens, at, b"from")
+        || is_word(tokens, at, b"where")
+        || is_word(tokens, at, b"group")
+        || is_word(tokens, at, b"having")
+        || is_word(tokens, at, b"union")
+        || is_sign(tokens, at, b")")
+        || is_sign(tokens, at, b";")
+}
+
+fn item(
+    alloc: Global,
+    tokens: &[Token],
+    nodes: &mut Nodes,
+    depth: u32,
+    from: usize,
+) -> Result<(SurfaceItem, usize), Fault>
+    ensures { IfOk result (Reads depth an_item tokens.now from) }
+{
+    let at = place(tokens, from);
+    if is_sign(tokens, from, b"*") {
+        return Ok((SurfaceItem::All { at }, from + 1));
+    }
+    if is_all_of(tokens, from) {
+        let (item, next) = name(tokens, from)?;
+        let next = sign(tokens, next, b".")?;
+        let next = sign(tokens, next, b"*")?;
+        return Ok((SurfaceItem::AllOf { at, item }, next));
+    }
+    nodes.begin();
+    let (value, next) = expr(alloc, tokens, nodes, depth, from)?;
+    let (alias, next) = alias(tokens, next)?;
+    Ok((SurfaceItem::Value { at, value, alias }, next))
+}
+
+// Whether a name, a dot and a star stand here.
+fn is_all_of(tokens: &[Token], at: usize) -> bool {
+    is_name(tokens, at) && is_sign(tokens, at + 1, b".") && is_sign(tokens, at + 2, b"*")
+}
+
+/// Another name for what stands before it, if there is one.
+pub fn alias(tokens: &[Token], from: usize) -> Result<(Option<Str>, usize), Fault>
+    ensures { IfOk result (λ p. Reaches (IsAlias p.0) tokens.now from p.1) }
+{
+    if is_word(tokens, from, b"as") {
+        let (alias, next) = name(tokens, from + 1)?;
+        return Ok((Some(alias), next));
+    }
+    if is_name(tokens, from) {
+        let (alias, next) = name(tokens, from)?;
+        return Ok((Some(alias), next));
+    }
+    Ok((None, from))
+}
+
+fn filter(
+    alloc: Global,
+    tokens: &[Token],
+    nodes: &mut Nodes,
+    depth: u32,
+    from: usize,
+) -> Result<(Option<OrExpr>, usize), Fault>
+    ensures { IfOk result (Reads depth (condition (codes "where")) tokens.now from) }
+{
+    if is_word(tokens, from, b"where") {
+        nodes.begin();
+        let (filter, next) = expr(alloc, tokens, nodes, depth, from + 1)?;
+        return Ok((Some(filter), next));
+    }
+    Ok((None, from))
+}
+
+fn having(
+    alloc: Global,
+    tokens: &[Token],
+    nodes: &mut Nodes,
+    depth: u32,
+    from: usize,
+) -> Result<(Option<OrExpr>, usize), Fault>
+    ensures { IfOk result (Reads depth (condition (codes "having")) tokens.now from) }
+{
+    if is_word(tokens, from, b"having") {
+        nodes.begin();
+        let (having, next) = expr(alloc, tokens, nodes, depth, from + 1)?;
+        return Ok((Some(having), next));
+    }
+    Ok((None, from))
+}
+
+// GROUP BY and its keys, or none.
+fn keys(
+    alloc: Global,
+    tokens: &[Token],
+    nodes: &mut Nodes,
+    depth: u32,
+    from: usize,
+) -> Result<(Seq<OrExpr>, usize), Fault>
+    ensures { IfOk result (Reads depth some_keys tokens.now from) }
+{
+    if is_word(tokens, from, b"group") {
+        let next = word(tokens, from + 1, b"by")?;
+        return key_list(alloc, tokens, nodes, depth, next);
+    }
+    let none = Seq::new(alloc);
+    Ok((none, from))
+}
+
+// Keys with commas between them.
+fn key_list(
+    alloc: Global,
+    tokens: &[Token],
+    nodes: &mut Nodes,
+    depth: u32,
+    from: usize,
+) -> Result<(Seq<OrExpr>, usize), Fault>
+    ensures { IfOk result (Reads depth some_exprs tokens.now from) }
+{
+    nodes.begin();
+    let (first, mut at) = expr(alloc, tokens, nodes, depth, from)?;
+    let mut list = Seq::new(alloc);
+    list.push(first)?;
+    'commas: while is_sign(tokens, at, b",") {
+        nodes.begin();
+        let (more, next) = expr(alloc, tokens, nodes, depth, at + 1)?;
+        list.push(more)?;
+        at = next;
+    }
+    Ok((list, at))
+}

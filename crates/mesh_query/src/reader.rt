@@ -1,0 +1,96 @@
+// From the tokens to the tree, or to the fault that is printed.
+ghost use Rattle.std.specs.Prelude.{drop, [], IfOk, IfErr};
+ghost use Rattle.mesh_query.specs.Refusals.{IsEnd, IsLimit, IsRefusal};
+ghost use Rattle.mesh_query.specs.Grammar.{Spells, query as a_query};
+ghost use Rattle.mesh_query.specs.Places.{deepest};
+
+use crate::fault::Fault;
+use crate::nodes::Nodes;
+use crate::queries::query;
+use mesh_base::{DEEPEST_NESTING, LARGEST_EXPRESSION, Str};
+use mesh_list::{Duplicate, Memory, Seq};
+use mesh_surface::Surface;
+use mesh_tokens::{FaultKind, ReadFault, Token, Tokens};
+use std::alloc::Global;
+
+/// Parentheses, CASEs, NOTs and minus signs that may be open round a token.
+const NESTING: u32 = 64;
+
+/// Reads one query from token `from`, counted from 0, to the end of the tokens. A fault of syntax is at the end of the
+/// last token that the beginning of a query has, or at 0 where there is none; the two limits have place 0.
+#[tactic(auto, using(crate::proofs::Refused::nesting_refused, crate::proofs::Refused::expression_refused))]
+pub fn parse(tokens: &Tokens, from: u32) -> Result<Surface, ReadFault>
+    // What is read is spelled by the tokens.
+    ensures found { IfOk result (λ tree. Spells deepest (a_query tree) (drop from tokens.now) []) }
+    // What is refused breaks the grammar or a limit, or memory is out.
+    ensures refused { IfErr result (IsRefusal tokens.now) }
+{
+    let alloc = tokens.alloc();
+    let tokens = tokens.as_slice();
+    let mut nodes = Nodes::new();
+    let found = whole_query(alloc, tokens, &mut nodes, from as usize);
+    if nodes.are_too_many() {
+        return Err(too_large(alloc, b"expression", LARGEST_EXPRESSION));
+    }
+    match found {
+        Ok(surface) => Ok(surface),
+        Err(Fault::Memory) => Err(ReadFault::Memory),
+        Err(Fault::Nesting) => Err(too_large(alloc, b"nesting", DEEPEST_NESTING)),
+        Err(Fault::Syntax { token }) => Err(ReadFault::Fault {
+            at: end_before(tokens, token),
+            kind: FaultKind::Syntax,
+        }),
+    }
+}
+
+// A query that nothing stands behind.
+fn whole_query(
+    alloc: Global,
+    tokens: &[Token],
+    nodes: &mut Nodes,
+    from: usize,
+) -> Result<Surface, Fault>
+    ensures { IfOk result (λ tree. Spells deepest (a_query tree) (drop from tokens.now) []) }
+{
+    let (surface, at) = query(alloc, tokens, nodes, NESTING, from)?;
+    if at < tokens.len() {
+        Err(Fault::Syntax { token: at })
+    } else {
+        Ok(surface)
+    }
+}
+
+// The end of the token before this one, or 0 where there is none.
+fn end_before(tokens: &[Token], token: usize) -> u64
+    ensures { IsEnd tokens.now result }
+{
+    if token == 0 {
+        return 0;
+    }
+    match tokens.get(token - 1) {
+        Some(last) => last.end,
+        None => end_of_all(tokens),
+    }
+}
+
+// The end of the last token, or 0 where there is none.
+fn end_of_all(tokens: &[Token]) -> u64
+    ensures { IsEnd tokens.now result }
+{
+    match tokens.last() {
+        Some(last) => last.end,
+        None => 0,
+    }
+}
+
+fn too_large(alloc: Global, what: &[u8], limit: u64) -> ReadFault
+    ensures { IsLimit what.now limit result }
+{
+    match u8::copy_items(alloc, what) {
+        Ok(what) => ReadFault::Fault {
+            at: 0,
+            kind: FaultKind::TooLarge { what, limit },
+        },
+        Err(_) => ReadFault::Memory,
+    }
+}

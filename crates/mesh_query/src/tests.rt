@@ -1,0 +1,270 @@
+// Token lists, with their trees and the places of their faults worked out by hand. In the texts here each token stands
+// between blanks.
+use crate::{parse, shown};
+use mesh_base::Str;
+use mesh_list::{Memory, Seq};
+use mesh_tokens::{FaultKind, ReadFault, Token, TokenKind, Tokens};
+use std::alloc::Global;
+use std::test::Fail as TestFail;
+
+fn text(alloc: Global, bytes: &[u8]) -> Result<Str, Memory> {
+    Ok(Seq::from_vec(Vec::from_slice(alloc, bytes)?))
+}
+
+fn number(word: &[u8]) -> u64 {
+    let mut value = 0u64;
+    for byte in word {
+        value = value
+            .wrapping_mul(10)
+            .wrapping_add(byte.wrapping_sub(48) as u64);
+    }
+    value
+}
+
+fn kind(alloc: Global, word: &[u8]) -> Result<TokenKind, Memory> {
+    Ok(match word {
+        [b'\'', inner @ .., _] => TokenKind::Text(text(alloc, inner)?),
+        [b'@', name @ ..] => TokenKind::Macro(text(alloc, name)?),
+        [b'0'..=b'9', ..] => TokenKind::Number(number(word)),
+        [b'a'..=b'z', ..] => TokenKind::Ident(text(alloc, word)?),
+        _ => TokenKind::Sign(text(alloc, word)?),
+    })
+}
+
+fn tokens(alloc: Global, written: &[u8]) -> Result<Tokens, Memory> {
+    let mut all = Seq::new(alloc);
+    let mut start = 0usize;
+    for word in written.split(|b| *b == b' ') {
+        if !word.is_empty() {
+            all.push(Token {
+                start: start as u64,
+                end: start.wrapping_add(word.len()) as u64,
+                kind: kind(alloc, word)?,
+            })?;
+        }
+        start = start.wrapping_add(word.len()).wrapping_add(1);
+    }
+    Ok(all)
+}
+
+// The tree as text, or none where the tokens are no query.
+fn tree(alloc: Global, written: &[u8]) -> Result<Vec<u8>, TestFail> {
+    let mut out = Vec::new(alloc);
+    match parse(&tokens(alloc, written)?, 0) {
+        Ok(surface) => shown::query(&mut out, &surface)?,
+        Err(_) => {}
+    }
+    Ok(out)
+}
+
+#[test]
+fn trees_of_expressions(rt: HostRuntime) -> Result<(), TestFail> {
+    let cases: [(&[u8], &[u8]); 21] = [
+        (b"select a or b and c", b"< (or a (and b c))>"),
+        (b"select a and b or c", b"< (or (and a b) c)>"),
+        (b"select not a and b", b"< (and (not a) b)>"),
+        (b"select not not a", b"< (not (not a))>"),
+        (b"select not a = b", b"< (not a = b)>"),
+        (b"select a - b - c", b"< {a - b - c}>"),
+        (b"select a + b * c", b"< {a + {b * c}}>"),
+        (b"select a || b + 1", b"< (cat a {b + 1})>"),
+        (b"select - - 1", b"< (neg (neg 1))>"),
+        (b"select - a * b", b"< {(neg a) * b}>"),
+        (b"select - a :: int", b"< (neg a::int)>"),
+        (b"select a :: text :: int", b"< a::text::int>"),
+        (
+            b"select a between 1 and 2 and b",
+            b"< (and a within 1..2 b)>",
+        ),
+        (b"select x not in ( 1 , 2 )", b"< x not-in 1 2>"),
+        (b"select x not between 1 and 2", b"< x outside 1..2>"),
+        (
+            b"select a is null or b is not null",
+            b"< (or a none b some)>",
+        ),
+        (b"select case when a then 1 end", b"< (case a->1)>"),
+        (
+            b"select case a when 1 then 2 when 3 then 4 else 5 end",
+            b"< (case of a 1->2 3->4 else 5)>",
+        ),
+        (b"select cast ( a as integer )", b"< (cast a int)>"),
+        (b"select ( a or b ) and c", b"< (and [(or a b)] c)>"),
+        (b"select a % 2 <= b / 3", b"< {a % 2} <= {b / 3}>"),
+    ];
+    for (written, expected) in cases {
+        assert!(rt; tree(rt.alloc(), written)?.as_slice() == expected);
+    }
+    Ok(())
+}
+
+#[test]
+fn trees_of_queries(rt: HostRuntime) -> Result<(), TestFail> {
+    let cases: [(&[u8], &[u8]); 17] = [
+        (
+            b"select date '2024-02-29' , date , date as d",
+            b"< day 19782 date date=d>",
+        ),
+        (
+            b"select true , false , null , 'it' , @start_ds",
+            b"< TRUE FALSE NULL 'it' @start_ds>",
+        ),
+        (
+            b"select count ( * ) , count ( distinct x ) , count ( x )",
+            b"< count(*) count(distinct x) count( x)>",
+        ),
+        (
+            b"select nullif ( a , b ) , coalesce ( a ) , coalesce ( a , b , c )",
+            b"< nullif( a b) coalesce( a) coalesce( a b c)>",
+        ),
+        (
+            b"select abs ( 1 ) , sum ( a ) , min ( a ) , max ( a )",
+            b"< abs( 1) sum( a) min( a) max( a)>",
+        ),
+        (b"select a , from t", b"< a|from t>"),
+        (b"select a ,", b"< a>"),
+        (b"select a , ;", b"< a>"),
+        (
+            b"select distinct * , t . * , t . a b from s . t as t",
+            b"<distinct * t.* t.a=b|from s.t=t>",
+        ),
+        (
+            b"select a from t , u cross join v",
+            b"< a|from t,u cross v>",
+        ),
+        (
+            b"select a from t join u on a = b inner join v x on c",
+            b"< a|from t inner u?a = b inner v=x?c>",
+        ),
+        (
+            b"select a from t left join u on a left outer join v on b",
+            b"< a|from t left u?a left v?b>",
+        ),
+        (
+            b"select a from t where b group by a , 1 having c ;",
+            b"< a|from t|where b|key a|key 1|having c>",
+        ),
+        (
+            b"with x as ( select 1 , ) , y as ( select 2 ) select 3",
+            b"with x{< 1>} with y{< 2>} < 3>",
+        ),
+        (
+            b"select 1 union all select 2 union all select 3",
+            b"< 1>< 2>< 3>",
+        ),
+        (b"select *", b"< *>"),
+        (
+            b"select count , sum , length from abs",
+            b"< count sum length|from abs>",
+        ),
+    ];
+    for (written, expected) in cases {
+        assert!(rt; tree(rt.alloc(), written)?.as_slice() == expected);
+    }
+    Ok(())
+}
+
+// The place of the fault of syntax, or 999 where there is another answer.
+fn place(alloc: Global, written: &[u8]) -> Result<u64, TestFail> {
+    match parse(&tokens(alloc, written)?, 0) {
+        Err(
+            ReadFault::Fault {
+                at,
+                kind: FaultKind::Syntax,
+            },
+        ) => Ok(at),
+        _ => Ok(999),
+    }
+}
+
+#[test]
+fn places_of_faults(rt: HostRuntime) -> Result<(), TestFail> {
+    let cases: [(&[u8], u64); 34] = [
+        (b"", 0),
+        (b"a", 0),
+        (b"select", 6),
+        (b"select a b c", 10),
+        (b"select a as", 11),
+        (b"select from t", 6),
+        (b"select select", 6),
+        (b"select a as where", 11),
+        (b"select a . where", 10),
+        (b"select a . * + 1", 12),
+        (b"select date '2024-02-30'", 11),
+        (b"select foo ( 1 )", 10),
+        (b"select abs ( 1 , 2 )", 14),
+        (b"select abs ( )", 12),
+        (b"select count ( )", 14),
+        (b"select nullif ( a )", 17),
+        (b"select nullif ( a , b , c )", 21),
+        (b"select sum ( distinct a )", 12),
+        (b"select sum ( * )", 12),
+        (b"select count ( distinct * )", 23),
+        (b"select a = not b", 10),
+        (b"select a = b = c", 12),
+        (b"select a is 1", 11),
+        (b"select a not 1", 12),
+        (b"select case end", 11),
+        (b"select case when a then b", 25),
+        (b"select a :: money", 11),
+        (b"select cast ( a as money )", 18),
+        (b"select a , , b", 10),
+        (b"select a )", 8),
+        (b"select a union select b", 14),
+        (b"select a from t join u where b", 22),
+        (b"select a ; select b", 10),
+        (b"with x as ( select 1 ) , select 2", 24),
+    ];
+    for (written, at) in cases {
+        assert_eq!(rt; place(rt.alloc(), written)?, at);
+    }
+    Ok(())
+}
+
+// The query `SELECT (1)` in that many parentheses.
+fn deep(alloc: Global, depth: usize) -> Result<Vec<u8>, TestFail> {
+    let mut written = Vec::from_slice(alloc, b"select")?;
+    for _ in 0..depth {
+        written.extend_from_slice(b" (")?;
+    }
+    written.extend_from_slice(b" 1")?;
+    for _ in 0..depth {
+        written.extend_from_slice(b" )")?;
+    }
+    Ok(written)
+}
+
+// The query `SELECT 1 + .. + 1` with that many operators.
+fn long(alloc: Global, operators: usize) -> Result<Vec<u8>, TestFail> {
+    let mut written = Vec::from_slice(alloc, b"select 1")?;
+    for _ in 0..operators {
+        written.extend_from_slice(b" + 1")?;
+    }
+    Ok(written)
+}
+
+// The first byte of the limit that is passed, or 0.
+fn limit(alloc: Global, written: &[u8]) -> Result<u8, TestFail> {
+    match parse(&tokens(alloc, written)?, 0) {
+        Err(
+            ReadFault::Fault {
+                at: 0,
+                kind: FaultKind::TooLarge { what, .. },
+            },
+        ) => match what.as_slice() {
+            [first, ..] => Ok(*first),
+            [] => Ok(1),
+        },
+        Ok(_) => Ok(0),
+        Err(_) => Ok(2),
+    }
+}
+
+#[test]
+fn limits(rt: HostRuntime) -> Result<(), TestFail> {
+    let alloc = rt.alloc();
+    assert_eq!(rt; limit(alloc, deep(alloc, 64)?.as_slice())?, 0);
+    assert_eq!(rt; limit(alloc, deep(alloc, 65)?.as_slice())?, b'n');
+    assert_eq!(rt; limit(alloc, long(alloc, 2047)?.as_slice())?, 0);
+    assert_eq!(rt; limit(alloc, long(alloc, 2048)?.as_slice())?, b'e');
+    Ok(())
+}

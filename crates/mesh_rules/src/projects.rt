@@ -1,0 +1,66 @@
+// Projects: the models of a folder, each after its parents.
+ghost use Rattle.std.specs.Prelude.{◌≡◌, IsTrue, IfOk};
+ghost use Rattle.mesh_rules.specs.Proper.{is_proper, project_of};
+
+use crate::proper::is_proper;
+use mesh_base::{Node, Nodes};
+use mesh_list::{Duplicate, Memory, Same};
+use std::marker::Model;
+
+/// The models of a project by rank and then by name, each with its parents' places. Each has what a model needs to be
+/// planned: its names are there, its rank is one more than its parents' greatest, and no two have one name.
+#[derive(Debug, Drop)]
+pub struct Project {
+    pub nodes: Nodes,
+}
+
+impl Model for Project {
+    ghost use Rattle.std.specs.Prelude.{IsTrue};
+    ghost use Rattle.std.specs.Coded.{codes};
+    ghost use Rattle.mesh_base.specs.contracts.expressions.Expr as expr;
+    ghost use Rattle.mesh_rules.specs.Proper.{ProjectNodes, is_proper};
+
+    ghost Value = { ProjectNodes };
+
+    ghost coded = { Prim.hlevel (codes, expr.the_row.coded) };
+
+    ghost view = { λ a. record { nodes = a.nodes } };
+
+    ghost inverse = { λ d. record { nodes = d.nodes } };
+
+    ghost invariant = { λ a. IsTrue (is_proper a.nodes) };
+}
+
+impl Project {
+    /// The project of these nodes, and none where they aren't a proper one.
+    pub fn new(nodes: Nodes) -> Result<Option<Project>, Memory>
+        ensures { IfOk result (λ made. made ≡ project_of nodes) }
+    {
+        if is_proper(nodes.as_slice())? {
+            return Ok(Some(Project { nodes }));
+        }
+        Ok(None)
+    }
+
+    /// Each project is proper.
+    pub fn as_slice(&self) -> &[Node]
+        ensures nodes { result.now ≡ self.now.nodes }
+        ensures proper { IsTrue (is_proper self.now.nodes) }
+    {
+        self.nodes.as_slice()
+    }
+}
+
+impl Duplicate for Project {
+    fn copy(&self) -> Result<Project, Memory> {
+        Ok(Project {
+            nodes: self.nodes.copy()?,
+        })
+    }
+}
+
+impl Same for Project {
+    fn same(&self, other: &Project) -> bool {
+        self.nodes.same(&other.nodes)
+    }
+}
