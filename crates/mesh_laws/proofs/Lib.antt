@@ -1,0 +1,12 @@
+-- Lists: what holds of each element.
+pub mod Lists
+-- Perm: lists in another order.
+pub mod Perm
+-- Amounts: aggregates don't hang on the order.
+pub mod Amounts
+-- Members: nor does the value of an expression for a group.
+pub mod Members
+-- Bags: nor do the rows of a query, as a bag.
+pub mod Bags
+-- Zips: two lists related one by one.
+pub mod Zips

@@ -1,0 +1,8 @@
+//! What a model's rows are from scratch, at a moment and over the sources as they stand. Its definitions are read in this
+//! order: `Closures`, `Horizons`, `Times`, `Sources` and `Scratch`. They are its contract, with laws that show them at
+//! work. It stands on `mesh_meaning` and `mesh_time`.
+#![tactic(auto)]
+
+mod laws;
+
+pub use laws::full_models_have_their_query;
