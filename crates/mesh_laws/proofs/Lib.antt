@@ -10,3 +10,5 @@ pub mod Members
 pub mod Bags
 -- Zips: two lists related one by one.
 pub mod Zips
+-- Reading: a query's rows hang on the columns that it reads alone.
+pub mod Reading

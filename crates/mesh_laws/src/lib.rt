@@ -3,4 +3,4 @@
 
 mod laws;
 
-pub use laws::rows_respect_bags;
+pub use laws::{rows_hang_on_read_columns, rows_respect_bags};
