@@ -12,3 +12,5 @@ pub mod Bags
 pub mod Zips
 -- Reading: a query's rows hang on the columns that it reads alone.
 pub mod Reading
+-- Cutting: tables that are cut to what a query reads.
+pub mod Cutting

@@ -42,25 +42,25 @@ use Rattle.mesh_laws.specs.Reads.{expressions, on_of, is_named, is_item_of, colu
 use Rattle.mesh_laws.proofs.Lists.{Each, each, Each_left, Each_right, Each_map}
 use Rattle.mesh_laws.proofs.Zips.{zip_append, zip_map, zip_flat, zip_filter, zip_same, zip_of_map, zip_imp, zip_itself}
 
-abbrev Str : Type 0
+abbrev pub Str : Type 0
 Str = List ℕ
 
-abbrev Row : Type 0
+abbrev pub Row : Type 0
 Row = List Cell
 
 -- a name is among some
-abbrev among : List Str → Str → Bool
+abbrev pub among : List Str → Str → Bool
 among all c = list_any (λ n. same_text n c) all
 
-equal_of : (o : Ordering) → is_eq o ≡ true → o ≡ Equal
+pub equal_of : (o : Ordering) → is_eq o ≡ true → o ≡ Equal
 equal_of Less e = cc
 equal_of Equal e = refl
 equal_of Greater e = cc
 
-text_is : (a b : Str) → same_text a b ≡ true → a ≡ b
+pub text_is : (a b : Str) → same_text a b ≡ true → a ≡ b
 text_is a b e = exact_bytes a b (equal_of (text_cmp a b) e)
 
-text_self : (a : Str) → same_text a a ≡ true
+pub text_self : (a : Str) → same_text a a ≡ true
 text_self a = ap is_eq (tied_itself texts_total a)
 
 abbrev Within : List Str → List Str → Type 0

@@ -6,7 +6,7 @@ ghost use Rattle.mesh_base.specs.declared.queries.Query.{Query};
 ghost use Rattle.mesh_base.specs.declared.times.Bounds.{Bounds};
 ghost use Rattle.mesh_meaning.specs.Sel.{Sel};
 ghost use Rattle.mesh_laws.specs.Alike.{HaveSameBags};
-ghost use Rattle.mesh_laws.specs.Reads.{AgreeOnReads};
+ghost use Rattle.mesh_laws.specs.Reads.{AgreeOnReads, cut_inputs};
 
 /// Where the tables that a query names have the same columns and the same rows, in whatever order, its rows are the same
 /// but for their order.
@@ -15,7 +15,8 @@ pub fn rows_respect_bags()
 {}
 
 /// Where the tables that a query names have the same rows as far as it reads their columns, its rows are the same list,
-/// whatever other columns the tables have.
+/// whatever other columns the tables have. So it has the same rows over tables without those other columns.
 pub fn rows_hang_on_read_columns()
-    ensures { (q : Query) (a b : List Input) → AgreeOnReads q a b → (u : Bounds) → Sel q a u ≡ Sel q b u }
+    ensures agree { (q : Query) (a b : List Input) → AgreeOnReads q a b → (u : Bounds) → Sel q a u ≡ Sel q b u }
+    ensures cut { (q : Query) (inputs : List Input) (u : Bounds) → Sel q (cut_inputs q inputs) u ≡ Sel q inputs u }
 {}

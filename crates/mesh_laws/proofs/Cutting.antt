@@ -1,0 +1,67 @@
+-- Tables that are cut to what a query reads give it the same rows.
+use Rattle.std.proofs.Common.{◌≡◌, ℕ, Bool, true, false, cond, ◌||◌, List, [], ◌∷◌, map, refl, ap, sym, ◌∙◌, subst}
+use Rattle.std.specs.List.{All, find, list_any}
+use Rattle.std.specs.Ordering.{is_eq}
+use Rattle.std.specs.declared.option.Option.{Option}
+use Rattle.std.specs.declared.option.Option.TheVariants.{None, Some}
+use Rattle.mesh_base.specs.NameOrder.{names_exact}
+use Rattle.mesh_base.specs.Names.{name_cmp}
+use Rattle.mesh_base.specs.Picked.{same_text, cell_of, picked_row, picked_rows, picked_columns}
+use Rattle.mesh_base.specs.declared.times.Bounds.{Bounds}
+use Rattle.mesh_base.specs.declared.values.Cell.{Cell}
+use Rattle.mesh_base.specs.declared.values.Cell.TheVariants.{Null}
+use Rattle.mesh_base.specs.declared.values.Column.{Column}
+use Rattle.mesh_base.specs.declared.values.Name.{Name}
+use Rattle.mesh_base.specs.declared.jobs.Input.{Input}
+use Rattle.mesh_base.specs.declared.queries.Query.{Query}
+use Rattle.mesh_meaning.specs.Sel.{Sel}
+use Rattle.mesh_laws.specs.Alike.{names, named}
+use Rattle.mesh_laws.specs.Reads.{reads, cut, cut_input, cut_inputs}
+use Rattle.mesh_laws.proofs.Lists.{Each}
+use Rattle.mesh_laws.proofs.Reading.{Str, Row, among, equal_of, text_is, text_self, sel_reads}
+
+-- what a cut row has in a column
+look : (all : List Str) (cs : List Column) (row : Row) (c : Str) → cell_of (picked_columns all cs) (picked_row all cs row) c ≡ cond (among all c) (cell_of cs row c) Null
+look [] cs row c = refl
+look (n ∷ all) cs row c = go (same_text n c) refl (look all cs row c)
+  where
+    go : (b : Bool) → same_text n c ≡ b → cell_of (picked_columns all cs) (picked_row all cs row) c ≡ cond (among all c) (cell_of cs row c) Null
+        → cond b (cell_of cs row n) (cell_of (picked_columns all cs) (picked_row all cs row) c) ≡ cond (b || among all c) (cell_of cs row c) Null
+    go true e ih = ap (cell_of cs row) (text_is n c e)
+    go false e ih = ih
+
+found_in : (all : List Str) (cs : List Column) (row : Row) (c : Str) → among all c ≡ true → cell_of (picked_columns all cs) (picked_row all cs row) c ≡ cell_of cs row c
+found_in all cs row c h = look all cs row c ∙ ap (λ b. cond b (cell_of cs row c) Null) h
+
+each_among : (all xs : List Str) → ((c : Str) → among xs c ≡ true → among all c ≡ true) → Each (λ c. among all c ≡ true) xs
+each_among all [] h = tt
+each_among all (x ∷ xs) h = (h x (ap (λ b. b || among xs x) (text_self x)), each_among all xs (λ c k. h c (later (same_text x c) (among xs c) k)))
+  where
+    later : (b m : Bool) → m ≡ true → (b || m) ≡ true
+    later true m k = refl
+    later false m k = k
+
+row_twice : (all : List Str) (cs : List Column) (row : Row) (some : List Str) → Each (λ c. among all c ≡ true) some → picked_row some (picked_columns all cs) (picked_row all cs row) ≡ picked_row some cs row
+row_twice all cs row [] h = refl
+row_twice all cs row (c ∷ some) h = λ i. found_in all cs row c h.0 i ∷ row_twice all cs row some h.1 i
+
+twice : (all : List Str) (cs : List Column) (rows : List Row) → picked_rows all (picked_columns all cs) (picked_rows all cs rows) ≡ picked_rows all cs rows
+twice all cs [] = refl
+twice all cs (row ∷ rows) = λ i. row_twice all cs row all (each_among all all (λ c h. h)) i ∷ twice all cs rows i
+
+cut_found : (q : Query) (name : Name) (inputs : List Input) → cut (reads q name) (named (cut_inputs q inputs) name) ≡ cut (reads q name) (named inputs name)
+cut_found q name [] = refl
+cut_found q name (x ∷ xs) = go (is_eq (name_cmp x.name name)) refl (cut_found q name xs)
+  where
+    go : (b : Bool) → is_eq (name_cmp x.name name) ≡ b → cut (reads q name) (named (cut_inputs q xs) name) ≡ cut (reads q name) (named xs name)
+        → cut (reads q name) (cond b (Some (cut_input q x)) (named (cut_inputs q xs) name)) ≡ cut (reads q name) (cond b (Some x) (named xs name))
+    go true e ih =
+        let same : x.name ≡ name = names_exact x.name name (equal_of (name_cmp x.name name) e) in
+        ap (λ all. picked_rows (reads q name) (picked_columns all x.columns) (picked_rows all x.columns x.rows)) (ap (reads q) same) ∙ twice (reads q name) x.columns x.rows
+    go false e ih = ih
+
+pub sel_cut : (q : Query) (inputs : List Input) (u : Bounds) → Sel q (cut_inputs q inputs) u ≡ Sel q inputs u
+sel_cut q inputs u = sel_reads q (cut_inputs q inputs) inputs (each_one (names q)) u
+  where
+    each_one : (all : List Name) → All (λ name. cut (reads q name) (named (cut_inputs q inputs) name) ≡ cut (reads q name) (named inputs name)) all
+    each_one all k d l = cut_found q _ inputs
