@@ -1,6 +1,6 @@
 -- How far a model's rows go at a moment.
 use Rattle.std.specs.Prelude.{◌≡◌, ℕ, ℤ, pos, ◌*ℤ◌, Bool, true, false, if◌then◌else◌, List, [], ◌∷◌, ◌++◌, IsTrue}
-use Rattle.std.specs.List.{fold}
+use Rattle.std.specs.List.{All, fold}
 use Rattle.std.specs.Int.{int_min, int_div_euclid}
 use Rattle.std.specs.declared.option.Option.{Option}
 use Rattle.std.specs.declared.option.Option.TheVariants.{None, Some}
@@ -12,7 +12,7 @@ use Rattle.mesh_base.specs.declared.definitions.Own.{Own}
 use Rattle.mesh_base.specs.Crons.{is_cron}
 use Rattle.mesh_time.specs.Ticks.{IsFloor}
 use Rattle.mesh_time.specs.Ranges.{unit_size, units}
-use Rattle.mesh_scratch.specs.Closures.{Closure, Closures, Model, Alone, With, own_of}
+use Rattle.mesh_scratch.specs.Closures.{Closure, Closures, Model, Alone, With, own_of, lineage}
 
 -- the start of the unit that a second lies in
 abbrev pub floored : TimeUnit → ℤ → ℤ
@@ -29,6 +29,10 @@ Clock = Own → ℤ
 -- a clock that shows a moment; every cron that reading can give has one last tick there
 abbrev pub Shows : Clock → ℤ → Type 0
 Shows clock t = (own : Own) → IsTrue (is_cron own.cron) → IsLastTick t own (clock own)
+
+-- each model among a closure and its ancestors has a cron that reading can give
+abbrev pub HasCrons : Closure → Type 0
+HasCrons c = All (λ own. IsTrue (is_cron own.cron)) (lineage c)
 
 abbrev pub is_incremental : Kind → Bool
 is_incremental (Incremental time) = true

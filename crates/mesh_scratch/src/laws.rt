@@ -1,17 +1,61 @@
 // What the definitions give.
-ghost use Rattle.std.specs.Prelude.{◌≡◌, List, [], ◌∷◌};
+ghost use Rattle.std.specs.Prelude.{◌≡◌, true, ℕ, ℤ, ◌≤ℤ◌, List, [], ◌∷◌, map};
+ghost use Rattle.std.specs.List.{All, Contains, flat_map, list_any};
 ghost use Rattle.mesh_base.specs.declared.jobs.Input.{Input};
+ghost use Rattle.mesh_base.specs.declared.values.Cell.{Cell};
+ghost use Rattle.mesh_base.specs.declared.values.Column.{Column};
 ghost use Rattle.mesh_base.specs.declared.definitions.Own.{Own};
-ghost use Rattle.mesh_base.specs.declared.definitions.Kind.TheVariants.{Full};
-ghost use Rattle.mesh_base.specs.declared.definitions.Defn.TheVariants.{Sql};
+ghost use Rattle.mesh_base.specs.declared.definitions.Kind.TheVariants as kind;
+ghost use Rattle.mesh_base.specs.declared.definitions.Defn.TheVariants as defn;
 ghost use Rattle.mesh_base.specs.declared.queries.Query.{Query};
+ghost use Rattle.mesh_base.specs.declared.snapshots.Node.{Node};
+ghost use Rattle.mesh_base.specs.Outputs.{columns_of};
 ghost use Rattle.mesh_meaning.specs.Sel.{Sel};
-ghost use Rattle.mesh_scratch.specs.Closures.{Closure, Closures, Model};
-ghost use Rattle.mesh_scratch.specs.Horizons.{Clock};
-ghost use Rattle.mesh_scratch.specs.Scratch.{from_scratch, inputs_of, no_bounds};
+ghost use Rattle.mesh_scratch.specs.Closures.{Closure, Closures, Model, Alone, With, own_of, parents_of, each_of, closures};
+ghost use Rattle.mesh_scratch.specs.Horizons.{Clock, Shows, HasCrons, is_incremental, horizon, horizons_of, schedule};
+ghost use Rattle.mesh_scratch.specs.Times.{lies_in};
+ghost use Rattle.mesh_scratch.specs.Scratch.{from_scratch, inputs_of, no_bounds, piece};
 
-/// A FULL model has the rows of its query over what it reads, from scratch.
-pub fn full_models_have_their_query()
-    ensures { (sources : List Input) (clock : Clock) (own : Own) (parents : Closures) (q : Query) → own.kind ≡ Full → own.defn ≡ Sql q →
+/// The closures of a project are one for each model, and the parents of each are among them.
+pub fn projects_are_closed_under_parents()
+    ensures one_each { (nodes : List Node) → map own_of (closures nodes) ≡ map (λ (n : Node). n.own) nodes }
+    ensures parents { (nodes : List Node) → All (λ c. All (Contains (closures nodes)) (each_of (parents_of c))) (closures nodes) }
+{}
+
+/// A seed has its rows. A view and a FULL model have those of their query. An incremental model has, for each unit of
+/// its schedule, those of its query for that unit which lie in it.
+pub fn rows_go_by_the_kind()
+    ensures seed { (sources : List Input) (clock : Clock) (own : Own) (parents : Closures) (columns : List Column) (rows : List (List Cell)) → own.kind ≡ kind.Seed → own.defn ≡ defn.Seed columns rows →
+        from_scratch sources clock (Model own parents) ≡ rows }
+    ensures view { (sources : List Input) (clock : Clock) (own : Own) (parents : Closures) (q : Query) → own.kind ≡ kind.View → own.defn ≡ defn.Sql q →
         from_scratch sources clock (Model own parents) ≡ Sel q (inputs_of sources clock (Model own parents)) no_bounds }
+    ensures full { (sources : List Input) (clock : Clock) (own : Own) (parents : Closures) (q : Query) → own.kind ≡ kind.Full → own.defn ≡ defn.Sql q →
+        from_scratch sources clock (Model own parents) ≡ Sel q (inputs_of sources clock (Model own parents)) no_bounds }
+    ensures incremental { (sources : List Input) (clock : Clock) (own : Own) (parents : Closures) (time : List ℕ) → own.kind ≡ kind.Incremental time →
+        from_scratch sources clock (Model own parents) ≡ flat_map (piece sources clock (Model own parents) time) (schedule clock (Model own parents)) }
+{}
+
+/// A FULL model of one seed has the rows of its query over the seed's rows.
+pub fn full_models_read_their_seed()
+    ensures { (sources : List Input) (clock : Clock) (own seed : Own) (q : Query) (columns : List Column) (rows : List (List Cell)) →
+        own.kind ≡ kind.Full → own.defn ≡ defn.Sql q → own.sources ≡ [] → seed.kind ≡ kind.Seed → seed.defn ≡ defn.Seed columns rows →
+        from_scratch sources clock (Model own (With (Model seed Alone) Alone)) ≡ Sel q (record { name = seed.name; columns = columns; rows = rows } ∷ []) no_bounds }
+{}
+
+/// Each row of an incremental model lies in a unit of its schedule.
+pub fn rows_lie_in_the_schedule()
+    ensures { (sources : List Input) (clock : Clock) (own : Own) (parents : Closures) (time : List ℕ) → own.kind ≡ kind.Incremental time →
+        All (λ row. list_any (λ u. lies_in (columns_of own) time u row) (schedule clock (Model own parents)) ≡ true) (from_scratch sources clock (Model own parents)) }
+{}
+
+/// An incremental model goes no further than its own last tick, nor than any of its incremental ancestors.
+pub fn horizons_are_no_further_than_ancestors()
+    ensures { (clock : Clock) (own : Own) (parents : Closures) → is_incremental own.kind ≡ true →
+        (horizon clock (Model own parents) ≤ℤ clock own) × All (λ h. horizon clock (Model own parents) ≤ℤ h) (horizons_of clock parents) }
+{}
+
+/// A moment decides the horizon and the rows of a closure, whichever clock shows it.
+pub fn moments_decide_rows()
+    ensures horizons { (t : ℤ) (clock other : Clock) → Shows clock t → Shows other t → (c : Closure) → HasCrons c → horizon clock c ≡ horizon other c }
+    ensures rows { (t : ℤ) (clock other : Clock) → Shows clock t → Shows other t → (c : Closure) → HasCrons c → (sources : List Input) → from_scratch sources clock c ≡ from_scratch sources other c }
 {}
