@@ -4,3 +4,5 @@ pub mod Moments
 pub mod Rows
 -- Listed: a project's closures.
 pub mod Listed
+-- Examples: small models and what they have, worked out by hand.
+pub mod Examples

@@ -1,0 +1,200 @@
+-- Small models and what they have, worked out by hand.
+use Rattle.std.proofs.Common.{◌≡◌, ℕ, ◌*◌, ℤ, pos, Bool, true, false, cond, List, [], ◌∷◌, map, length, refl, ap, sym, ◌∙◌}
+use Rattle.std.specs.Prelude.{codes}
+use Rattle.std.specs.declared.option.Option.{Option}
+use Rattle.std.specs.declared.option.Option.TheVariants.{None, Some}
+use Rattle.std.specs.Ordering.{is_eq}
+use Rattle.mesh_base.specs.declared.values.Cell.{Cell}
+use Rattle.mesh_base.specs.declared.values.Cell.TheVariants as cell
+use Rattle.mesh_base.specs.declared.values.ColType.TheVariants as type
+use Rattle.mesh_base.specs.declared.values.Column.{Column}
+use Rattle.mesh_base.specs.declared.values.Name.{Name}
+use Rattle.mesh_base.specs.declared.times.Bounds.{Bounds}
+use Rattle.mesh_base.specs.declared.times.Unit.TheVariants as unit
+use Rattle.mesh_base.specs.declared.definitions.Decl.{Decl}
+use Rattle.mesh_base.specs.declared.definitions.Defn.TheVariants as defn
+use Rattle.mesh_base.specs.declared.definitions.Kind.TheVariants as kind
+use Rattle.mesh_base.specs.declared.definitions.Own.{Own}
+use Rattle.mesh_base.specs.declared.expressions.Expr.{Expr, roll-Expr, out-roll-Expr}
+use Rattle.mesh_base.specs.declared.expressions.Expr as expr
+use Rattle.mesh_base.specs.declared.expressions.Expr.TheOpen.{Col, Binary}
+use Rattle.mesh_base.specs.declared.expressions.Op.TheVariants as op
+use Rattle.mesh_base.specs.declared.jobs.Input.{Input}
+use Rattle.mesh_base.specs.declared.queries.Query.{Query}
+use Rattle.mesh_base.specs.declared.queries.Rel.TheVariants as rel
+use Rattle.mesh_base.specs.declared.queries.Join.TheVariants as join
+use Rattle.mesh_base.specs.Crons.{CronSets}
+use Rattle.mesh_meaning.specs.Cells.{compared}
+use Rattle.mesh_meaning.specs.Ev.{Ev, Seen, Scope, at_row, key_or, key_of, node_value, valued}
+use Rattle.mesh_meaning.specs.Sel.{Sel}
+use Rattle.mesh_meaning.proofs.Nodes.{Ev_out}
+use Rattle.mesh_scratch.specs.Closures.{Closure, Closures, Model, Alone, With}
+use Rattle.mesh_scratch.specs.Horizons.{Clock, horizon, schedule}
+use Rattle.mesh_scratch.specs.Sources.{declared}
+use Rattle.mesh_scratch.specs.Times.{lies_in}
+use Rattle.mesh_scratch.specs.Scratch.{from_scratch, no_bounds}
+use Rattle.mesh_scratch.proofs.Rows.{full_over_seed}
+
+-- a weekly model, and a daily one over it
+abbrev midnight : Bool → CronSets
+midnight each_day = record { minute = 1; hour = 1; dom = 0xffff_fffe; month = 0x1ffe; dow = cond each_day 0x7f 1; dom_star = true; dow_star = each_day }
+
+abbrev model : List ℕ → Bool → ℤ → Own
+model name each_day start = record {
+  name = record { schema = codes "a"; model = name };
+  kind = kind.Incremental (codes "t");
+  cron = midnight each_day;
+  unit = unit.Day;
+  start = Some start;
+  sources = [];
+  defn = defn.Sql (record { ctes = []; selects = [] });
+}
+
+-- from 2024-02-25 on
+abbrev weekly : Closure
+weekly = Model (model (codes "w") false (pos 19_778)) Alone
+
+-- from 2024-03-01 on
+abbrev daily : Closure
+daily = Model (model (codes "d") true (pos 19_783)) (With weekly Alone)
+
+-- on 2024-03-05 the last Sunday was 2024-03-03
+abbrev on_tuesday : Clock
+on_tuesday own = pos (cond own.cron.dow_star 19_787 19_785 * 86_400)
+
+weekly_horizon : horizon on_tuesday weekly ≡ pos (19_785 * 86_400)
+weekly_horizon = refl
+
+daily_horizon : horizon on_tuesday daily ≡ pos (19_785 * 86_400)
+daily_horizon = refl
+
+weekly_units : length (schedule on_tuesday weekly) ≡ 7
+weekly_units = refl
+
+daily_units : length (schedule on_tuesday daily) ≡ 2
+daily_units = refl
+
+-- a source with more columns than are declared, in another order
+abbrev orders : List ℕ → Decl
+orders column = record {
+  name = record { schema = codes "raw"; model = codes "orders" };
+  columns = record { name = codes "id"; kind = type.Int } ∷ record { name = column; kind = type.Int } ∷ [];
+  time = None;
+}
+
+abbrev loaded : List Input
+loaded =
+    record {
+      name = record { schema = codes "raw"; model = codes "orders" };
+      columns = record { name = codes "qty"; kind = type.Int } ∷ record { name = codes "note"; kind = type.Text } ∷ record { name = codes "id"; kind = type.Int } ∷ [];
+      rows = (cell.Int (pos 5) ∷ cell.Null ∷ cell.Int (pos 1) ∷ []) ∷ (cell.Null ∷ cell.Text (codes "x") ∷ cell.Int (pos 2) ∷ []) ∷ [];
+    } ∷ []
+
+cut_as_declared : (declared loaded (orders (codes "qty"))).rows ≡ (cell.Int (pos 1) ∷ cell.Int (pos 5) ∷ []) ∷ (cell.Int (pos 2) ∷ cell.Null ∷ []) ∷ []
+cut_as_declared = refl
+
+-- `note` is there with another type, `price` isn't there, and without a load there is no source
+of_another_type : (declared loaded (orders (codes "note"))).rows ≡ []
+of_another_type = refl
+
+without_a_column : (declared loaded (orders (codes "price"))).rows ≡ []
+without_a_column = refl
+
+not_loaded : (declared [] (orders (codes "qty"))).rows ≡ []
+not_loaded = refl
+
+-- a row at the start of a unit lies in it, one at its end doesn't, and one without a time doesn't
+abbrev stamped : Cell → List Cell
+stamped t = cell.Null ∷ t ∷ []
+
+abbrev lies : Cell → Bool
+lies t = lies_in (record { name = codes "id"; kind = type.Int } ∷ record { name = codes "t"; kind = type.Int } ∷ []) (codes "t") (record { start = pos 86_400; end = pos 172_800 }) (stamped t)
+
+at_its_start : lies (cell.Int (pos 86_400)) ≡ true
+at_its_start = refl
+
+at_its_last_second : lies (cell.Int (pos 172_799)) ≡ true
+at_its_last_second = refl
+
+at_its_end : lies (cell.Int (pos 172_800)) ≡ false
+at_its_end = refl
+
+on_its_day : lies (cell.Date (pos 1)) ≡ true
+on_its_day = refl
+
+on_the_next_day : lies (cell.Date (pos 2)) ≡ false
+on_the_next_day = refl
+
+without_a_time : lies cell.Null ≡ false
+without_a_time = refl
+
+-- a seed, and a FULL model that joins it to itself on a column with NULLs
+abbrev k : List ℕ
+k = codes "k"
+
+abbrev v : List ℕ
+v = codes "v"
+
+abbrev seed_name : Name
+seed_name = record { schema = codes "a"; model = codes "s" }
+
+abbrev seed_columns : List Column
+seed_columns = record { name = k; kind = type.Text } ∷ record { name = v; kind = type.Int } ∷ []
+
+abbrev seed_rows : List (List Cell)
+seed_rows = (cell.Null ∷ cell.Int (pos 9_223_372_036_854_775_807) ∷ []) ∷ (cell.Null ∷ cell.Int (pos 1) ∷ []) ∷ (cell.Text (codes "b") ∷ cell.Int (pos 2) ∷ []) ∷ []
+
+abbrev seed : Own
+seed = record { name = seed_name; kind = kind.Seed; cron = midnight true; unit = unit.Day; start = None; sources = []; defn = defn.Seed seed_columns seed_rows }
+
+same_key : Expr
+same_key = expr.Binary op.Eq (expr.Col 0 k) (expr.Col 1 k)
+
+left_key : Expr
+left_key = expr.Col 0 k
+
+right_value : Expr
+right_value = expr.Col 1 v
+
+-- SELECT x.k, y.v FROM a.s AS x LEFT JOIN a.s AS y ON x.k = y.k
+abbrev self_join : Query
+self_join = record {
+  ctes = [];
+  selects = record {
+    distinct = false;
+    grouped = false;
+    items = record { name = k; kind = type.Text; expr = left_key } ∷ record { name = v; kind = type.Int; expr = right_value } ∷ [];
+    from = record { join = join.First; rel = rel.Named seed_name; on = None } ∷ record { join = join.Left; rel = rel.Named seed_name; on = Some same_key } ∷ [];
+    filter = None;
+    keys = [];
+    having = None;
+  } ∷ [];
+}
+
+abbrev joined : Own
+joined = record { name = record { schema = codes "a"; model = codes "j" }; kind = kind.Full; cron = midnight true; unit = unit.Day; start = None; sources = []; defn = defn.Sql self_join }
+
+column_is : (item : ℕ) (name : List ℕ) (u : Bounds) (row : Seen) → Ev (expr.Col item name) (at_row u row) ≡ row item name
+unfolding roll-Expr denote.Hole.Carrier.roll
+column_is item name u row = Ev_out (expr.Col item name) (at_row u row) ∙ ap (λ d. node_value (valued d) (at_row u row)) (out-roll-Expr (Col item name))
+
+left_key_is : (u : Bounds) (row : Seen) → Ev left_key (at_row u row) ≡ row 0 k
+unfolding left_key
+left_key_is u row = column_is 0 k u row
+
+right_value_is : (u : Bounds) (row : Seen) → Ev right_value (at_row u row) ≡ row 1 v
+unfolding right_value
+right_value_is u row = column_is 1 v u row
+
+same_key_is : (u : Bounds) (row : Seen) → Ev same_key (at_row u row) ≡ compared is_eq (row 0 k) (row 1 k)
+unfolding same_key roll-Expr denote.Hole.Carrier.roll
+same_key_is u row =
+    Ev_out (expr.Binary op.Eq (expr.Col 0 k) (expr.Col 1 k)) (at_row u row)
+    ∙ ap (λ d. node_value (valued d) (at_row u row)) (out-roll-Expr (Binary op.Eq (expr.Col 0 k) (expr.Col 1 k)))
+    ∙ (λ i. compared is_eq (column_is 0 k u row i) (column_is 1 k u row i))
+
+-- NULL pairs with nothing: the two rows without a key stand once each, with NULLs beside them
+joined_rows : (sources : List Input) (clock : Clock) → from_scratch sources clock (Model joined (With (Model seed Alone) Alone)) ≡ (cell.Null ∷ cell.Null ∷ []) ∷ (cell.Null ∷ cell.Null ∷ []) ∷ (cell.Text (codes "b") ∷ cell.Int (pos 2) ∷ []) ∷ []
+joined_rows sources clock =
+    full_over_seed sources clock joined seed self_join seed_columns seed_rows refl refl refl refl refl
+    ∙ simp (same_key_is, left_key_is, right_value_is) refl
