@@ -1,6 +1,6 @@
 -- What an aggregate makes of cells doesn't hang on their order.
-use Rattle.std.proofs.Common.{◌≡◌, ℤ, pos, ◌+ℤ◌, Bool, true, false, cond, ◌||◌, List, [], ◌∷◌, ◌++◌, map, length, refl, ap, sym, ◌∙◌, subst}
-use Rattle.std.specs.List.{filter, list_any, fold}
+use Rattle.std.proofs.Common.{◌≡◌, ℤ, pos, ◌+ℤ◌, Bool, true, false, cond, ◌||◌, List, [], ◌∷◌, ◌++◌, refl, ap, sym, ◌∙◌, subst}
+use Rattle.std.specs.List.{list_any}
 use Rattle.std.specs.declared.cmp.Ordering.{Ordering}
 use Rattle.std.specs.declared.cmp.Ordering.TheVariants.{Less, Equal, Greater}
 use Rattle.std.specs.Ordering.{is_lt, is_eq, ordering_reverse, flip_args}
@@ -15,7 +15,7 @@ use Rattle.mesh_base.specs.declared.expressions.AggKind.TheVariants.{Count, Coun
 use Rattle.mesh_base.specs.Order.{cell_order, row_order}
 use Rattle.mesh_base.proofs.Total.{cell_total, cell_exact, row_total, row_exact}
 use Rattle.mesh_meaning.specs.Cells.{is_null, number}
-use Rattle.mesh_meaning.specs.Aggregates.{distinct, same_cell, known, is_number, addend, total, smaller, larger, count_of, agg_value}
+use Rattle.mesh_meaning.specs.Aggregates.{distinct, same_cell, is_number, addend, smaller, larger, count_of, agg_value}
 use Rattle.mesh_meaning.specs.Sel.{same_row}
 use Rattle.mesh_laws.proofs.Perm.{Perm, nil, skip, swap, trans, same, is, after, as_long, any_same, folds, fold_same, filtered}
 

@@ -1,6 +1,6 @@
 -- A query's rows are one bag where its inputs' are.
-use Rattle.std.proofs.Common.{◌≢◌, ◌≡◌, ℕ, suc, zero, ◌+◌, Bool, true, false, cond, List, [], ◌∷◌, ◌++◌, map, length, refl, ap, sym, ◌∙◌, subst, arith}
-use Rattle.std.specs.List.{All, AllZip, filter, flat_map, fold, slice_get}
+use Rattle.std.proofs.Common.{◌≢◌, ◌≡◌, ℕ, suc, zero, ◌+◌, Bool, true, false, cond, List, [], ◌∷◌, ◌++◌, map, refl, ap, sym, ◌∙◌, arith}
+use Rattle.std.specs.List.{AllZip, filter, flat_map, fold, slice_get}
 use Rattle.std.specs.Ordering.{is_eq}
 use Rattle.std.specs.declared.cmp.Ordering.{Ordering}
 use Rattle.std.specs.declared.cmp.Ordering.TheVariants.{Less, Equal, Greater}
@@ -29,7 +29,7 @@ use Rattle.mesh_base.proofs.Total.{row_total, row_exact}
 use Rattle.mesh_rules.specs.Proper.{rel_names, from_names, select_names, selects_names, names_of_all}
 use Rattle.mesh_meaning.specs.Cells.{is_true}
 use Rattle.mesh_meaning.specs.Aggregates.{distinct}
-use Rattle.mesh_meaning.specs.Ev.{Scope, Ev, seen}
+use Rattle.mesh_meaning.specs.Ev.{seen}
 use Rattle.mesh_meaning.specs.Tables.{relation, columns_in, rows_in}
 use Rattle.mesh_meaning.specs.Sel.{Joined, same_row, holds, row_holds, partners, kept, join_item, from_columns, from_rows, key_list, group_of, groups, group_scope, item_row, plain_rows, group_row, grouped_rows, made_rows, select_rows, union_rows, cte_input, cte_inputs, Sel, row_scope}
 use Rattle.mesh_laws.specs.Alike.{names, named, IsSameTable, HaveSameBags}

@@ -1,14 +1,12 @@
 -- Tables that are cut to what a query reads give it the same rows.
-use Rattle.std.proofs.Common.{◌≡◌, ℕ, Bool, true, false, cond, ◌||◌, List, [], ◌∷◌, map, refl, ap, sym, ◌∙◌, subst}
-use Rattle.std.specs.List.{All, find, list_any}
+use Rattle.std.proofs.Common.{◌≡◌, Bool, true, false, cond, ◌||◌, List, [], ◌∷◌, refl, ap, ◌∙◌}
+use Rattle.std.specs.List.{All}
 use Rattle.std.specs.Ordering.{is_eq}
-use Rattle.std.specs.declared.option.Option.{Option}
-use Rattle.std.specs.declared.option.Option.TheVariants.{None, Some}
+use Rattle.std.specs.declared.option.Option.TheVariants.{Some}
 use Rattle.mesh_base.specs.NameOrder.{names_exact}
 use Rattle.mesh_base.specs.Names.{name_cmp}
 use Rattle.mesh_base.specs.Picked.{same_text, cell_of, picked_row, picked_rows, picked_columns}
 use Rattle.mesh_base.specs.declared.times.Bounds.{Bounds}
-use Rattle.mesh_base.specs.declared.values.Cell.{Cell}
 use Rattle.mesh_base.specs.declared.values.Cell.TheVariants.{Null}
 use Rattle.mesh_base.specs.declared.values.Column.{Column}
 use Rattle.mesh_base.specs.declared.values.Name.{Name}

@@ -1,5 +1,5 @@
 -- What holds of each element of a list.
-use Rattle.std.proofs.Common.{◌≡◌, List, [], ◌∷◌, ◌++◌, map}
+use Rattle.std.proofs.Common.{List, [], ◌∷◌, ◌++◌, map}
 use Rattle.std.specs.List.{All, flat_map}
 use Rattle.std.proofs.lemmas.List.Elements.{All-head, All-tail}
 

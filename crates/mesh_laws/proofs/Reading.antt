@@ -1,7 +1,7 @@
 -- A query's rows hang on the columns that it reads, and on no other.
-use Rattle.std.proofs.Common.{◌≡◌, ℕ, ◌+◌, ◌<◌, ◌≤◌, suc, zero, Bool, true, false, cond, ◌&&◌, ◌||◌, List, [], ◌∷◌, ◌++◌, map, length, get_or, refl, ap, sym, ◌∙◌, subst, arith, append_assoc, length-append, ◌⊎◌, inl, inr}
-use Rattle.std.specs.List.{All, AllZip, filter, flat_map, fold, find, list_all, list_any, slice_get}
-use Rattle.std.specs.Option.{option_map, option_to_list}
+use Rattle.std.proofs.Common.{◌≡◌, ℕ, ◌+◌, suc, zero, Bool, true, false, cond, ◌&&◌, ◌||◌, List, [], ◌∷◌, ◌++◌, map, length, get_or, refl, ap, sym, ◌∙◌, subst, arith, append_assoc, length-append, ◌⊎◌, inl, inr}
+use Rattle.std.specs.List.{AllZip, filter, flat_map, fold, list_all, list_any, slice_get}
+use Rattle.std.specs.Option.{option_to_list}
 use Rattle.std.specs.Ordering.{is_eq}
 use Rattle.std.specs.declared.cmp.Ordering.{Ordering}
 use Rattle.std.specs.declared.cmp.Ordering.TheVariants.{Less, Equal, Greater}
@@ -11,9 +11,9 @@ use Rattle.std.proofs.lemmas.Bool.{and_parts}
 use Rattle.std.proofs.lemmas.Cmp.{tied_itself}
 use Rattle.std.proofs.lemmas.Map.Lookups.{exact_bytes}
 use Rattle.std.proofs.lemmas.List.Folds.{list_all-append}
-use Rattle.mesh_base.specs.NameOrder.{texts_total, names_total, names_exact}
-use Rattle.mesh_base.specs.Names.{name_cmp, text_cmp}
-use Rattle.mesh_base.specs.Picked.{same_text, cell_of, picked_row, picked_rows, picked_columns}
+use Rattle.mesh_base.specs.NameOrder.{texts_total, names_total}
+use Rattle.mesh_base.specs.Names.{text_cmp}
+use Rattle.mesh_base.specs.Picked.{same_text, cell_of, picked_row}
 use Rattle.mesh_base.specs.declared.times.Bounds.{Bounds}
 use Rattle.mesh_base.specs.declared.values.Cell.{Cell}
 use Rattle.mesh_base.specs.declared.values.Cell.TheVariants.{Null}
@@ -32,15 +32,15 @@ use Rattle.mesh_base.specs.declared.queries.Join.TheVariants.{First, Inner, Left
 use Rattle.mesh_rules.specs.Proper.{rel_names, from_names, select_names, selects_names, names_of_all}
 use Rattle.mesh_meaning.specs.Cells.{is_true}
 use Rattle.mesh_meaning.specs.Aggregates.{distinct}
-use Rattle.mesh_meaning.specs.Ev.{Scope, Seen, Ev, Ev_each, Value, seen, at_row}
-use Rattle.mesh_meaning.specs.Named.{Place, columns, masked, only, Covers}
+use Rattle.mesh_meaning.specs.Ev.{Ev, seen, at_row}
+use Rattle.mesh_meaning.specs.Named.{Place, columns, masked, Covers}
 use Rattle.mesh_meaning.specs.Tables.{relation, columns_in, rows_in}
-use Rattle.mesh_meaning.specs.Sel.{Joined, same_row, holds, row_scope, row_holds, partners, kept, join_item, from_columns, from_rows, key_list, group_of, groups, group_scope, item_row, plain_rows, group_row, grouped_rows, made_rows, select_rows, union_rows, cte_input, cte_inputs, Sel}
+use Rattle.mesh_meaning.specs.Sel.{Joined, same_row, holds, row_scope, row_holds, partners, kept, join_item, from_columns, from_rows, key_list, group_of, groups, group_scope, item_row, group_row, made_rows, select_rows, union_rows, cte_input, cte_inputs, Sel}
 use Rattle.mesh_meaning.proofs.Shown.{Ev_only}
 use Rattle.mesh_laws.specs.Alike.{names, named}
-use Rattle.mesh_laws.specs.Reads.{expressions, on_of, is_named, is_item_of, column_of, select_reads, selects_read, reads, cut, AgreeOnReads}
+use Rattle.mesh_laws.specs.Reads.{expressions, on_of, column_of, select_reads, selects_read, reads, cut, AgreeOnReads}
 use Rattle.mesh_laws.proofs.Lists.{Each, each, Each_left, Each_right, Each_map}
-use Rattle.mesh_laws.proofs.Zips.{zip_append, zip_map, zip_flat, zip_filter, zip_same, zip_of_map, zip_imp, zip_itself}
+use Rattle.mesh_laws.proofs.Zips.{zip_map, zip_flat, zip_filter, zip_same, zip_of_map, zip_imp, zip_itself}
 
 abbrev pub Str : Type 0
 Str = List ℕ

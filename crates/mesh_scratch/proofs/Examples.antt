@@ -1,7 +1,6 @@
 -- Small models and what they have, worked out by hand.
-use Rattle.std.proofs.Common.{◌≡◌, ℕ, ◌*◌, ℤ, pos, Bool, true, false, cond, List, [], ◌∷◌, map, length, refl, ap, sym, ◌∙◌}
+use Rattle.std.proofs.Common.{◌≡◌, ℕ, ◌*◌, ℤ, pos, Bool, true, false, cond, List, [], ◌∷◌, length, refl, ap, ◌∙◌}
 use Rattle.std.specs.Prelude.{codes}
-use Rattle.std.specs.declared.option.Option.{Option}
 use Rattle.std.specs.declared.option.Option.TheVariants.{None, Some}
 use Rattle.std.specs.Ordering.{is_eq}
 use Rattle.mesh_base.specs.declared.values.Cell.{Cell}
@@ -17,23 +16,25 @@ use Rattle.mesh_base.specs.declared.definitions.Kind.TheVariants as kind
 use Rattle.mesh_base.specs.declared.definitions.Own.{Own}
 use Rattle.mesh_base.specs.declared.expressions.Expr.{Expr, roll-Expr, out-roll-Expr}
 use Rattle.mesh_base.specs.declared.expressions.Expr as expr
-use Rattle.mesh_base.specs.declared.expressions.Expr.TheOpen.{Col, Binary}
+use Rattle.mesh_base.specs.declared.expressions.Expr.TheOpen.{Col, Binary, Between, Macro}
 use Rattle.mesh_base.specs.declared.expressions.Op.TheVariants as op
+use Rattle.mesh_base.specs.declared.expressions.Var.{Var}
+use Rattle.mesh_base.specs.declared.expressions.Var.TheVariants as var
 use Rattle.mesh_base.specs.declared.jobs.Input.{Input}
 use Rattle.mesh_base.specs.declared.queries.Query.{Query}
 use Rattle.mesh_base.specs.declared.queries.Rel.TheVariants as rel
 use Rattle.mesh_base.specs.declared.queries.Join.TheVariants as join
 use Rattle.mesh_base.specs.Crons.{CronSets}
-use Rattle.mesh_meaning.specs.Cells.{compared}
-use Rattle.mesh_meaning.specs.Ev.{Ev, Seen, Scope, at_row, key_or, key_of, node_value, valued}
-use Rattle.mesh_meaning.specs.Sel.{Sel}
+use Rattle.mesh_meaning.specs.Cells.{compared, between}
+use Rattle.mesh_meaning.specs.Macros.{macro_value}
+use Rattle.mesh_meaning.specs.Ev.{Ev, Seen, at_row, node_value, valued}
 use Rattle.mesh_meaning.proofs.Nodes.{Ev_out}
-use Rattle.mesh_scratch.specs.Closures.{Closure, Closures, Model, Alone, With}
+use Rattle.mesh_scratch.specs.Closures.{Closure, Model, Alone, With}
 use Rattle.mesh_scratch.specs.Horizons.{Clock, horizon, schedule}
 use Rattle.mesh_scratch.specs.Sources.{declared}
 use Rattle.mesh_scratch.specs.Times.{lies_in}
-use Rattle.mesh_scratch.specs.Scratch.{from_scratch, no_bounds}
-use Rattle.mesh_scratch.proofs.Rows.{full_over_seed}
+use Rattle.mesh_scratch.specs.Scratch.{from_scratch}
+use Rattle.mesh_scratch.proofs.Rows.{full_over_seed, incrementals}
 
 -- a weekly model, and a daily one over it
 abbrev midnight : Bool → CronSets
@@ -198,3 +199,78 @@ joined_rows : (sources : List Input) (clock : Clock) → from_scratch sources cl
 joined_rows sources clock =
     full_over_seed sources clock joined seed self_join seed_columns seed_rows refl refl refl refl refl
     ∙ simp (same_key_is, left_key_is, right_value_is) refl
+
+-- an incremental model over a source
+abbrev day : List ℕ
+day = codes "day"
+
+abbrev orders_columns : List Column
+orders_columns = record { name = codes "id"; kind = type.Int } ∷ record { name = day; kind = type.Date } ∷ []
+
+abbrev order : ℕ → ℕ → List Cell
+order id on = cell.Int (pos id) ∷ cell.Date (pos on) ∷ []
+
+-- 2024-01-01 is day 19,723
+abbrev dated : List Input
+dated = record { name = record { schema = codes "raw"; model = codes "orders" }; columns = orders_columns; rows = order 1 19_723 ∷ order 2 19_723 ∷ order 3 19_724 ∷ order 4 19_725 ∷ [] } ∷ []
+
+within : Expr
+within = expr.Between (expr.Col 0 day) (expr.Macro var.StartDate) (expr.Macro var.EndDate)
+
+its_id : Expr
+its_id = expr.Col 0 (codes "id")
+
+its_day : Expr
+its_day = expr.Col 0 day
+
+-- SELECT id, day FROM raw.orders WHERE day BETWEEN @start_date AND @end_date
+abbrev of_the_unit : Query
+of_the_unit = record {
+  ctes = [];
+  selects = record {
+    distinct = false;
+    grouped = false;
+    items = record { name = codes "id"; kind = type.Int; expr = its_id } ∷ record { name = day; kind = type.Date; expr = its_day } ∷ [];
+    from = record { join = join.First; rel = rel.Named (record { schema = codes "raw"; model = codes "orders" }); on = None } ∷ [];
+    filter = Some within;
+    keys = [];
+    having = None;
+  } ∷ [];
+}
+
+-- from 2024-01-01 on
+abbrev by_day : Own
+by_day = record {
+  name = record { schema = codes "shop"; model = codes "daily" };
+  kind = kind.Incremental day;
+  cron = midnight true;
+  unit = unit.Day;
+  start = Some (pos 19_723);
+  sources = record { name = record { schema = codes "raw"; model = codes "orders" }; columns = orders_columns; time = Some day } ∷ [];
+  defn = defn.Sql of_the_unit;
+}
+
+its_id_is : (u : Bounds) (row : Seen) → Ev its_id (at_row u row) ≡ row 0 (codes "id")
+unfolding its_id
+its_id_is u row = column_is 0 (codes "id") u row
+
+its_day_is : (u : Bounds) (row : Seen) → Ev its_day (at_row u row) ≡ row 0 day
+unfolding its_day
+its_day_is u row = column_is 0 day u row
+
+macro_is : (m : Var) (u : Bounds) (row : Seen) → Ev (expr.Macro m) (at_row u row) ≡ macro_value m u
+unfolding roll-Expr denote.Hole.Carrier.roll
+macro_is m u row = Ev_out (expr.Macro m) (at_row u row) ∙ ap (λ d. node_value (valued d) (at_row u row)) (out-roll-Expr (Macro m))
+
+within_is : (u : Bounds) (row : Seen) → Ev within (at_row u row) ≡ between (row 0 day) (macro_value var.StartDate u) (macro_value var.EndDate u)
+unfolding within roll-Expr denote.Hole.Carrier.roll
+within_is u row =
+    Ev_out (expr.Between (expr.Col 0 day) (expr.Macro var.StartDate) (expr.Macro var.EndDate)) (at_row u row)
+    ∙ ap (λ d. node_value (valued d) (at_row u row)) (out-roll-Expr (Between (expr.Col 0 day) (expr.Macro var.StartDate) (expr.Macro var.EndDate)))
+    ∙ (λ i. between (column_is 0 day u row i) (macro_is var.StartDate u row i) (macro_is var.EndDate u row i))
+
+-- on 2024-01-03 the third day isn't over, so its order isn't there yet
+on_wednesday : from_scratch dated (λ own. pos (19_725 * 86_400)) (Model by_day Alone) ≡ order 1 19_723 ∷ order 2 19_723 ∷ order 3 19_724 ∷ []
+on_wednesday =
+    incrementals dated (λ own. pos (19_725 * 86_400)) by_day Alone day refl
+    ∙ simp (within_is, its_id_is, its_day_is) refl

@@ -1,14 +1,13 @@
 -- A project's closures.
-use Rattle.std.proofs.Common.{◌≡◌, ℕ, zero, suc, List, [], ◌∷◌, ◌++◌, map, refl, ap, sym, ◌∙◌, append_assoc}
+use Rattle.std.proofs.Common.{◌≡◌, ℕ, List, [], ◌∷◌, ◌++◌, map, refl, ap, sym, ◌∙◌, append_assoc}
 use Rattle.std.specs.List.{All, Contains, fold, slice_get}
 use Rattle.std.specs.declared.option.Option.{Option}
 use Rattle.std.specs.declared.option.Option.TheVariants.{None, Some}
 use Rattle.std.proofs.lemmas.List.{map-append, append-nil}
 use Rattle.std.proofs.lemmas.List.Elements.{All-nil, All-cons, All-append, All-weaker, Contains-append_left}
 use Rattle.std.proofs.lemmas.Option.{slice_get_within, get_or_from_slice_get}
-use Rattle.mesh_base.specs.declared.definitions.Own.{Own}
 use Rattle.mesh_base.specs.declared.snapshots.Node.{Node}
-use Rattle.mesh_scratch.specs.Closures.{Closure, Closures, Model, Alone, With, own_of, parents_of, each_of, with_parent, parents_at, with_model, closures}
+use Rattle.mesh_scratch.specs.Closures.{Closure, Model, own_of, parents_of, each_of, with_parent, parents_at, with_model, closures}
 
 owns_after : (done : List Closure) (nodes : List Node) → map own_of (fold with_model done nodes) ≡ map own_of done ++ map (λ (n : Node). n.own) nodes
 owns_after done [] = sym (append-nil (map own_of done))

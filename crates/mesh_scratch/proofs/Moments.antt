@@ -1,14 +1,12 @@
 -- A moment decides the last tick of each model, and so horizons and rows.
-use Rattle.std.proofs.Common.{◌≡◌, ℕ, ℤ, ◌≤ℤ◌, Bool, true, false, cond, List, [], ◌∷◌, ◌++◌, map, refl, ap, sym, ◌∙◌, arith, IsTrue}
-use Rattle.std.specs.List.{All, fold}
-use Rattle.std.specs.Int.{int_min}
-use Rattle.std.proofs.lemmas.Int.{ints, by_lt_z, fold-int_min_bounds}
+use Rattle.std.proofs.Common.{◌≡◌, ℤ, cond, List, [], ◌∷◌, ◌++◌, map, refl, ap, sym, ◌∙◌, arith, IsTrue}
+use Rattle.std.specs.List.{All}
+use Rattle.std.proofs.lemmas.Int.{ints, by_lt_z}
 use Rattle.std.proofs.lemmas.List.Elements.{All-head, All-tail}
 use Rattle.mesh_base.specs.declared.definitions.Own.{Own}
 use Rattle.mesh_base.specs.declared.jobs.Input.{Input}
-use Rattle.mesh_base.specs.declared.values.Cell.{Cell}
 use Rattle.mesh_base.specs.Crons.{CronSets, is_cron}
-use Rattle.mesh_time.specs.Ticks.{IsFloor, IsTick}
+use Rattle.mesh_time.specs.Ticks.{IsFloor}
 use Rattle.mesh_scratch.specs.Closures.{Closure, Closures, Model, Alone, With, own_of, lineage, ancestry}
 use Rattle.mesh_scratch.specs.Horizons.{Clock, Shows, HasCrons, IsLastTick, floored, is_incremental, least_of, horizon_under, with_horizon, horizons_from, horizons_of, horizon, schedule, units_from}
 use Rattle.mesh_scratch.specs.Sources.{declared}

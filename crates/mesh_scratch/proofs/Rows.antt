@@ -1,5 +1,5 @@
 -- What a model's rows are, by its kind.
-use Rattle.std.proofs.Common.{◌≡◌, ℕ, ℤ, pos, ◌≤ℤ◌, Bool, true, false, cond, ◌||◌, List, [], ◌∷◌, ◌++◌, map, refl, ap, sym, ◌∙◌, subst}
+use Rattle.std.proofs.Common.{◌≡◌, ℕ, ◌≤ℤ◌, Bool, true, false, cond, ◌||◌, List, [], ◌∷◌, ◌++◌, map, refl, ap, sym, ◌∙◌, subst}
 use Rattle.std.specs.List.{All, filter, flat_map, list_any}
 use Rattle.std.proofs.lemmas.Int.{fold-int_min_bounds}
 use Rattle.std.proofs.lemmas.List.Elements.{All-nil, All-cons, All-append, All-weaker}
@@ -7,7 +7,6 @@ use Rattle.mesh_base.specs.declared.times.Bounds.{Bounds}
 use Rattle.mesh_base.specs.declared.definitions.Own.{Own}
 use Rattle.mesh_base.specs.declared.definitions.Kind.{Kind}
 use Rattle.mesh_base.specs.declared.definitions.Kind.TheVariants.{Full, View, Seed as SeedKind, Incremental}
-use Rattle.mesh_base.specs.declared.definitions.Defn.{Defn}
 use Rattle.mesh_base.specs.declared.definitions.Defn.TheVariants.{Seed, Sql}
 use Rattle.mesh_base.specs.declared.queries.Query.{Query}
 use Rattle.mesh_base.specs.declared.jobs.Input.{Input}
@@ -15,11 +14,11 @@ use Rattle.mesh_base.specs.declared.values.Cell.{Cell}
 use Rattle.mesh_base.specs.declared.values.Column.{Column}
 use Rattle.mesh_base.specs.Outputs.{columns_of, defn_columns}
 use Rattle.mesh_meaning.specs.Sel.{Sel}
-use Rattle.mesh_scratch.specs.Closures.{Closure, Closures, Model, Alone, With, own_of}
-use Rattle.mesh_scratch.specs.Horizons.{Clock, horizon, horizons_of, horizon_under, is_incremental, least_of, schedule}
+use Rattle.mesh_scratch.specs.Closures.{Closures, Model, Alone, With}
+use Rattle.mesh_scratch.specs.Horizons.{Clock, horizon, horizons_of, is_incremental, least_of, schedule}
 use Rattle.mesh_scratch.specs.Times.{lies_in}
 use Rattle.mesh_scratch.specs.Sources.{declared}
-use Rattle.mesh_scratch.specs.Scratch.{from_scratch, inputs_of, no_bounds, defn_rows, rows_over, piece, piece_over, table_of, tables}
+use Rattle.mesh_scratch.specs.Scratch.{from_scratch, inputs_of, no_bounds, defn_rows, rows_over, piece, piece_over, tables}
 
 seed_rows : (kind : Kind) (own : Own) (inputs : List Input) (units : List Bounds) (columns : List Column) (rows : List (List Cell)) → kind ≡ SeedKind → own.defn ≡ Seed columns rows → rows_over kind own inputs units ≡ rows
 seed_rows kind own inputs units columns rows k d = ap (λ k. rows_over k own inputs units) k ∙ ap (λ d. defn_rows d inputs no_bounds) d

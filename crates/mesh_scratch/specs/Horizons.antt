@@ -1,5 +1,5 @@
 -- How far a model's rows go at a moment.
-use Rattle.std.specs.Prelude.{◌≡◌, ℕ, ℤ, pos, ◌*ℤ◌, Bool, true, false, if◌then◌else◌, List, [], ◌∷◌, ◌++◌, IsTrue}
+use Rattle.std.specs.Prelude.{◌≡◌, ℤ, pos, ◌*ℤ◌, Bool, true, false, if◌then◌else◌, List, [], ◌∷◌, ◌++◌, IsTrue}
 use Rattle.std.specs.List.{All, fold}
 use Rattle.std.specs.Int.{int_min, int_div_euclid}
 use Rattle.std.specs.declared.option.Option.{Option}

@@ -1,5 +1,5 @@
 -- The rows of a model from scratch: from the sources, seeds and definitions alone.
-use Rattle.std.specs.Prelude.{ℕ, ℤ, pos, List, [], ◌∷◌, ◌++◌, map}
+use Rattle.std.specs.Prelude.{ℕ, pos, List, [], ◌∷◌, ◌++◌, map}
 use Rattle.std.specs.List.{filter, flat_map}
 use Rattle.mesh_base.specs.declared.times.Bounds.{Bounds}
 use Rattle.mesh_base.specs.declared.values.Cell.{Cell}
