@@ -6,3 +6,5 @@ pub mod Rows
 pub mod Listed
 -- Examples: small models and what they have, worked out by hand.
 pub mod Examples
+-- Clocks: each moment has a clock that shows it.
+pub mod Clocks

@@ -10,6 +10,7 @@ ghost use Rattle.mesh_base.specs.declared.definitions.Defn.TheVariants as defn;
 ghost use Rattle.mesh_base.specs.declared.queries.Query.{Query};
 ghost use Rattle.mesh_base.specs.declared.snapshots.Node.{Node};
 ghost use Rattle.mesh_base.specs.Outputs.{columns_of};
+ghost use Rattle.mesh_time.specs.Moments.{IsMoment};
 ghost use Rattle.mesh_meaning.specs.Sel.{Sel};
 ghost use Rattle.mesh_scratch.specs.Closures.{Closure, Closures, Model, Alone, With, own_of, parents_of, each_of, closures};
 ghost use Rattle.mesh_scratch.specs.Horizons.{Clock, Shows, HasCrons, is_incremental, horizon, horizons_of, schedule};
@@ -52,6 +53,11 @@ pub fn rows_lie_in_the_schedule()
 pub fn horizons_are_no_further_than_ancestors()
     ensures { (clock : Clock) (own : Own) (parents : Closures) → is_incremental own.kind ≡ true →
         (horizon clock (Model own parents) ≤ℤ clock own) × All (λ h. horizon clock (Model own parents) ≤ℤ h) (horizons_of clock parents) }
+{}
+
+/// Each moment has a clock that shows it.
+pub fn moments_have_clocks()
+    ensures { (t : ℤ) → IsMoment t → (clock : Clock) × Shows clock t }
 {}
 
 /// A moment decides the horizon and the rows of a closure, whichever clock shows it.
