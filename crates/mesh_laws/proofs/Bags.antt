@@ -82,9 +82,9 @@ bag_is_perm (x ∷ xs) ys h =
     trans (skip (bag_is_perm xs found.0 rest)) (flip found.1)
 
 -- tables of the same columns, with one bag of rows
-record IsSame (a b : Option Input) : Type 0 where
-  columns : columns_in a ≡ columns_in b
-  rows : Perm (rows_in a) (rows_in b)
+pub record IsSame (a b : Option Input) : Type 0 where
+  pub columns : columns_in a ≡ columns_in b
+  pub rows : Perm (rows_in a) (rows_in b)
 
 kept_same : (j : Join) (left : Joined) {xs ys : List Joined} → Perm xs ys → Perm (kept j left xs) (kept j left ys)
 kept_same First left p = p
@@ -140,7 +140,7 @@ module _ (u : Bounds) (columns : List (List Column)) where
       go false r = r
 
 module _ (u : Bounds) (a b : List Input) where
-  abbrev Named_same : Name → Type 0
+  abbrev pub Named_same : Name → Type 0
   Named_same name = IsSame (relation a [] (Named name)) (relation b [] (Named name))
 
   abbrev Ctes_same : List Input → List Input → Type 0
@@ -199,7 +199,7 @@ module _ (u : Bounds) (a b : List Input) where
       (record { columns = refl; rows = union_same xs ys z c (Each_left Named_same (selects_names c) (names_of_all cs) h) }))
       cs (Each_right Named_same (selects_names c) (names_of_all cs) h)
 
-  sel_same : (q : Query) → Each Named_same (names q) → Perm (Sel q a u) (Sel q b u)
+  pub sel_same : (q : Query) → Each Named_same (names q) → Perm (Sel q a u) (Sel q b u)
   sel_same q h =
       union_same (cte_inputs a u q.ctes) (cte_inputs b u q.ctes)
       (ctes_same [] [] tt q.ctes (Each_left Named_same (names_of_all q.ctes) (selects_names q.selects) h))

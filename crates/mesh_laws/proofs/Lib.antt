@@ -14,3 +14,5 @@ pub mod Zips
 pub mod Reading
 -- Cutting: tables that are cut to what a query reads.
 pub mod Cutting
+-- Models: a model's rows as bags.
+pub mod Models

@@ -1,6 +1,7 @@
-//! Laws of what a query means, each on a function with an empty body. It stands on `mesh_meaning` and `mesh_rules`.
+//! Laws of what a query and a model mean, each on a function with an empty body. It stands on `mesh_meaning`,
+//! `mesh_rules` and `mesh_scratch`.
 #![tactic(auto)]
 
 mod laws;
 
-pub use laws::{rows_hang_on_read_columns, rows_respect_bags};
+pub use laws::{models_respect_bags, rows_hang_on_read_columns, rows_respect_bags};
