@@ -19,15 +19,16 @@ use Rattle.mesh_base.specs.declared.definitions.Defn.TheVariants.{Seed, Sql}
 use Rattle.mesh_base.specs.declared.definitions.Kind.{Kind}
 use Rattle.mesh_base.specs.declared.definitions.Kind.TheVariants.{Full, View, Seed as SeedKind, Incremental}
 use Rattle.mesh_base.specs.declared.definitions.Own.{Own}
+use Rattle.mesh_rules.specs.Proper.{defn_names}
 use Rattle.mesh_meaning.specs.Tables.{columns_in, rows_in}
-use Rattle.mesh_scratch.specs.Closures.{Closure, Closures, Model, Alone, With, lineage, ancestry}
+use Rattle.mesh_scratch.specs.Closures.{Closure, Closures, Model, Alone, With, own_of, standing, ancestors}
 use Rattle.mesh_scratch.specs.Horizons.{Clock, schedule}
 use Rattle.mesh_scratch.specs.Times.{lies_in}
 use Rattle.mesh_scratch.specs.Sources.{has_shape, declared_rows, source_named, declared}
 use Rattle.mesh_scratch.specs.Scratch.{no_bounds, defn_rows, piece_over, rows_over, from_scratch, tables}
-use Rattle.mesh_laws.specs.Alike.{IsSameTable, names}
+use Rattle.mesh_laws.specs.Alike.{named, IsSameTable, AreSameTables}
 use Rattle.mesh_laws.specs.Loads.{HasSameSources, HaveSameSources}
-use Rattle.mesh_laws.proofs.Lists.{Each, each, Each_left, Each_right}
+use Rattle.mesh_laws.proofs.Lists.{Each, each, Each_left, Each_right, Each_imp}
 use Rattle.mesh_laws.proofs.Perm.{Perm, nil, same, is, mapped, filtered, flat_each, trans}
 use Rattle.mesh_laws.proofs.Zips.{zip_append}
 use Rattle.mesh_laws.proofs.Bags.{IsSame, Named_same, sel_same, counts_same, bag_is_perm}
@@ -51,21 +52,23 @@ found_same name (x ∷ xs) (y ∷ ys) z = go (is_eq (name_cmp x.name name)) (is_
     go true false e h = absurd (cc)
     go false true e h = absurd (cc)
 
-module _ (a b : List Input) (z : AllZip IsOne a b) where
-  each_named : (u : Bounds) (all : List Name) → Each (Named_same u a b) all
-  each_named u [] = tt
-  each_named u (n ∷ all) = (found_same n a b z, each_named u all)
+each_named : (a b : List Input) → AllZip IsOne a b → (u : Bounds) (all : List Name) → Each (Named_same u a b) all
+each_named a b z u [] = tt
+each_named a b z u (n ∷ all) = (found_same n a b z, each_named a b z u all)
 
-  defn_same : (d : Defn) (u : Bounds) → Perm (defn_rows d a u) (defn_rows d b u)
-  defn_same (Seed columns rows) u = same rows
-  defn_same (Sql q) u = sel_same u a b q (each_named u (names q))
+defn_same : (a b : List Input) (d : Defn) (u : Bounds) → Each (Named_same u a b) (defn_names d) → Perm (defn_rows d a u) (defn_rows d b u)
+defn_same a b (Seed columns rows) u h = same rows
+defn_same a b (Sql q) u h = sel_same u a b q h
 
-  over_same : (kind : Kind) (own : Own) (units : List Bounds) → Perm (rows_over kind own a units) (rows_over kind own b units)
-  over_same SeedKind own units = defn_same own.defn no_bounds
-  over_same View own units = defn_same own.defn no_bounds
-  over_same Full own units = defn_same own.defn no_bounds
-  over_same (Incremental time) own units =
-      flat_each (piece_over own time a) (piece_over own time b) (λ u. filtered (lies_in (columns_of own) time u) (defn_same own.defn u)) units
+module _ (a b : List Input) (own : Own) (h : (u : Bounds) → Each (Named_same u a b) (defn_names own.defn)) where
+  piece_same : (time : List ℕ) (u : Bounds) → Perm (piece_over own time a u) (piece_over own time b u)
+  piece_same time u = filtered (lies_in (columns_of own) time u) (defn_same a b own.defn u (h u))
+
+  over_same : (kind : Kind) (units : List Bounds) → Perm (rows_over kind own a units) (rows_over kind own b units)
+  over_same SeedKind units = defn_same a b own.defn no_bounds (h no_bounds)
+  over_same View units = defn_same a b own.defn no_bounds (h no_bounds)
+  over_same Full units = defn_same a b own.defn no_bounds (h no_bounds)
+  over_same (Incremental time) units = flat_each (piece_over own time a) (piece_over own time b) (piece_same time) units
 
 -- a declared source's rows, by what is there
 declared_is : (columns : List Column) (o : Option Input) → declared_rows columns o ≡ cond (has_shape columns (columns_in o)) (picked_rows (map (λ (d : Column). d.name) columns) (columns_in o) (rows_in o)) []
@@ -89,21 +92,36 @@ declared_same columns o p h =
     (is _ _ (sym (declared_is columns p)))))
 
 module _ (a b : List Input) (clock : Clock) where
+  abbrev Sources_same : Closure → Type 0
+  Sources_same s = HasSameSources a b (own_of s)
+
   sources_same : (ds : List Decl) → Each (λ (d : Decl). IsSameTable (source_named a d) (source_named b d)) ds → AllZip IsOne (map (declared a) ds) (map (declared b) ds)
   sources_same [] h = tt
   sources_same (d ∷ ds) h = (record { name = refl; columns = refl; rows = declared_same d.columns (source_named a d) (source_named b d) h.0 }, sources_same ds h.1)
 
   mutual
-    model_same : (c : Closure) → Each (HasSameSources a b) (lineage c) → Perm (from_scratch a clock c) (from_scratch b clock c)
+    model_same : (c : Closure) → Each Sources_same (standing c) → Perm (from_scratch a clock c) (from_scratch b clock c)
     model_same (Model own parents) h =
-        over_same (map (declared a) own.sources ++ tables a clock parents) (map (declared b) own.sources ++ tables b clock parents)
+        over_same (map (declared a) own.sources ++ tables a clock parents) (map (declared b) own.sources ++ tables b clock parents) own
+        (λ u. each_named (map (declared a) own.sources ++ tables a clock parents) (map (declared b) own.sources ++ tables b clock parents)
         (zip_append IsOne (map (declared a) own.sources) (map (declared b) own.sources) (tables a clock parents) (tables b clock parents)
-        (sources_same own.sources (each _ own.sources h.0)) (tables_same parents h.1)) own.kind own (schedule clock (Model own parents))
+        (sources_same own.sources (each _ own.sources h.0)) (tables_same parents h.1)) u (defn_names own.defn)) own.kind (schedule clock (Model own parents))
 
-    tables_same : (cs : Closures) → Each (HasSameSources a b) (ancestry cs) → AllZip IsOne (tables a clock cs) (tables b clock cs)
+    tables_same : (cs : Closures) → Each Sources_same (ancestors cs) → AllZip IsOne (tables a clock cs) (tables b clock cs)
     tables_same Alone h = tt
     tables_same (With c cs) h =
-        (record { name = refl; columns = refl; rows = model_same c (Each_left (HasSameSources a b) (lineage c) (ancestry cs) h) }, tables_same cs (Each_right (HasSameSources a b) (lineage c) (ancestry cs) h))
+        (record { name = refl; columns = refl; rows = model_same c (Each_left Sources_same (standing c) (ancestors cs) h) }, tables_same cs (Each_right Sources_same (standing c) (ancestors cs) h))
 
 pub model_bag : (a b : List Input) (c : Closure) → HaveSameSources a b c → (clock : Clock) → IsSameBag (from_scratch a clock c) (from_scratch b clock c)
-model_bag a b c h clock = counts_same (model_same a b clock c (each (HasSameSources a b) (lineage c) h))
+model_bag a b c h clock = counts_same (model_same a b clock c (each (λ s. HasSameSources a b (own_of s)) (standing c) h))
+
+-- the same, of one model over the tables that it reads
+names_same : (a b : List Input) (all : List Name) → AreSameTables all a b → (u : Bounds) → Each (Named_same u a b) all
+names_same a b all h u =
+    Each_imp (λ name. IsSameTable (named a name) (named b name)) (Named_same u a b) (λ name s. record { columns = s.0; rows = bag_is_perm (rows_in (named a name)) (rows_in (named b name)) s.1 }) all (each _ all h)
+
+pub step_bag : (a b : List Input) (own : Own) → AreSameTables (defn_names own.defn) a b → (units : List Bounds) → IsSameBag (rows_over own.kind own a units) (rows_over own.kind own b units)
+step_bag a b own h units = counts_same (over_same a b own (names_same a b (defn_names own.defn) h) own.kind units)
+
+pub piece_bag : (a b : List Input) (own : Own) → AreSameTables (defn_names own.defn) a b → (time : List ℕ) (u : Bounds) → IsSameBag (piece_over own time a u) (piece_over own time b u)
+piece_bag a b own h time u = counts_same (piece_same a b own (names_same a b (defn_names own.defn) h) time u)

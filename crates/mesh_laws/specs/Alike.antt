@@ -23,6 +23,10 @@ named inputs name = relation inputs [] (Named name)
 abbrev pub IsSameTable : Option Input → Option Input → Type 0
 IsSameTable a b = (columns_in a ≡ columns_in b) × IsSameBag (rows_in a) (rows_in b)
 
--- under each name that the query names, both have such a table
+-- under each of the names, both have such a table
+abbrev pub AreSameTables : List Name → List Input → List Input → Type 0
+AreSameTables all a b = All (λ name. IsSameTable (named a name) (named b name)) all
+
+-- under each name that the query names
 abbrev pub HaveSameBags : Query → List Input → List Input → Type 0
-HaveSameBags q a b = All (λ name. IsSameTable (named a name) (named b name)) (names q)
+HaveSameBags q a b = AreSameTables (names q) a b

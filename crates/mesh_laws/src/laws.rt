@@ -1,14 +1,16 @@
 // What a query's rows hang on, and what not.
-ghost use Rattle.std.specs.Prelude.{◌≡◌, List};
+ghost use Rattle.std.specs.Prelude.{◌≡◌, ℕ, List};
 ghost use Rattle.mesh_base.specs.Bag.{IsSameBag};
 ghost use Rattle.mesh_base.specs.declared.jobs.Input.{Input};
+ghost use Rattle.mesh_base.specs.declared.definitions.Own.{Own};
 ghost use Rattle.mesh_base.specs.declared.queries.Query.{Query};
 ghost use Rattle.mesh_base.specs.declared.times.Bounds.{Bounds};
+ghost use Rattle.mesh_rules.specs.Proper.{defn_names};
 ghost use Rattle.mesh_meaning.specs.Sel.{Sel};
 ghost use Rattle.mesh_scratch.specs.Closures.{Closure};
 ghost use Rattle.mesh_scratch.specs.Horizons.{Clock};
-ghost use Rattle.mesh_scratch.specs.Scratch.{from_scratch};
-ghost use Rattle.mesh_laws.specs.Alike.{HaveSameBags};
+ghost use Rattle.mesh_scratch.specs.Scratch.{from_scratch, piece_over, rows_over};
+ghost use Rattle.mesh_laws.specs.Alike.{AreSameTables, HaveSameBags};
 ghost use Rattle.mesh_laws.specs.Loads.{HaveSameSources};
 ghost use Rattle.mesh_laws.specs.Reads.{AgreeOnReads, cut_inputs};
 
@@ -26,7 +28,10 @@ pub fn rows_hang_on_read_columns()
 {}
 
 /// Where the sources that a model and its ancestors declare have the same columns and the same rows, in whatever order,
-/// its rows from scratch are the same but for their order.
+/// its rows from scratch are the same but for their order. So it is of one model over the tables that it names, and of
+/// each of its units.
 pub fn models_respect_bags()
-    ensures { (a b : List Input) (c : Closure) → HaveSameSources a b c → (clock : Clock) → IsSameBag (from_scratch a clock c) (from_scratch b clock c) }
+    ensures scratch { (a b : List Input) (c : Closure) → HaveSameSources a b c → (clock : Clock) → IsSameBag (from_scratch a clock c) (from_scratch b clock c) }
+    ensures rows { (a b : List Input) (own : Own) → AreSameTables (defn_names own.defn) a b → (units : List Bounds) → IsSameBag (rows_over own.kind own a units) (rows_over own.kind own b units) }
+    ensures pieces { (a b : List Input) (own : Own) → AreSameTables (defn_names own.defn) a b → (time : List ℕ) (u : Bounds) → IsSameBag (piece_over own time a u) (piece_over own time b u) }
 {}

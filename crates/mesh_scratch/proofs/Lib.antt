@@ -1,5 +1,7 @@
 -- Moments: a moment decides a model's horizon and rows.
 pub mod Moments
+-- Least: horizons, by those of ancestors.
+pub mod Least
 -- Rows: what a model's rows are, by its kind.
 pub mod Rows
 -- Listed: a project's closures.

@@ -1,13 +1,16 @@
 -- A project's closures.
-use Rattle.std.proofs.Common.{◌≡◌, ℕ, List, [], ◌∷◌, ◌++◌, map, refl, ap, sym, ◌∙◌, append_assoc}
-use Rattle.std.specs.List.{All, Contains, fold, slice_get}
+use Rattle.std.proofs.Common.{◌≡◌, ℕ, zero, suc, ◌+◌, ◌<◌, true, nat_lt, List, [], ◌∷◌, ◌++◌, map, length, refl, ap, sym, ◌∙◌, append_assoc, arith, length-append}
+use Rattle.std.specs.List.{All, Contains, fold, flat_map, list_all, slice_get}
+use Rattle.std.specs.Option.{option_to_list}
+use Rattle.std.proofs.lemmas.Bool.{and_parts, ltb-true}
+use Rattle.std.proofs.lemmas.List.Sums.{fold-append}
 use Rattle.std.specs.declared.option.Option.{Option}
 use Rattle.std.specs.declared.option.Option.TheVariants.{None, Some}
 use Rattle.std.proofs.lemmas.List.{map-append, append-nil}
 use Rattle.std.proofs.lemmas.List.Elements.{All-nil, All-cons, All-append, All-weaker, Contains-append_left}
 use Rattle.std.proofs.lemmas.Option.{slice_get_within, get_or_from_slice_get}
 use Rattle.mesh_base.specs.declared.snapshots.Node.{Node}
-use Rattle.mesh_scratch.specs.Closures.{Closure, Model, own_of, parents_of, each_of, with_parent, parents_at, with_model, closures}
+use Rattle.mesh_scratch.specs.Closures.{Closure, Closures, Model, own_of, parents_of, each_of, with_parent, parents_at, with_model, closures}
 
 owns_after : (done : List Closure) (nodes : List Node) → map own_of (fold with_model done nodes) ≡ map own_of done ++ map (λ (n : Node). n.own) nodes
 owns_after done [] = sym (append-nil (map own_of done))
@@ -48,3 +51,56 @@ closed_after done (n ∷ nodes) h =
 
 pub with_their_parents : (nodes : List Node) → All (λ c. All (Contains (closures nodes)) (each_of (parents_of c))) (closures nodes)
 with_their_parents nodes = closed_after [] nodes (All-nil (Closed []))
+
+-- the closures at these places, where there are some
+abbrev at_places : List Closure → List ℕ → List Closure
+at_places all places = flat_map (λ i. option_to_list (slice_get all i)) places
+
+kept_at : (done more : List Closure) (i : ℕ) → i < length done → slice_get (done ++ more) i ≡ slice_get done i
+kept_at [] more i h = absurd (omega arith)
+kept_at (c ∷ cs) more zero h = refl
+kept_at (c ∷ cs) more (suc i) h = kept_at cs more i (omega arith)
+
+at_end : (done : List Closure) (c : Closure) (more : List Closure) → slice_get (done ++ c ∷ more) (length done) ≡ Some c
+at_end [] c more = refl
+at_end (d ∷ done) c more = at_end done c more
+
+-- closures that are made stay where they are
+stays : (done : List Closure) (nodes : List Node) → (more : List Closure) × (fold with_model done nodes ≡ done ++ more)
+stays done [] = ([], sym (append-nil done))
+stays done (n ∷ nodes) =
+    let new : Closure = Model n.own (parents_at done n.parents) in
+    let rest = stays (done ++ new ∷ []) nodes in
+    (new ∷ rest.0, rest.1 ∙ append_assoc done (new ∷ []) rest.0)
+
+each_at : (done : List Closure) (places : List ℕ) → each_of (parents_at done places) ≡ at_places done places
+each_at done [] = refl
+each_at done (i ∷ is) = go (slice_get done i) (each_at done is)
+  where
+    go : (o : Option Closure) → each_of (parents_at done is) ≡ at_places done is → each_of (with_parent o (parents_at done is)) ≡ option_to_list o ++ at_places done is
+    go None e = e
+    go (Some c) e = ap (λ l. c ∷ l) e
+
+within : (done more : List Closure) (places : List ℕ) → list_all (λ i. nat_lt i (length done)) places ≡ true → at_places done places ≡ at_places (done ++ more) places
+within done more [] h = refl
+within done more (i ∷ is) h =
+    let both = and_parts (nat_lt i (length done)) (list_all (λ i. nat_lt i (length done)) is) h in
+    (λ j. option_to_list (sym (kept_at done more i (ltb-true i (length done) both.0)) j) ++ within done more is both.1 j)
+
+made_long : (done : List Closure) (nodes : List Node) → length (fold with_model done nodes) ≡ length done + length nodes
+made_long done [] = omega arith
+made_long done (n ∷ nodes) = let new : Closure = Model n.own (parents_at done n.parents) in made_long (done ++ new ∷ []) nodes ∙ omega (arith, length-append done (new ∷ []))
+
+pub at_their_places : (before after : List Node) (n : Node) → list_all (λ i. nat_lt i (length before)) n.parents ≡ true
+    → (parents : Closures) × (slice_get (closures (before ++ n ∷ after)) (length before) ≡ Some (Model n.own parents))
+    × (each_of parents ≡ flat_map (λ i. option_to_list (slice_get (closures (before ++ n ∷ after)) i)) n.parents)
+at_their_places before after n h =
+    let done : List Closure = closures before in
+    let new : Closure = Model n.own (parents_at done n.parents) in
+    let rest = stays (done ++ new ∷ []) after in
+    let long : length done ≡ length before = made_long [] before ∙ omega arith in
+    let is : closures (before ++ n ∷ after) ≡ done ++ new ∷ rest.0 = fold-append with_model [] before (n ∷ after) ∙ rest.1 ∙ append_assoc done (new ∷ []) rest.0 in (
+      parents_at done n.parents,
+      (λ i. slice_get (is i) (sym long i)) ∙ at_end done new rest.0,
+      each_at done n.parents ∙ within done (new ∷ rest.0) n.parents (ap (λ m. list_all (λ i. nat_lt i m) n.parents) long ∙ h) ∙ ap (λ all. at_places all n.parents) (sym is),
+    )

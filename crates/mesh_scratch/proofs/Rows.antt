@@ -1,7 +1,6 @@
 -- What a model's rows are, by its kind.
-use Rattle.std.proofs.Common.{◌≡◌, ℕ, ◌≤ℤ◌, Bool, true, false, cond, ◌||◌, List, [], ◌∷◌, ◌++◌, map, refl, ap, sym, ◌∙◌, subst}
+use Rattle.std.proofs.Common.{◌≡◌, ℕ, Bool, true, false, cond, ◌||◌, List, [], ◌∷◌, ◌++◌, map, refl, ap, sym, ◌∙◌, subst}
 use Rattle.std.specs.List.{All, filter, flat_map, list_any}
-use Rattle.std.proofs.lemmas.Int.{fold-int_min_bounds}
 use Rattle.std.proofs.lemmas.List.Elements.{All-nil, All-cons, All-append, All-weaker}
 use Rattle.mesh_base.specs.declared.times.Bounds.{Bounds}
 use Rattle.mesh_base.specs.declared.definitions.Own.{Own}
@@ -15,7 +14,7 @@ use Rattle.mesh_base.specs.declared.values.Column.{Column}
 use Rattle.mesh_base.specs.Outputs.{columns_of, defn_columns}
 use Rattle.mesh_meaning.specs.Sel.{Sel}
 use Rattle.mesh_scratch.specs.Closures.{Closures, Model, Alone, With}
-use Rattle.mesh_scratch.specs.Horizons.{Clock, horizon, horizons_of, is_incremental, least_of, schedule}
+use Rattle.mesh_scratch.specs.Horizons.{Clock, schedule}
 use Rattle.mesh_scratch.specs.Times.{lies_in}
 use Rattle.mesh_scratch.specs.Sources.{declared}
 use Rattle.mesh_scratch.specs.Scratch.{from_scratch, inputs_of, no_bounds, defn_rows, rows_over, piece, piece_over, tables}
@@ -79,8 +78,3 @@ pub in_schedule : (sources : List Input) (clock : Clock) (own : Own) (parents : 
 in_schedule sources clock own parents time k =
     let P : List (List Cell) → Type 0 = λ rows. All (λ row. list_any (λ u. lies_in (columns_of own) time u row) (schedule clock (Model own parents)) ≡ true) rows in
     subst P (sym (incrementals sources clock own parents time k)) (lie_in_one own time (inputs_of sources clock (Model own parents)) (schedule clock (Model own parents)))
-
--- an incremental model goes no further than its own last tick, and no further than an incremental ancestor
-pub no_further : (clock : Clock) (own : Own) (parents : Closures) → is_incremental own.kind ≡ true
-    → (horizon clock (Model own parents) ≤ℤ clock own) × All (λ h. horizon clock (Model own parents) ≤ℤ h) (horizons_of clock parents)
-no_further clock own parents k = fold-int_min_bounds (clock own) (horizons_of clock parents) (horizon clock (Model own parents)) (ap (λ b. cond b (least_of (clock own) (horizons_of clock parents)) (clock own)) k)

@@ -26,14 +26,14 @@ abbrev pub each_of : Closures → List Closure
 each_of Alone = []
 each_of (With c cs) = c ∷ each_of cs
 
--- the own definitions of a model and of all its ancestors, as often as they are reached
+-- a closure and all that it stands on, as often as each is reached
 abbrev mutual
-  pub lineage : Closure → List Own
-  lineage (Model own parents) = own ∷ ancestry parents
+  pub standing : Closure → List Closure
+  standing (Model own parents) = Model own parents ∷ ancestors parents
 
-  pub ancestry : Closures → List Own
-  ancestry Alone = []
-  ancestry (With c cs) = lineage c ++ ancestry cs
+  pub ancestors : Closures → List Closure
+  ancestors Alone = []
+  ancestors (With c cs) = standing c ++ ancestors cs
 
 -- one more parent, where there is one
 abbrev pub with_parent : Option Closure → Closures → Closures

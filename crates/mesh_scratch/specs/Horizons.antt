@@ -12,7 +12,7 @@ use Rattle.mesh_base.specs.declared.definitions.Own.{Own}
 use Rattle.mesh_base.specs.Crons.{is_cron}
 use Rattle.mesh_time.specs.Ticks.{IsFloor}
 use Rattle.mesh_time.specs.Ranges.{unit_size, units}
-use Rattle.mesh_scratch.specs.Closures.{Closure, Closures, Model, Alone, With, own_of, lineage}
+use Rattle.mesh_scratch.specs.Closures.{Closure, Closures, Model, Alone, With, own_of, standing}
 
 -- the start of the unit that a second lies in
 abbrev pub floored : TimeUnit → ℤ → ℤ
@@ -32,11 +32,14 @@ Shows clock t = (own : Own) → IsTrue (is_cron own.cron) → IsLastTick t own (
 
 -- each model among a closure and its ancestors has a cron that reading can give
 abbrev pub HasCrons : Closure → Type 0
-HasCrons c = All (λ own. IsTrue (is_cron own.cron)) (lineage c)
+HasCrons c = All (λ s. IsTrue (is_cron (own_of s).cron)) (standing c)
 
 abbrev pub is_incremental : Kind → Bool
 is_incremental (Incremental time) = true
 is_incremental other = false
+
+abbrev pub is_timed : Closure → Bool
+is_timed c = is_incremental (own_of c).kind
 
 abbrev pub least_of : ℤ → List ℤ → ℤ
 least_of t ts = fold int_min t ts

@@ -1,6 +1,7 @@
 // What the definitions give.
-ghost use Rattle.std.specs.Prelude.{◌≡◌, true, ℕ, ℤ, ◌≤ℤ◌, List, [], ◌∷◌, map};
-ghost use Rattle.std.specs.List.{All, Contains, flat_map, list_any};
+ghost use Rattle.std.specs.Prelude.{◌≡◌, true, false, ℕ, ℤ, List, [], ◌∷◌, ◌++◌, map, length, nat_lt, Some};
+ghost use Rattle.std.specs.List.{All, Contains, filter, flat_map, list_all, list_any, slice_get};
+ghost use Rattle.std.specs.Option.{option_to_list};
 ghost use Rattle.mesh_base.specs.declared.jobs.Input.{Input};
 ghost use Rattle.mesh_base.specs.declared.values.Cell.{Cell};
 ghost use Rattle.mesh_base.specs.declared.values.Column.{Column};
@@ -12,15 +13,19 @@ ghost use Rattle.mesh_base.specs.declared.snapshots.Node.{Node};
 ghost use Rattle.mesh_base.specs.Outputs.{columns_of};
 ghost use Rattle.mesh_time.specs.Moments.{IsMoment};
 ghost use Rattle.mesh_meaning.specs.Sel.{Sel};
-ghost use Rattle.mesh_scratch.specs.Closures.{Closure, Closures, Model, Alone, With, own_of, parents_of, each_of, closures};
-ghost use Rattle.mesh_scratch.specs.Horizons.{Clock, Shows, HasCrons, is_incremental, horizon, horizons_of, schedule};
+ghost use Rattle.mesh_scratch.specs.Closures.{Closure, Closures, Model, Alone, With, own_of, parents_of, each_of, ancestors, closures};
+ghost use Rattle.mesh_scratch.specs.Horizons.{Clock, Shows, HasCrons, is_incremental, is_timed, least_of, horizon, schedule};
 ghost use Rattle.mesh_scratch.specs.Times.{lies_in};
 ghost use Rattle.mesh_scratch.specs.Scratch.{from_scratch, inputs_of, no_bounds, piece};
 
-/// The closures of a project are one for each model, and the parents of each are among them.
+/// The closures of a project are one for each model, and the parents of each are among them. Where a model's parents
+/// stand before it, its closure has theirs as parents, in the order of their places.
 pub fn projects_are_closed_under_parents()
     ensures one_each { (nodes : List Node) → map own_of (closures nodes) ≡ map (λ (n : Node). n.own) nodes }
-    ensures parents { (nodes : List Node) → All (λ c. All (Contains (closures nodes)) (each_of (parents_of c))) (closures nodes) }
+    ensures closed { (nodes : List Node) → All (λ c. All (Contains (closures nodes)) (each_of (parents_of c))) (closures nodes) }
+    ensures places { (before after : List Node) (n : Node) → list_all (λ i. nat_lt i (length before)) n.parents ≡ true →
+        (parents : Closures) × (slice_get (closures (before ++ n ∷ after)) (length before) ≡ Some (Model n.own parents))
+        × (each_of parents ≡ flat_map (λ i. option_to_list (slice_get (closures (before ++ n ∷ after)) i)) n.parents) }
 {}
 
 /// A seed has its rows. A view and a FULL model have those of their query. An incremental model has, for each unit of
@@ -49,10 +54,12 @@ pub fn rows_lie_in_the_schedule()
         All (λ row. list_any (λ u. lies_in (columns_of own) time u row) (schedule clock (Model own parents)) ≡ true) (from_scratch sources clock (Model own parents)) }
 {}
 
-/// An incremental model goes no further than its own last tick, nor than any of its incremental ancestors.
-pub fn horizons_are_no_further_than_ancestors()
-    ensures { (clock : Clock) (own : Own) (parents : Closures) → is_incremental own.kind ≡ true →
-        (horizon clock (Model own parents) ≤ℤ clock own) × All (λ h. horizon clock (Model own parents) ≤ℤ h) (horizons_of clock parents) }
+/// An incremental model's horizon is the least of its own last tick and the horizons of its incremental ancestors. That
+/// of any other model is its own last tick.
+pub fn horizons_go_by_ancestors()
+    ensures incremental { (clock : Clock) (own : Own) (parents : Closures) → is_incremental own.kind ≡ true →
+        horizon clock (Model own parents) ≡ least_of (clock own) (map (horizon clock) (filter is_timed (ancestors parents))) }
+    ensures other { (clock : Clock) (own : Own) (parents : Closures) → is_incremental own.kind ≡ false → horizon clock (Model own parents) ≡ clock own }
 {}
 
 /// Each moment has a clock that shows it.

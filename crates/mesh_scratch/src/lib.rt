@@ -6,6 +6,7 @@
 mod laws;
 
 pub use laws::{
-    full_models_read_their_seed, horizons_are_no_further_than_ancestors, moments_decide_rows, moments_have_clocks,
-    projects_are_closed_under_parents, rows_go_by_the_kind, rows_lie_in_the_schedule,
+    full_models_read_their_seed, horizons_go_by_ancestors, moments_decide_rows,
+    moments_have_clocks, projects_are_closed_under_parents, rows_go_by_the_kind,
+    rows_lie_in_the_schedule,
 };

@@ -1,0 +1,31 @@
+-- An incremental model's horizon is the least of its own last tick and the horizons of its incremental ancestors.
+use Rattle.std.proofs.Common.{◌≡◌, ℤ, Bool, true, false, cond, List, ◌∷◌, ◌++◌, map, refl, ap, sym, ◌∙◌}
+use Rattle.std.specs.List.{filter}
+use Rattle.std.proofs.lemmas.List.{map-append}
+use Rattle.std.proofs.lemmas.List.Elements.{filter-append}
+use Rattle.mesh_base.specs.declared.definitions.Own.{Own}
+use Rattle.mesh_scratch.specs.Closures.{Closure, Closures, Model, Alone, With, standing, ancestors}
+use Rattle.mesh_scratch.specs.Horizons.{Clock, is_incremental, is_timed, least_of, horizons_from, horizons_of, horizon}
+
+module _ (clock : Clock) where
+  one_more : (b : Bool) (c : Closure) (hs : List ℤ) (cs : List Closure) → hs ≡ map (horizon clock) cs → cond b (horizon clock c ∷ hs) hs ≡ map (horizon clock) (cond b (c ∷ cs) cs)
+  one_more true c hs cs e = ap (λ l. horizon clock c ∷ l) e
+  one_more false c hs cs e = e
+
+  mutual
+    from_is : (c : Closure) → horizons_from clock c ≡ map (horizon clock) (filter is_timed (standing c))
+    from_is (Model own parents) = one_more (is_incremental own.kind) (Model own parents) (horizons_of clock parents) (filter is_timed (ancestors parents)) (of_is parents)
+
+    of_is : (cs : Closures) → horizons_of clock cs ≡ map (horizon clock) (filter is_timed (ancestors cs))
+    of_is Alone = refl
+    of_is (With c cs) =
+        (λ i. from_is c i ++ of_is cs i)
+        ∙ sym (map-append (horizon clock) (filter is_timed (standing c)) (filter is_timed (ancestors cs)))
+        ∙ ap (map (horizon clock)) (sym (filter-append is_timed (standing c) (ancestors cs)))
+
+pub least : (clock : Clock) (own : Own) (parents : Closures) → is_incremental own.kind ≡ true
+    → horizon clock (Model own parents) ≡ least_of (clock own) (map (horizon clock) (filter is_timed (ancestors parents)))
+least clock own parents e = ap (λ b. cond b (least_of (clock own) (horizons_of clock parents)) (clock own)) e ∙ ap (least_of (clock own)) (of_is clock parents)
+
+pub its_own : (clock : Clock) (own : Own) (parents : Closures) → is_incremental own.kind ≡ false → horizon clock (Model own parents) ≡ clock own
+its_own clock own parents e = ap (λ b. cond b (least_of (clock own) (horizons_of clock parents)) (clock own)) e
