@@ -59,7 +59,7 @@ module _ {A : Type 0} (alike : A → A → Bool) (exact : (x y : A) → alike x 
   pub distinct_same : {xs ys : List A} → Perm xs ys → Perm (distinct alike xs) (distinct alike ys)
   distinct_same p = folds Perm same (λ a b c p q. trans p q) step kept (λ z x y. exchange z x y _ _ _ _ refl refl refl refl) p [] [] nil
 
-equal_of : (o : Ordering) → is_eq o ≡ true → o ≡ Equal
+pub equal_of : (o : Ordering) → is_eq o ≡ true → o ≡ Equal
 equal_of Less e = cc
 equal_of Equal e = refl
 equal_of Greater e = cc

@@ -2,8 +2,6 @@
 use Rattle.std.proofs.Common.{◌≢◌, ◌≡◌, ℕ, suc, zero, ◌+◌, Bool, true, false, cond, List, [], ◌∷◌, ◌++◌, map, refl, ap, sym, ◌∙◌, arith}
 use Rattle.std.specs.List.{AllZip, filter, flat_map, fold, slice_get}
 use Rattle.std.specs.Ordering.{is_eq}
-use Rattle.std.specs.declared.cmp.Ordering.{Ordering}
-use Rattle.std.specs.declared.cmp.Ordering.TheVariants.{Less, Equal, Greater}
 use Rattle.std.specs.declared.option.Option.{Option}
 use Rattle.std.specs.declared.option.Option.TheVariants.{None, Some}
 use Rattle.std.proofs.lemmas.Cmp.{tied_itself}
@@ -35,7 +33,7 @@ use Rattle.mesh_meaning.specs.Sel.{Joined, same_row, holds, row_holds, partners,
 use Rattle.mesh_laws.specs.Alike.{names, named, IsSameTable, HaveSameBags}
 use Rattle.mesh_laws.proofs.Lists.{Each, each, Each_left, Each_right, Each_imp}
 use Rattle.mesh_laws.proofs.Perm.{Perm, nil, skip, swap, trans, same, flip, is, mapped, filtered, appended, flat, flat_each, fold_same}
-use Rattle.mesh_laws.proofs.Amounts.{rows_same}
+use Rattle.mesh_laws.proofs.Amounts.{equal_of, rows_same}
 use Rattle.mesh_laws.proofs.Members.{Ev_same}
 
 abbrev Row : Type 0
@@ -47,11 +45,6 @@ times-cons y z zs = sum_by-cons (λ x. cond (is_eq (row_order y x)) 1 0) z zs
 
 pub counts_same : {xs ys : List Row} → Perm xs ys → IsSameBag xs ys
 counts_same p row = fold_same (λ n x. n + cond (is_eq (row_order row x)) 1 0) (λ n x y. omega arith) p 0
-
-equal_of : (o : Ordering) → is_eq o ≡ true → o ≡ Equal
-equal_of Less e = cc
-equal_of Equal e = refl
-equal_of Greater e = cc
 
 itself : (y : Row) → is_eq (row_order y y) ≡ true
 itself y = ap is_eq (tied_itself row_total y)

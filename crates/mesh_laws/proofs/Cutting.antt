@@ -16,7 +16,8 @@ use Rattle.mesh_meaning.specs.Sel.{Sel}
 use Rattle.mesh_laws.specs.Alike.{names, named}
 use Rattle.mesh_laws.specs.Reads.{reads, cut, cut_input, cut_inputs}
 use Rattle.mesh_laws.proofs.Lists.{Each}
-use Rattle.mesh_laws.proofs.Reading.{Str, Row, among, equal_of, text_is, text_self, sel_reads}
+use Rattle.mesh_laws.proofs.Amounts.{equal_of}
+use Rattle.mesh_laws.proofs.Reading.{Str, Row, among, text_is, text_self, sel_reads}
 
 -- what a cut row has in a column
 look : (all : List Str) (cs : List Column) (row : Row) (c : Str) → cell_of (picked_columns all cs) (picked_row all cs row) c ≡ cond (among all c) (cell_of cs row c) Null

@@ -3,8 +3,6 @@ use Rattle.std.proofs.Common.{◌≡◌, ℕ, ◌+◌, suc, zero, Bool, true, fa
 use Rattle.std.specs.List.{AllZip, filter, flat_map, fold, list_all, list_any, slice_get}
 use Rattle.std.specs.Option.{option_to_list}
 use Rattle.std.specs.Ordering.{is_eq}
-use Rattle.std.specs.declared.cmp.Ordering.{Ordering}
-use Rattle.std.specs.declared.cmp.Ordering.TheVariants.{Less, Equal, Greater}
 use Rattle.std.specs.declared.option.Option.{Option}
 use Rattle.std.specs.declared.option.Option.TheVariants.{None, Some}
 use Rattle.std.proofs.lemmas.Bool.{and_parts}
@@ -40,6 +38,7 @@ use Rattle.mesh_meaning.proofs.Shown.{Ev_only}
 use Rattle.mesh_laws.specs.Alike.{names, named}
 use Rattle.mesh_laws.specs.Reads.{expressions, on_of, column_of, select_reads, selects_read, reads, cut, AgreeOnReads}
 use Rattle.mesh_laws.proofs.Lists.{Each, each, Each_left, Each_right, Each_map}
+use Rattle.mesh_laws.proofs.Amounts.{equal_of}
 use Rattle.mesh_laws.proofs.Zips.{zip_map, zip_flat, zip_filter, zip_same, zip_of_map, zip_imp, zip_itself}
 
 abbrev pub Str : Type 0
@@ -51,11 +50,6 @@ Row = List Cell
 -- a name is among some
 abbrev pub among : List Str → Str → Bool
 among all c = list_any (λ n. same_text n c) all
-
-pub equal_of : (o : Ordering) → is_eq o ≡ true → o ≡ Equal
-equal_of Less e = cc
-equal_of Equal e = refl
-equal_of Greater e = cc
 
 pub text_is : (a b : Str) → same_text a b ≡ true → a ≡ b
 text_is a b e = exact_bytes a b (equal_of (text_cmp a b) e)
