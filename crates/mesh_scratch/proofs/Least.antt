@@ -1,11 +1,13 @@
 -- An incremental model's horizon is the least of its own last tick and the horizons of its incremental ancestors.
-use Rattle.std.proofs.Common.{◌≡◌, ℤ, Bool, true, false, cond, List, ◌∷◌, ◌++◌, map, refl, ap, sym, ◌∙◌}
+use Rattle.std.proofs.Common.{◌≡◌, ℤ, pos, ◌*ℤ◌, Bool, true, false, cond, List, [], ◌∷◌, ◌++◌, map, refl, ap, sym, ◌∙◌}
 use Rattle.std.specs.List.{filter}
 use Rattle.std.proofs.lemmas.List.{map-append}
 use Rattle.std.proofs.lemmas.List.Elements.{filter-append}
+use Rattle.std.specs.declared.option.Option.TheVariants.{None, Some}
 use Rattle.mesh_base.specs.declared.definitions.Own.{Own}
+use Rattle.mesh_time.specs.Ranges.{units}
 use Rattle.mesh_scratch.specs.Closures.{Closure, Closures, Model, Alone, With, standing, ancestors}
-use Rattle.mesh_scratch.specs.Horizons.{Clock, is_incremental, is_timed, least_of, horizons_from, horizons_of, horizon}
+use Rattle.mesh_scratch.specs.Horizons.{Clock, is_incremental, is_timed, least_of, horizons_from, horizons_of, horizon, schedule, units_from}
 
 module _ (clock : Clock) where
   one_more : (b : Bool) (c : Closure) (hs : List ℤ) (cs : List Closure) → hs ≡ map (horizon clock) cs → cond b (horizon clock c ∷ hs) hs ≡ map (horizon clock) (cond b (c ∷ cs) cs)
@@ -29,3 +31,10 @@ least clock own parents e = ap (λ b. cond b (least_of (clock own) (horizons_of 
 
 pub its_own : (clock : Clock) (own : Own) (parents : Closures) → is_incremental own.kind ≡ false → horizon clock (Model own parents) ≡ clock own
 its_own clock own parents e = ap (λ b. cond b (least_of (clock own) (horizons_of clock parents)) (clock own)) e
+
+pub from_its_start : (clock : Clock) (own : Own) (parents : Closures) (day : ℤ) → own.start ≡ Some day
+    → schedule clock (Model own parents) ≡ units (record { start = day *ℤ pos 86_400; end = horizon clock (Model own parents); unit = own.unit })
+from_its_start clock own parents day e = ap (λ s. units_from s own.unit (horizon clock (Model own parents))) e
+
+pub without_a_start : (clock : Clock) (own : Own) (parents : Closures) → own.start ≡ None → schedule clock (Model own parents) ≡ []
+without_a_start clock own parents e = ap (λ s. units_from s own.unit (horizon clock (Model own parents))) e

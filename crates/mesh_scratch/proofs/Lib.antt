@@ -8,5 +8,7 @@ pub mod Rows
 pub mod Listed
 -- Examples: small models and what they have, worked out by hand.
 pub mod Examples
+-- Cut: sources as declared, and rows of a unit.
+pub mod Cut
 -- Clocks: each moment has a clock that shows it.
 pub mod Clocks

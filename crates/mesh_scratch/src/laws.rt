@@ -1,7 +1,10 @@
 // What the definitions give.
-ghost use Rattle.std.specs.Prelude.{◌≡◌, true, false, ℕ, ℤ, List, [], ◌∷◌, ◌++◌, map, length, nat_lt, Some};
-ghost use Rattle.std.specs.List.{All, Contains, filter, flat_map, list_all, list_any, slice_get};
+ghost use Rattle.std.specs.Prelude.{◌≡◌, true, false, ℕ, ℤ, pos, ◌*ℤ◌, ◌↔◌, List, [], ◌∷◌, ◌++◌, map, length, nat_lt, Some, None};
+ghost use Rattle.std.specs.List.{All, Contains, filter, find, flat_map, list_all, list_any, slice_get};
 ghost use Rattle.std.specs.Option.{option_to_list};
+ghost use Rattle.std.specs.declared.option.Option.{Option};
+ghost use Rattle.mesh_base.specs.Picked.{cell_of, same_text};
+ghost use Rattle.mesh_base.specs.declared.times.Bounds.{Bounds};
 ghost use Rattle.mesh_base.specs.declared.jobs.Input.{Input};
 ghost use Rattle.mesh_base.specs.declared.values.Cell.{Cell};
 ghost use Rattle.mesh_base.specs.declared.values.Column.{Column};
@@ -12,10 +15,12 @@ ghost use Rattle.mesh_base.specs.declared.queries.Query.{Query};
 ghost use Rattle.mesh_base.specs.declared.snapshots.Node.{Node};
 ghost use Rattle.mesh_base.specs.Outputs.{columns_of};
 ghost use Rattle.mesh_time.specs.Moments.{IsMoment};
+ghost use Rattle.mesh_time.specs.Ranges.{IsWithin, units};
 ghost use Rattle.mesh_meaning.specs.Sel.{Sel};
 ghost use Rattle.mesh_scratch.specs.Closures.{Closure, Closures, Model, Alone, With, own_of, parents_of, each_of, ancestors, closures};
 ghost use Rattle.mesh_scratch.specs.Horizons.{Clock, Shows, HasCrons, is_incremental, is_timed, least_of, horizon, schedule};
-ghost use Rattle.mesh_scratch.specs.Times.{lies_in};
+ghost use Rattle.mesh_scratch.specs.Sources.{declared_rows};
+ghost use Rattle.mesh_scratch.specs.Times.{lies_in, time_of};
 ghost use Rattle.mesh_scratch.specs.Scratch.{from_scratch, inputs_of, no_bounds, piece};
 
 /// The closures of a project are one for each model, and the parents of each are among them. Where a model's parents
@@ -60,6 +65,28 @@ pub fn horizons_go_by_ancestors()
     ensures incremental { (clock : Clock) (own : Own) (parents : Closures) → is_incremental own.kind ≡ true →
         horizon clock (Model own parents) ≡ least_of (clock own) (map (horizon clock) (filter is_timed (ancestors parents))) }
     ensures other { (clock : Clock) (own : Own) (parents : Closures) → is_incremental own.kind ≡ false → horizon clock (Model own parents) ≡ clock own }
+{}
+
+/// The schedule of a model with a start has the units of its size from the first second of that day on that end by its
+/// horizon. That of a model without one is empty.
+pub fn schedules_go_from_the_start_to_the_horizon()
+    ensures start { (clock : Clock) (own : Own) (parents : Closures) (day : ℤ) → own.start ≡ Some day →
+        schedule clock (Model own parents) ≡ units (record { start = day *ℤ pos 86_400; end = horizon clock (Model own parents); unit = own.unit }) }
+    ensures none { (clock : Clock) (own : Own) (parents : Closures) → own.start ≡ None → schedule clock (Model own parents) ≡ [] }
+{}
+
+/// A row lies in a unit where its time column has a second, and that is at least the unit's start and below its end.
+pub fn rows_lie_in_a_unit_by_their_second()
+    ensures { (columns : List Column) (time : List ℕ) (u : Bounds) (row : List Cell) →
+        (lies_in columns time u row ≡ true) ↔ ((t : ℤ) × (time_of (cell_of columns row time) ≡ Some t) × IsWithin u.start u.end t) }
+{}
+
+/// A declared source has a row only where each declared column is there with its type, and its rows have one cell for
+/// each declared column.
+pub fn sources_have_the_declared_shape()
+    ensures types { (columns : List Column) (s : Input) (row : List Cell) → Contains (declared_rows columns (Some s)) row → (c : Column) → Contains columns c →
+        (head : Column) × (find (λ h. same_text h.name c.name) s.columns ≡ Some head) × (head.kind ≡ c.kind) }
+    ensures cells { (columns : List Column) (o : Option Input) → All (λ row. length row ≡ length columns) (declared_rows columns o) }
 {}
 
 /// Each moment has a clock that shows it.
