@@ -1,11 +1,12 @@
 -- Tables that are cut to what a query reads give it the same rows.
-use Rattle.std.proofs.Common.{◌≡◌, Bool, true, false, cond, ◌||◌, List, [], ◌∷◌, refl, ap, ◌∙◌}
+use Rattle.std.proofs.Common.{◌≡◌, Bool, true, false, cond, ◌||◌, List, [], ◌∷◌, map, refl, ap, ◌∙◌}
 use Rattle.std.specs.List.{All}
 use Rattle.std.specs.Ordering.{is_eq}
 use Rattle.std.specs.declared.option.Option.TheVariants.{Some}
 use Rattle.mesh_base.specs.NameOrder.{names_exact}
 use Rattle.mesh_base.specs.Names.{name_cmp}
-use Rattle.mesh_base.specs.Picked.{same_text, cell_of, picked_row, picked_rows, picked_columns}
+use Rattle.mesh_base.specs.declared.values.ColType.{ColType}
+use Rattle.mesh_base.specs.Picked.{same_text, kind_of, cell_of, picked_row, picked_rows, picked_columns}
 use Rattle.mesh_base.specs.declared.times.Bounds.{Bounds}
 use Rattle.mesh_base.specs.declared.values.Cell.TheVariants.{Null}
 use Rattle.mesh_base.specs.declared.values.Column.{Column}
@@ -19,34 +20,39 @@ use Rattle.mesh_laws.proofs.Lists.{Each}
 use Rattle.mesh_laws.proofs.Amounts.{equal_of}
 use Rattle.mesh_laws.proofs.Reading.{Str, Row, among, text_is, text_self, sel_reads}
 
+pub later : (b m : Bool) → m ≡ true → (b || m) ≡ true
+later true m k = refl
+later false m k = k
+
+-- columns of these names, with types
+abbrev pub under : (Str → ColType) → List Str → List Column
+under kinds all = map (λ name. record { name = name; kind = kinds name }) all
+
 -- what a cut row has in a column
-look : (all : List Str) (cs : List Column) (row : Row) (c : Str) → cell_of (picked_columns all cs) (picked_row all cs row) c ≡ cond (among all c) (cell_of cs row c) Null
-look [] cs row c = refl
-look (n ∷ all) cs row c = go (same_text n c) refl (look all cs row c)
+look : (kinds : Str → ColType) (all : List Str) (cs : List Column) (row : Row) (c : Str) → cell_of (under kinds all) (picked_row all cs row) c ≡ cond (among all c) (cell_of cs row c) Null
+look kinds [] cs row c = refl
+look kinds (n ∷ all) cs row c = go (same_text n c) refl (look kinds all cs row c)
   where
-    go : (b : Bool) → same_text n c ≡ b → cell_of (picked_columns all cs) (picked_row all cs row) c ≡ cond (among all c) (cell_of cs row c) Null
-        → cond b (cell_of cs row n) (cell_of (picked_columns all cs) (picked_row all cs row) c) ≡ cond (b || among all c) (cell_of cs row c) Null
+    go : (b : Bool) → same_text n c ≡ b → cell_of (under kinds all) (picked_row all cs row) c ≡ cond (among all c) (cell_of cs row c) Null
+        → cond b (cell_of cs row n) (cell_of (under kinds all) (picked_row all cs row) c) ≡ cond (b || among all c) (cell_of cs row c) Null
     go true e ih = ap (cell_of cs row) (text_is n c e)
     go false e ih = ih
 
-found_in : (all : List Str) (cs : List Column) (row : Row) (c : Str) → among all c ≡ true → cell_of (picked_columns all cs) (picked_row all cs row) c ≡ cell_of cs row c
-found_in all cs row c h = look all cs row c ∙ ap (λ b. cond b (cell_of cs row c) Null) h
+found_in : (kinds : Str → ColType) (all : List Str) (cs : List Column) (row : Row) (c : Str) → among all c ≡ true → cell_of (under kinds all) (picked_row all cs row) c ≡ cell_of cs row c
+found_in kinds all cs row c h = look kinds all cs row c ∙ ap (λ b. cond b (cell_of cs row c) Null) h
 
 each_among : (all xs : List Str) → ((c : Str) → among xs c ≡ true → among all c ≡ true) → Each (λ c. among all c ≡ true) xs
 each_among all [] h = tt
 each_among all (x ∷ xs) h = (h x (ap (λ b. b || among xs x) (text_self x)), each_among all xs (λ c k. h c (later (same_text x c) (among xs c) k)))
-  where
-    later : (b m : Bool) → m ≡ true → (b || m) ≡ true
-    later true m k = refl
-    later false m k = k
 
-row_twice : (all : List Str) (cs : List Column) (row : Row) (some : List Str) → Each (λ c. among all c ≡ true) some → picked_row some (picked_columns all cs) (picked_row all cs row) ≡ picked_row some cs row
-row_twice all cs row [] h = refl
-row_twice all cs row (c ∷ some) h = λ i. found_in all cs row c h.0 i ∷ row_twice all cs row some h.1 i
+row_twice : (kinds : Str → ColType) (all : List Str) (cs : List Column) (row : Row) (some : List Str) → Each (λ c. among all c ≡ true) some → picked_row some (under kinds all) (picked_row all cs row) ≡ picked_row some cs row
+row_twice kinds all cs row [] h = refl
+row_twice kinds all cs row (c ∷ some) h = λ i. found_in kinds all cs row c h.0 i ∷ row_twice kinds all cs row some h.1 i
 
-twice : (all : List Str) (cs : List Column) (rows : List Row) → picked_rows all (picked_columns all cs) (picked_rows all cs rows) ≡ picked_rows all cs rows
-twice all cs [] = refl
-twice all cs (row ∷ rows) = λ i. row_twice all cs row all (each_among all all (λ c h. h)) i ∷ twice all cs rows i
+-- rows that are cut to some columns stay as they are when they are cut to them again
+pub twice : (kinds : Str → ColType) (all : List Str) (cs : List Column) (rows : List Row) → picked_rows all (under kinds all) (picked_rows all cs rows) ≡ picked_rows all cs rows
+twice kinds all cs [] = refl
+twice kinds all cs (row ∷ rows) = λ i. row_twice kinds all cs row all (each_among all all (λ c h. h)) i ∷ twice kinds all cs rows i
 
 cut_found : (q : Query) (name : Name) (inputs : List Input) → cut (reads q name) (named (cut_inputs q inputs) name) ≡ cut (reads q name) (named inputs name)
 cut_found q name [] = refl
@@ -56,7 +62,7 @@ cut_found q name (x ∷ xs) = go (is_eq (name_cmp x.name name)) refl (cut_found 
         → cut (reads q name) (cond b (Some (cut_input q x)) (named (cut_inputs q xs) name)) ≡ cut (reads q name) (cond b (Some x) (named xs name))
     go true e ih =
         let same : x.name ≡ name = names_exact x.name name (equal_of (name_cmp x.name name) e) in
-        ap (λ all. picked_rows (reads q name) (picked_columns all x.columns) (picked_rows all x.columns x.rows)) (ap (reads q) same) ∙ twice (reads q name) x.columns x.rows
+        ap (λ all. picked_rows (reads q name) (picked_columns all x.columns) (picked_rows all x.columns x.rows)) (ap (reads q) same) ∙ twice (kind_of x.columns) (reads q name) x.columns x.rows
     go false e ih = ih
 
 pub sel_cut : (q : Query) (inputs : List Input) (u : Bounds) → Sel q (cut_inputs q inputs) u ≡ Sel q inputs u

@@ -14,5 +14,7 @@ pub mod Zips
 pub mod Reading
 -- Cutting: tables that are cut to what a query reads.
 pub mod Cutting
+-- ReadBags: a query's rows as bags, over the columns that it reads.
+pub mod ReadBags
 -- Models: a model's rows as bags.
 pub mod Models

@@ -5,6 +5,7 @@ use Rattle.std.specs.Option.{option_to_list}
 use Rattle.std.specs.Ordering.{is_eq}
 use Rattle.std.specs.declared.option.Option.{Option}
 use Rattle.std.specs.declared.option.Option.TheVariants.{None, Some}
+use Rattle.mesh_base.specs.Bag.{IsSameBag}
 use Rattle.mesh_base.specs.Names.{name_cmp}
 use Rattle.mesh_base.specs.Picked.{picked_rows, picked_columns}
 use Rattle.mesh_base.specs.declared.jobs.Input.{Input}
@@ -58,6 +59,10 @@ cut columns table = picked_rows columns (columns_in table) (rows_in table)
 -- under each name that the query names, both have the same rows as far as it reads their columns
 abbrev pub AgreeOnReads : Query → List Input → List Input → Type 0
 AgreeOnReads q a b = All (λ name. cut (reads q name) (named a name) ≡ cut (reads q name) (named b name)) (names q)
+
+-- under each name that the query names, these rows are one bag
+abbrev pub AgreeAsBags : Query → List Input → List Input → Type 0
+AgreeAsBags q a b = All (λ name. IsSameBag (cut (reads q name) (named a name)) (cut (reads q name) (named b name))) (names q)
 
 -- a table with the columns alone that the query reads of it
 abbrev pub cut_input : Query → Input → Input

@@ -12,7 +12,7 @@ ghost use Rattle.mesh_scratch.specs.Horizons.{Clock};
 ghost use Rattle.mesh_scratch.specs.Scratch.{from_scratch, piece_over, rows_over};
 ghost use Rattle.mesh_laws.specs.Alike.{AreSameTables, HaveSameBags};
 ghost use Rattle.mesh_laws.specs.Loads.{HaveSameSources};
-ghost use Rattle.mesh_laws.specs.Reads.{AgreeOnReads, cut_inputs};
+ghost use Rattle.mesh_laws.specs.Reads.{AgreeAsBags, AgreeOnReads, cut_inputs};
 
 /// Where the tables that a query names have the same columns and the same rows, in whatever order, its rows are the same
 /// but for their order.
@@ -25,6 +25,11 @@ pub fn rows_respect_bags()
 pub fn rows_hang_on_read_columns()
     ensures agree { (q : Query) (a b : List Input) → AgreeOnReads q a b → (u : Bounds) → Sel q a u ≡ Sel q b u }
     ensures cut { (q : Query) (inputs : List Input) (u : Bounds) → Sel q (cut_inputs q inputs) u ≡ Sel q inputs u }
+{}
+
+/// Where these rows, as far as the query reads their columns, are the same but for their order, so are its rows.
+pub fn rows_respect_bags_of_read_columns()
+    ensures { (q : Query) (a b : List Input) → AgreeAsBags q a b → (u : Bounds) → IsSameBag (Sel q a u) (Sel q b u) }
 {}
 
 /// Where the sources that a model and its ancestors declare have the same columns and the same rows, in whatever order,

@@ -4,4 +4,7 @@
 
 mod laws;
 
-pub use laws::{models_respect_bags, rows_hang_on_read_columns, rows_respect_bags};
+pub use laws::{
+    models_respect_bags, rows_hang_on_read_columns, rows_respect_bags,
+    rows_respect_bags_of_read_columns,
+};

@@ -1,0 +1,70 @@
+-- A query's rows are one bag where its inputs are, as far as it reads their columns.
+use Rattle.std.proofs.Common.{◌≡◌, Bool, true, false, cond, ◌||◌, List, [], ◌∷◌, map, refl, ap, sym, ◌∙◌, subst}
+use Rattle.std.specs.List.{All, list_any}
+use Rattle.std.specs.Ordering.{is_eq}
+use Rattle.std.specs.declared.option.Option.{Option}
+use Rattle.std.specs.declared.option.Option.TheVariants.{Some}
+use Rattle.std.proofs.lemmas.Cmp.{tied_itself}
+use Rattle.std.proofs.lemmas.List.Elements.{All-nil, All-cons, All-head, All-tail}
+use Rattle.mesh_base.specs.Bag.{IsSameBag}
+use Rattle.mesh_base.specs.NameOrder.{names_total, names_exact}
+use Rattle.mesh_base.specs.Names.{name_cmp}
+use Rattle.mesh_base.specs.declared.times.Bounds.{Bounds}
+use Rattle.mesh_base.specs.declared.values.ColType.TheVariants.{Text}
+use Rattle.mesh_base.specs.declared.values.Name.{Name}
+use Rattle.mesh_base.specs.declared.jobs.Input.{Input}
+use Rattle.mesh_base.specs.declared.queries.Query.{Query}
+use Rattle.mesh_meaning.specs.Tables.{columns_in, rows_in}
+use Rattle.mesh_meaning.specs.Sel.{Sel}
+use Rattle.mesh_laws.specs.Alike.{names, named, IsSameTable}
+use Rattle.mesh_laws.specs.Reads.{reads, cut, AgreeAsBags}
+use Rattle.mesh_laws.proofs.Amounts.{equal_of}
+use Rattle.mesh_laws.proofs.Reading.{sel_reads}
+use Rattle.mesh_laws.proofs.Cutting.{under, twice, later}
+use Rattle.mesh_laws.proofs.Bags.{sel_bag}
+
+module _ (q : Query) (a : List Input) where
+  -- a table with what is read of a name, all its columns of one type
+  abbrev plain : Name → Input
+  plain name = record { name = name; columns = under (λ c. Text) (reads q name); rows = cut (reads q name) (named a name) }
+
+  -- under each of the names it is found
+  plain_named : (name : Name) (all : List Name) → list_any (λ n. is_eq (name_cmp n name)) all ≡ true → named (map plain all) name ≡ Some (plain name)
+  plain_named name [] h = absurd (cc)
+  plain_named name (n ∷ all) h = go (is_eq (name_cmp n name)) refl h (plain_named name all)
+    where
+      go : (b : Bool) → is_eq (name_cmp n name) ≡ b → (b || list_any (λ n. is_eq (name_cmp n name)) all) ≡ true → (list_any (λ n. is_eq (name_cmp n name)) all ≡ true → named (map plain all) name ≡ Some (plain name))
+          → cond b (Some (plain n)) (named (map plain all) name) ≡ Some (plain name)
+      go true e h ih = ap (λ n. Some (plain n)) (names_exact n name (equal_of (name_cmp n name) e))
+      go false e h ih = ih h
+
+  plain_agrees : (name : Name) (all : List Name) → list_any (λ n. is_eq (name_cmp n name)) all ≡ true → cut (reads q name) (named a name) ≡ cut (reads q name) (named (map plain all) name)
+  plain_agrees name all h =
+      sym (ap (cut (reads q name)) (plain_named name all h) ∙ twice (λ c. Text) (reads q name) (columns_in (named a name)) (rows_in (named a name)))
+
+-- each of some names is among them
+each_here : (P : Name → Type 0) (all : List Name) → ((name : Name) → list_any (λ n. is_eq (name_cmp n name)) all ≡ true → P name) → All P all
+each_here P [] h = All-nil P
+each_here P (n ∷ all) h =
+    All-cons P n all (h n (ap (λ b. b || list_any (λ m. is_eq (name_cmp m n)) all) (ap is_eq (tied_itself names_total n))))
+    (each_here P all (λ name k. h name (later (is_eq (name_cmp n name)) (list_any (λ n. is_eq (name_cmp n name)) all) k)))
+
+all_at : (P : Name → Type 0) (all : List Name) → All P all → (name : Name) → list_any (λ n. is_eq (name_cmp n name)) all ≡ true → P name
+all_at P [] h name k = absurd (cc)
+all_at P (n ∷ all) h name k = go (is_eq (name_cmp n name)) refl k (all_at P all (All-tail P n all h) name)
+  where
+    go : (b : Bool) → is_eq (name_cmp n name) ≡ b → (b || list_any (λ n. is_eq (name_cmp n name)) all) ≡ true → (list_any (λ n. is_eq (name_cmp n name)) all ≡ true → P name) → P name
+    go true e k ih = subst P (names_exact n name (equal_of (name_cmp n name) e)) (All-head P n all h)
+    go false e k ih = ih k
+
+pub sel_read_bag : (q : Query) (a b : List Input) → AgreeAsBags q a b → (u : Bounds) → IsSameBag (Sel q a u) (Sel q b u)
+sel_read_bag q a b h u =
+    let left : Sel q a u ≡ Sel q (map (plain q a) (names q)) u = sel_reads q a (map (plain q a) (names q)) (each_here _ (names q) (λ name k. plain_agrees q a name (names q) k)) u in
+    let right : Sel q b u ≡ Sel q (map (plain q b) (names q)) u = sel_reads q b (map (plain q b) (names q)) (each_here _ (names q) (λ name k. plain_agrees q b name (names q) k)) u in
+    let bags : IsSameBag (Sel q (map (plain q a) (names q)) u) (Sel q (map (plain q b) (names q)) u) =
+    sel_bag q (map (plain q a) (names q)) (map (plain q b) (names q)) (each_here _ (names q) (λ name k.
+    let P : Option Input → Option Input → Type 0 = λ x y. IsSameTable x y in
+    subst (λ x. P x (named (map (plain q b) (names q)) name)) (sym (plain_named q a name (names q) k))
+    (subst (λ y. P (Some (plain q a name)) y) (sym (plain_named q b name (names q) k))
+    (refl, all_at (λ name. IsSameBag (cut (reads q name) (named a name)) (cut (reads q name) (named b name))) (names q) h name k)))) u in
+    subst (λ l. IsSameBag l (Sel q b u)) (sym left) (subst (λ r. IsSameBag (Sel q (map (plain q a) (names q)) u) r) (sym right) bags)
