@@ -1,5 +1,5 @@
 -- Sources as declared, and rows of a unit.
-use Rattle.std.proofs.Common.{◌≡◌, ℕ, zero, suc, arith, ℤ, ◌↔◌, Bool, true, false, cond, List, [], ◌∷◌, map, length, refl, ap, ◌∙◌, subst}
+use Rattle.std.proofs.Common.{◌≡◌, ℕ, zero, suc, ◌+◌, ◌*◌, ◌≤◌, arith, ℤ, pos, ◌+ℤ◌, ◌≤ℤ◌, ◌<ℤ◌, ◌↔◌, Bool, true, false, cond, List, [], ◌∷◌, map, length, refl, ap, sym, ◌∙◌, subst}
 use Rattle.std.specs.List.{All, Contains, find, list_all}
 use Rattle.std.specs.Int.Signed.{le_z, lt_z}
 use Rattle.std.specs.declared.option.Option.{Option}
@@ -7,6 +7,7 @@ use Rattle.std.specs.declared.option.Option.TheVariants.{None, Some}
 use Rattle.std.proofs.lemmas.Bool.{and_parts}
 use Rattle.std.proofs.lemmas.List.{length-map}
 use Rattle.std.proofs.lemmas.List.Elements.{All-nil, All-cons}
+use Rattle.std.proofs.Math.Nat.{mul-le-mul_right}
 use Rattle.mesh_base.specs.Picked.{same_text, cell_of, picked_row, picked_rows}
 use Rattle.mesh_base.specs.declared.times.Bounds.{Bounds}
 use Rattle.mesh_base.specs.declared.jobs.Input.{Input}
@@ -14,7 +15,11 @@ use Rattle.mesh_base.specs.declared.values.Cell.{Cell}
 use Rattle.mesh_base.specs.declared.values.ColType.{ColType}
 use Rattle.mesh_base.specs.declared.values.ColType.TheVariants.{Int, Text, Date, Bool as Truth}
 use Rattle.mesh_base.specs.declared.values.Column.{Column}
-use Rattle.mesh_time.specs.Ranges.{IsWithin}
+use Rattle.mesh_base.specs.declared.times.Unit.{Unit as TimeUnit}
+use Rattle.mesh_base.specs.declared.times.Unit.TheVariants.{Hour, Day}
+use Rattle.mesh_base.specs.declared.times.Schedule.{Schedule}
+use Rattle.std.proofs.lemmas.Int.{ints, by_lt_z}
+use Rattle.mesh_time.specs.Ranges.{IsWithin, unit_size, unit_at}
 use Rattle.mesh_time.proofs.Apart.{lt_true, lt_says, le_true, le_says, and_true}
 use Rattle.mesh_scratch.specs.Times.{time_of, is_within, lies_in}
 use Rattle.mesh_scratch.specs.Sources.{same_type, is_of_type, has_shape, declared_rows}
@@ -83,3 +88,26 @@ within u o (t, e, (low, high)) = ap (is_within u) e ∙ and_true (le_z u.start t
 
 pub by_second : (columns : List Column) (time : List ℕ) (u : Bounds) (row : List Cell) → (lies_in columns time u row ≡ true) ↔ Second u (time_of (cell_of columns row time))
 by_second columns time u row = (second u (time_of (cell_of columns row time)), within u (time_of (cell_of columns row time)))
+
+-- no second lies in two units
+one_unit : (s : Schedule) (size i j : ℕ) (t : ℤ) → 1 ≤ size → (s.start +ℤ pos (i * size)) ≤ℤ t → t <ℤ (s.start +ℤ pos ((i + 1) * size)) → (s.start +ℤ pos (j * size)) ≤ℤ t → t <ℤ (s.start +ℤ pos ((j + 1) * size)) → i ≡ j
+one_unit s size i j t some low high low' high' =
+    by_lt_z (pos i) (pos j)
+    (λ l. let p : (i + 1) * size ≤ j * size = mul-le-mul_right size (omega (arith, ints)) in absurd (omega (arith, ints)))
+    (λ ge. by_lt_z (pos j) (pos i)
+    (λ l. let p : (j + 1) * size ≤ i * size = mul-le-mul_right size (omega (arith, ints)) in absurd (omega (arith, ints)))
+    (λ le. omega (arith, ints)))
+
+sized : (unit : TimeUnit) → 1 ≤ unit_size unit
+sized Hour = omega arith
+sized Day = omega arith
+
+some_is : (t u : ℤ) → ◌≡◌ {A = Option ℤ} (Some t) (Some u) → t ≡ u
+some_is t u e = cc
+
+pub in_one : (columns : List Column) (time : List ℕ) (s : Schedule) (i j : ℕ) (row : List Cell) → lies_in columns time (unit_at s i) row ≡ true → lies_in columns time (unit_at s j) row ≡ true → i ≡ j
+in_one columns time s i j row h k =
+    let a = second (unit_at s i) (time_of (cell_of columns row time)) h in
+    let b = second (unit_at s j) (time_of (cell_of columns row time)) k in
+    let same : b.0 ≡ a.0 = some_is b.0 a.0 (sym b.1 ∙ a.1) in
+    one_unit s (unit_size s.unit) i j a.0 (sized s.unit) a.2.0 a.2.1 (subst (λ t. (unit_at s j).start ≤ℤ t) same b.2.0) (subst (λ t. t <ℤ (unit_at s j).end) same b.2.1)

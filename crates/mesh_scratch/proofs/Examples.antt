@@ -1,8 +1,9 @@
 -- Small models and what they have, worked out by hand.
-use Rattle.std.proofs.Common.{◌≡◌, ℕ, ◌*◌, ℤ, pos, Bool, true, false, cond, List, [], ◌∷◌, length, refl, ap, ◌∙◌}
+use Rattle.std.proofs.Common.{◌≡◌, ℕ, ◌*◌, ℤ, pos, Bool, true, false, cond, List, [], ◌∷◌, map, length, refl, ap, ◌∙◌}
 use Rattle.std.specs.Prelude.{codes}
 use Rattle.std.specs.declared.option.Option.TheVariants.{None, Some}
-use Rattle.std.specs.Ordering.{is_eq}
+use Rattle.std.specs.List.{position}
+use Rattle.std.specs.Ordering.{is_eq, is_lt}
 use Rattle.mesh_base.specs.declared.values.Cell.{Cell}
 use Rattle.mesh_base.specs.declared.values.Cell.TheVariants as cell
 use Rattle.mesh_base.specs.declared.values.ColType.TheVariants as type
@@ -16,8 +17,9 @@ use Rattle.mesh_base.specs.declared.definitions.Kind.TheVariants as kind
 use Rattle.mesh_base.specs.declared.definitions.Own.{Own}
 use Rattle.mesh_base.specs.declared.expressions.Expr.{Expr, roll-Expr, out-roll-Expr}
 use Rattle.mesh_base.specs.declared.expressions.Expr as expr
-use Rattle.mesh_base.specs.declared.expressions.Expr.TheOpen.{Col, Binary, Between, Macro}
+use Rattle.mesh_base.specs.declared.expressions.Expr.TheOpen.{Literal, Col, Binary, Between, Macro}
 use Rattle.mesh_base.specs.declared.expressions.Op.TheVariants as op
+use Rattle.mesh_base.specs.declared.expressions.AggKind.TheVariants as agg
 use Rattle.mesh_base.specs.declared.expressions.Var.{Var}
 use Rattle.mesh_base.specs.declared.expressions.Var.TheVariants as var
 use Rattle.mesh_base.specs.declared.jobs.Input.{Input}
@@ -27,8 +29,9 @@ use Rattle.mesh_base.specs.declared.queries.Join.TheVariants as join
 use Rattle.mesh_base.specs.Crons.{CronSets}
 use Rattle.mesh_meaning.specs.Cells.{compared, between}
 use Rattle.mesh_meaning.specs.Macros.{macro_value}
-use Rattle.mesh_meaning.specs.Ev.{Ev, Seen, at_row, node_value, valued}
-use Rattle.mesh_meaning.proofs.Nodes.{Ev_out}
+use Rattle.mesh_meaning.specs.Ev.{Ev, Ev_node, Seen, Scope, at_row, key_or, same_expr, over_group, node_value, valued}
+use Rattle.mesh_meaning.proofs.Nodes.{Ev_out, Ev_agg}
+use Rattle.mesh_meaning.specs.Aggregates.{agg_value}
 use Rattle.mesh_scratch.specs.Closures.{Closure, Model, Alone, With}
 use Rattle.mesh_scratch.specs.Horizons.{Clock, horizon, schedule}
 use Rattle.mesh_scratch.specs.Sources.{declared}
@@ -274,3 +277,53 @@ on_wednesday : from_scratch dated (λ own. pos (19_725 * 86_400)) (Model by_day 
 on_wednesday =
     incrementals dated (λ own. pos (19_725 * 86_400)) by_day Alone day refl
     ∙ simp (within_is, its_id_is, its_day_is) refl
+
+-- a sum of no rows
+below_zero : Expr
+below_zero = expr.Binary op.Lt (expr.Col 0 v) (expr.Literal (cell.Int (pos 0)))
+
+sum_of_v : Expr
+sum_of_v = expr.Agg agg.Sum (expr.Col 0 v)
+
+-- SELECT SUM(v) AS s FROM a.s WHERE v < 0
+abbrev nothing_to_add : Query
+nothing_to_add = record {
+  ctes = [];
+  selects = record {
+    distinct = false;
+    grouped = true;
+    items = record { name = codes "s"; kind = type.Int; expr = sum_of_v } ∷ [];
+    from = record { join = join.First; rel = rel.Named seed_name; on = None } ∷ [];
+    filter = Some below_zero;
+    keys = [];
+    having = None;
+  } ∷ [];
+}
+
+abbrev summed : Own
+summed = record { name = record { schema = codes "a"; model = codes "t" }; kind = kind.Full; cron = midnight true; unit = unit.Day; start = None; sources = []; defn = defn.Sql nothing_to_add }
+
+literal_is : (c : Cell) (u : Bounds) (row : Seen) → Ev (expr.Literal c) (at_row u row) ≡ c
+unfolding roll-Expr denote.Hole.Carrier.roll
+literal_is c u row = Ev_out (expr.Literal c) (at_row u row) ∙ ap (λ d. node_value (valued d) (at_row u row)) (out-roll-Expr (Literal c))
+
+below_zero_is : (u : Bounds) (row : Seen) → Ev below_zero (at_row u row) ≡ compared is_lt (row 0 v) (cell.Int (pos 0))
+unfolding below_zero roll-Expr denote.Hole.Carrier.roll
+below_zero_is u row =
+    Ev_out (expr.Binary op.Lt (expr.Col 0 v) (expr.Literal (cell.Int (pos 0)))) (at_row u row)
+    ∙ ap (λ d. node_value (valued d) (at_row u row)) (out-roll-Expr (Binary op.Lt (expr.Col 0 v) (expr.Literal (cell.Int (pos 0)))))
+    ∙ (λ i. compared is_lt (column_is 0 v u row i) (literal_is (cell.Int (pos 0)) u row i))
+
+sum_of_v_is : (s : Scope) → s.keys ≡ [] → s.group ≡ Some [] → Ev sum_of_v s ≡ cell.Null
+unfolding sum_of_v
+sum_of_v_is s none empty =
+    Ev_out (expr.Agg agg.Sum (expr.Col 0 v)) s
+    ∙ ap (λ keys. key_or s (position (λ key. same_expr key (expr.Agg agg.Sum (expr.Col 0 v))) keys) (Ev_node (expr.Agg agg.Sum (expr.Col 0 v)) s)) none
+    ∙ Ev_agg agg.Sum (expr.Col 0 v) s
+    ∙ ap (over_group (λ rows. agg_value agg.Sum (map (λ row. Ev (expr.Col 0 v) (at_row s.bounds row)) rows))) empty
+
+-- without keys there is one group, also where no row is left
+sum_of_nothing : (sources : List Input) (clock : Clock) → from_scratch sources clock (Model summed (With (Model seed Alone) Alone)) ≡ (cell.Null ∷ []) ∷ []
+sum_of_nothing sources clock =
+    full_over_seed sources clock summed seed nothing_to_add seed_columns seed_rows refl refl refl refl refl
+    ∙ simp below_zero_is (ap (λ c. (c ∷ []) ∷ []) (sum_of_v_is _ refl refl))

@@ -5,6 +5,7 @@ ghost use Rattle.std.specs.Option.{option_to_list};
 ghost use Rattle.std.specs.declared.option.Option.{Option};
 ghost use Rattle.mesh_base.specs.Picked.{cell_of, same_text};
 ghost use Rattle.mesh_base.specs.declared.times.Bounds.{Bounds};
+ghost use Rattle.mesh_base.specs.declared.times.Schedule.{Schedule};
 ghost use Rattle.mesh_base.specs.declared.jobs.Input.{Input};
 ghost use Rattle.mesh_base.specs.declared.values.Cell.{Cell};
 ghost use Rattle.mesh_base.specs.declared.values.Column.{Column};
@@ -15,7 +16,7 @@ ghost use Rattle.mesh_base.specs.declared.queries.Query.{Query};
 ghost use Rattle.mesh_base.specs.declared.snapshots.Node.{Node};
 ghost use Rattle.mesh_base.specs.Outputs.{columns_of};
 ghost use Rattle.mesh_time.specs.Moments.{IsMoment};
-ghost use Rattle.mesh_time.specs.Ranges.{IsWithin, units};
+ghost use Rattle.mesh_time.specs.Ranges.{IsWithin, unit_at, units};
 ghost use Rattle.mesh_meaning.specs.Sel.{Sel};
 ghost use Rattle.mesh_scratch.specs.Closures.{Closure, Closures, Model, Alone, With, own_of, parents_of, each_of, ancestors, closures};
 ghost use Rattle.mesh_scratch.specs.Horizons.{Clock, Shows, HasCrons, is_incremental, is_timed, least_of, horizon, schedule};
@@ -75,10 +76,13 @@ pub fn schedules_go_from_the_start_to_the_horizon()
     ensures none { (clock : Clock) (own : Own) (parents : Closures) → own.start ≡ None → schedule clock (Model own parents) ≡ [] }
 {}
 
-/// A row lies in a unit where its time column has a second, and that is at least the unit's start and below its end.
+/// A row lies in a unit where its time column has a second, and that is at least the unit's start and below its end. So
+/// it lies in one unit of a schedule at most.
 pub fn rows_lie_in_a_unit_by_their_second()
-    ensures { (columns : List Column) (time : List ℕ) (u : Bounds) (row : List Cell) →
+    ensures lies { (columns : List Column) (time : List ℕ) (u : Bounds) (row : List Cell) →
         (lies_in columns time u row ≡ true) ↔ ((t : ℤ) × (time_of (cell_of columns row time) ≡ Some t) × IsWithin u.start u.end t) }
+    ensures one { (columns : List Column) (time : List ℕ) (s : Schedule) (i j : ℕ) (row : List Cell) →
+        lies_in columns time (unit_at s i) row ≡ true → lies_in columns time (unit_at s j) row ≡ true → i ≡ j }
 {}
 
 /// A declared source has a row only where each declared column is there with its type, and its rows have one cell for
