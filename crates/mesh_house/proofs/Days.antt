@@ -18,7 +18,8 @@ use Rattle.mesh_base.specs.NameOrder.{texts_total}
 use Rattle.mesh_base.specs.Picked.{same_text}
 use Rattle.mesh_time.specs.Moments.{date_text, IsDayText, IsTimeValue}
 use Rattle.mesh_time.proofs.TextLaws.{date_parts}
-use Rattle.mesh_house.specs.Times.{number_at, is_day, day_form, day_if, day_named, time_of}
+use Rattle.mesh_meaning.specs.Dates.{number_at, is_day, day_form, day_if, day_named}
+use Rattle.mesh_house.specs.Times.{time_of}
 
 same_itself : (a : List ℕ) → same_text a a ≡ true
 same_itself a = (Equal-is (text_cmp a a)).1 (tied_itself texts_total a)
