@@ -1,8 +1,8 @@
 use Rattle.std.proofs.Common.{sym, arith, refl, ◌∙◌}
 use Rattle.std.proofs.lemmas.List.{drop_more}
 use borrow.Author.Tests.{le-leb, lt-leb}
-use Rattle.mesh_eval.proofs.Digits.{past_here, no_digit, one_more, all_read}
-use Rattle.mesh_eval.proofs.casts.digits_within.Goals as goal
+use Rattle.mesh_casts.proofs.Digits.{past_here, no_digit, one_more, all_read}
+use Rattle.mesh_casts.proofs.casts.digits_within.Goals as goal
 
 pub returns-then-n-most : goal.returns-then-n-most
 returns-then-n-most c =

@@ -6,8 +6,7 @@ ghost use Rattle.mesh_base.specs.Picked.{same_text};
 ghost use Rattle.mesh_meaning.specs.Dates.{day_named, day_text};
 ghost use Rattle.mesh_meaning.specs.Casts.{at_most, digits_after, digits_up_to, below_zero, number_named, truth_of_small, truth_named, truth_text, cast_to_int, cast_to_text, cast_to_date, cast_to_bool, cast_value};
 
-use crate::cells::{is_day_number, lower_case};
-use crate::days::{day_named, day_written};
+use crate::days::{day_named, day_written, is_day_number};
 use mesh_base::{Cell, ColType, Str};
 use mesh_list::{Memory, Seq};
 use std::alloc::Global;
@@ -48,7 +47,8 @@ fn below_zero(n: u64) -> i64
     if n == 0 { 0 } else { -((n - 1) as i64) - 1 }
 }
 
-fn number_named(text: &[u8]) -> Option<i64>
+/// The number of 64 bits that a text is: decimal digits, behind a minus sign or none.
+pub fn number_named(text: &[u8]) -> Option<i64>
     ensures { result ≡ number_named text.now }
 {
     match text {
@@ -88,10 +88,18 @@ fn truth_of_small(text: &[u8]) -> Option<bool>
     }
 }
 
-fn truth_named(text: &Str) -> Result<Option<bool>, Memory>
+/// The text with its ASCII letters in lower case.
+pub fn lower_case(alloc: Global, text: &[u8]) -> Result<Str, Memory>
+    ensures { IfOk result (λ made. made ≡ map to_ascii_lowercase text.now) }
+{
+    Ok(Seq::from_vec(text.to_ascii_lowercase(alloc)?))
+}
+
+/// The truth that a text is, `true` or `false` in ASCII letters of any case.
+pub fn truth_named(alloc: Global, text: &[u8]) -> Result<Option<bool>, Memory>
     ensures { IfOk result (λ b. b ≡ truth_named text.now) }
 {
-    let small = lower_case(text)?;
+    let small = lower_case(alloc, text)?;
     Ok(truth_of_small(small.as_slice()))
 }
 
@@ -172,7 +180,7 @@ fn to_bool(x: Cell) -> Result<Cell, Memory>
 {
     match x {
         Cell::Int(n) => Ok(Cell::Bool(n != 0)),
-        Cell::Text(t) => match truth_named(&t)? {
+        Cell::Text(t) => match truth_named(t.alloc(), t.as_slice())? {
             Some(b) => Ok(Cell::Bool(b)),
             None => Ok(Cell::Null),
         },
@@ -181,8 +189,8 @@ fn to_bool(x: Cell) -> Result<Cell, Memory>
     }
 }
 
-/// A cell as another type, and NULL where it has no value there.
-pub(crate) fn cast(alloc: Global, to: ColType, x: Cell) -> Result<Cell, Memory>
+/// A cell as another type, and NULL where it has no value there (CAST of ISO/IEC 9075).
+pub fn cast(alloc: Global, to: ColType, x: Cell) -> Result<Cell, Memory>
     ensures { IfOk result (λ v. v ≡ cast_value to x) }
 {
     match to {

@@ -1,7 +1,7 @@
 use Rattle.std.proofs.Common.{FitsSigned, w32, rules}
 use Rattle.std.proofs.lemmas.Int.{to_z-of_z}
-use Rattle.mesh_eval.proofs.DayTexts.{text_is}
-use Rattle.mesh_eval.proofs.days.day_written.Goals as goal
+use Rattle.mesh_casts.proofs.DayTexts.{text_is}
+use Rattle.mesh_casts.proofs.days.day_written.Goals as goal
 
 pub returns : goal.returns
 returns c =
