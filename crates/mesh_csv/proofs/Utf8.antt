@@ -5,10 +5,10 @@ use Rattle.std.specs.Str.{IsUtf8, IsValidUpTo}
 use Rattle.std.specs.Str.Lossy.{utf8_valid_len}
 use Rattle.std.proofs.lemmas.Str.{utf8_valid_len-IsUtf8, utf8_valid_len-IsValidUpTo}
 use borrow.Author.Tests.{eq-eqb, ne_eqb}
-use Rattle.mesh_model.specs.Seed.{is_text}
+use Rattle.mesh_csv.specs.Cells.{is_utf8}
 
 pub tested_text : {E : Type 0} (end : E → ℕ) (r : Result (Bor (List ℕ)) E) (bytes : List ℕ)
-    → MatchResult r (λ s. (s.now ≡ bytes) × IsUtf8 bytes) (λ e. ¬ (IsUtf8 bytes) × IsValidUpTo bytes (end e)) → is_ok r ≡ is_text bytes
+    → MatchResult r (λ s. (s.now ≡ bytes) × IsUtf8 bytes) (λ e. ¬ (IsUtf8 bytes) × IsValidUpTo bytes (end e)) → is_ok r ≡ is_utf8 bytes
 tested_text end (Ok s) bytes h = sym (eq-eqb (utf8_valid_len bytes) (length bytes) (utf8_valid_len-IsUtf8 bytes h.1))
 tested_text end (Err e) bytes h =
     let short = h.1.short in

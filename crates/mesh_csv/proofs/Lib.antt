@@ -1,0 +1,5 @@
+pub mod Places
+pub mod HeaderSteps
+pub mod RowSteps
+pub mod RecordSteps
+pub mod Utf8
