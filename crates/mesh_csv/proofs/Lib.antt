@@ -3,3 +3,4 @@ pub mod HeaderSteps
 pub mod RowSteps
 pub mod RecordSteps
 pub mod Utf8
+pub mod Fitting

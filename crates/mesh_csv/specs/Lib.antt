@@ -4,3 +4,5 @@ pub mod Cells
 pub mod Headers
 -- Seeds: what a seed's file says.
 pub mod Seeds
+-- Fits: when rows fit columns.
+pub mod Fits

@@ -5,6 +5,7 @@
 
 mod fields;
 mod header;
+mod laws;
 mod records;
 mod rows;
 mod seed;
@@ -12,4 +13,5 @@ mod seed;
 mod tests;
 mod types;
 
+pub use laws::{numbers_are_found, rows_fit_columns};
 pub use seed::{Seed, read_seed};
