@@ -7,6 +7,7 @@ ghost use Rattle.mesh_meaning.specs.Dates.{is_day_number};
 ghost use Rattle.mesh_meaning.specs.Cells.{compared, compared_by, is_null, is_true, number, day, plus, minus, product, quotient, remainder, joined, comparison, both, either, opposite, negative, op_value, between, starts_character, func_value, coalesce};
 
 use mesh_base::{Cell, Func, Op, Row, Str};
+use mesh_casts::{is_day_number, lower_case};
 use mesh_list::{Duplicate, Memory};
 use std::cmp::Ordering;
 
@@ -60,13 +61,6 @@ pub(crate) fn day_of(n: i64) -> Cell
     } else {
         Cell::Null
     }
-}
-
-pub(crate) fn is_day_number(n: i64) -> bool
-    ensures value { result ≡ is_day_number n }
-    ensures bounds { IsTrue result → IsDayNumber n }
-{
-    -719_162 <= n && n <= 2_932_896
 }
 
 fn quotient_of(a: i64, b: i64) -> Cell
@@ -342,7 +336,7 @@ pub(crate) fn call_one(func: Func, x: Cell) -> Result<Cell, Memory>
             _ => Ok(Cell::Null),
         },
         Func::Lower => match x {
-            Cell::Text(t) => Ok(Cell::Text(lower_case(&t)?)),
+            Cell::Text(t) => Ok(Cell::Text(lower_case(t.alloc(), t.as_slice())?)),
             _ => Ok(Cell::Null),
         },
         Func::Nullif => Ok(Cell::Null),
@@ -421,16 +415,6 @@ fn upper_case(text: &Str) -> Result<Str, Memory>
     let mut made = Str::new(text.alloc());
     for byte in text.as_slice() {
         made.push(byte.to_ascii_uppercase())?;
-    }
-    Ok(made)
-}
-
-pub(crate) fn lower_case(text: &Str) -> Result<Str, Memory>
-    ensures { IfOk result (λ t. t ≡ map to_ascii_lowercase text.now) }
-{
-    let mut made = Str::new(text.alloc());
-    for byte in text.as_slice() {
-        made.push(byte.to_ascii_lowercase())?;
     }
     Ok(made)
 }

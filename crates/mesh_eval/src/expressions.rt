@@ -7,11 +7,11 @@ ghost use Rattle.mesh_meaning.specs.Aggregates.{agg_value, count_of};
 ghost use Rattle.mesh_eval.specs.Frames.{scope_of};
 
 use crate::aggregates::aggregate;
-use crate::casts::cast;
 use crate::cells::{call, equal, is_null, is_true, lies_between, negate, not, operate, or};
 use crate::frames::{Frame, cell_at, column};
 use crate::macros::bound;
 use mesh_base::{AggKind, Bounds, Cell, Columns, Expr, Func, Row, When};
+use mesh_casts::cast;
 use mesh_list::{Duplicate, Memory};
 use mesh_meaning::Joined;
 use std::alloc::Global;

@@ -3,9 +3,9 @@ ghost use Rattle.std.specs.Prelude.{◌≡◌, IfOk};
 ghost use Rattle.mesh_meaning.specs.Cells.{number};
 ghost use Rattle.mesh_meaning.specs.Macros.{macro_value, day_of_second, last_second};
 
-use crate::casts::cast;
 use crate::cells::day_of;
 use mesh_base::{Bounds, Cell, ColType, Var};
+use mesh_casts::cast;
 use mesh_list::Memory;
 use std::alloc::Global;
 

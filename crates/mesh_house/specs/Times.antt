@@ -1,36 +1,13 @@
 -- The second that a cell stands for, and the rows of a table that lie in a range of seconds.
-use Rattle.std.specs.Prelude.{ℕ, ◌+◌, ◌-◌, ◌*◌, ◌/◌, ◌%◌, Bool, false, ◌&&◌, not, nat_lt, List, ◌∷◌, ◌++◌, filter, slice_index, Some, None, ℤ, pos, ◌*ℤ◌, if◌then◌else◌}
+use Rattle.std.specs.Prelude.{ℕ, Bool, false, ◌&&◌, not, List, ◌++◌, filter, Some, None, ℤ, pos, ◌*ℤ◌}
 use Rattle.std.specs.declared.option.Option.{Option}
 use Rattle.std.specs.Option.{option_map}
 use Rattle.std.specs.Int.Signed.{lt_z, le_z}
-use Rattle.jiff_core.specs.Calendar.{days_in_month, days_from_civil}
 use Rattle.mesh_base.specs.declared.values.Cell.{Cell}
 use Rattle.mesh_base.specs.declared.values.Cell.TheVariants.{Null, Int, Text, Date, Bool as Truth}
 use Rattle.mesh_base.specs.declared.values.Column.{Column}
-use Rattle.mesh_base.specs.Picked.{same_text, cell_of}
-use Rattle.mesh_time.specs.Moments.{two_digits}
-
--- the number that the two digits at a place of a text spell
-abbrev pub number_at : List ℕ → ℕ → ℕ
-number_at text i = (slice_index text i - 48) * 10 + (slice_index text (i + 1) - 48)
-
--- whether the calendar has this day, in a year from 1 to 9999
-abbrev pub is_day : ℕ → ℕ → ℕ → Bool
-is_day y m d =
-    (nat_lt 0 y && nat_lt y 10_000)
-    && ((nat_lt 0 m && nat_lt m 13) && (nat_lt 0 d && nat_lt d (days_in_month (pos y) m + 1)))
-
--- YYYY-MM-DD
-abbrev pub day_form : ℕ → ℕ → ℕ → List ℕ
-day_form y m d = two_digits (y / 100) ++ (two_digits (y % 100) ++ (45 ∷ two_digits m ++ (45 ∷ two_digits d)))
-
--- the number of a day, counted from 1970-01-01, where the text is its
-abbrev pub day_if : List ℕ → ℕ → ℕ → ℕ → Option ℤ
-day_if text y m d = if is_day y m d && same_text text (day_form y m d) then Some (days_from_civil (pos y) m d) else None
-
--- the number of the day that a text is
-abbrev pub day_named : List ℕ → Option ℤ
-day_named text = day_if text (number_at text 0 * 100 + number_at text 2) (number_at text 5) (number_at text 8)
+use Rattle.mesh_base.specs.Picked.{cell_of}
+use Rattle.mesh_meaning.specs.Dates.{day_named}
 
 -- the second that a cell stands for: a number itself, and of a day its first
 abbrev pub time_of : Cell → Option ℤ

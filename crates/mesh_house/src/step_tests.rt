@@ -230,14 +230,33 @@ fn put_book(alloc: Global, line: &mut Vec<u8>, world: &World) -> Result<(), Test
     Ok(())
 }
 
-// Whether a change makes this of the world.
-fn makes(
+// The world that a change makes of one, which is written like this.
+fn after(
     alloc: Global,
-    world: &mut World,
-    change: Change,
+    world: World,
+    change: Result<Change, TestFail>,
     expected: &str,
-) -> Result<bool, TestFail> {
-    world.step(alloc, &change)?;
+) -> Result<World, TestFail> {
+    let changed = stepped(alloc, world, change)?;
+    if is_written(alloc, &changed, expected)? {
+        Ok(changed)
+    } else {
+        Err("another world")?
+    }
+}
+
+fn stepped(
+    alloc: Global,
+    world: World,
+    change: Result<Change, TestFail>,
+) -> Result<World, TestFail> {
+    let change = change?;
+    let mut changed = world;
+    changed.step(alloc, &change)?;
+    Ok(changed)
+}
+
+fn is_written(alloc: Global, world: &World, expected: &str) -> Result<bool, TestFail> {
     let mut line = Vec::new(alloc);
     put_number(alloc, &mut line, world.book.moment)?;
     put_tables(alloc, &mut line, world)?;
@@ -245,9 +264,16 @@ fn makes(
     Ok(line.as_slice() == expected.as_bytes())
 }
 
-fn make_table(alloc: Global, table: &[u8]) -> Result<Change, Memory> {
+fn make_table(alloc: Global, table: &[u8]) -> Result<Change, TestFail> {
     Ok(Change::MakeTable {
         object: object(alloc, table)?,
+        columns: columns(alloc)?,
+    })
+}
+
+fn make_plain_table(alloc: Global) -> Result<Change, TestFail> {
+    Ok(Change::MakeTable {
+        object: name(alloc, b"s_x", b"t")?,
         columns: columns(alloc)?,
     })
 }
@@ -261,7 +287,16 @@ fn make_view(alloc: Global, table: &[u8]) -> Result<Change, TestFail> {
     })
 }
 
-fn load(alloc: Global, schema: &[u8], numbers: &[i32], keep: bool) -> Result<Change, Memory> {
+fn make_plain_view(alloc: Global) -> Result<Change, TestFail> {
+    Ok(Change::MakeView {
+        object: name(alloc, b"s", b"q")?,
+        columns: columns(alloc)?,
+        own: own(alloc, b"m")?,
+        targets: targets(alloc)?,
+    })
+}
+
+fn load(alloc: Global, schema: &[u8], numbers: &[i32], keep: bool) -> Result<Change, TestFail> {
     Ok(Change::Load {
         name: name(alloc, schema, b"r")?,
         columns: columns(alloc)?,
@@ -270,7 +305,7 @@ fn load(alloc: Global, schema: &[u8], numbers: &[i32], keep: bool) -> Result<Cha
     })
 }
 
-fn replace_rows(alloc: Global, table: &[u8], numbers: &[i32]) -> Result<Change, Memory> {
+fn replace_rows(alloc: Global, table: &[u8], numbers: &[i32]) -> Result<Change, TestFail> {
     Ok(Change::ReplaceRows {
         object: object(alloc, table)?,
         rows: rows(alloc, numbers)?,
@@ -284,7 +319,7 @@ fn write_range(
     first: i64,
     last: i64,
     numbers: &[i32],
-) -> Result<Change, Memory> {
+) -> Result<Change, TestFail> {
     Ok(Change::WriteRange {
         object: object(alloc, table)?,
         time: text(alloc, time)?,
@@ -294,7 +329,60 @@ fn write_range(
     })
 }
 
-fn set_pending(alloc: Global, models: &[u8], expires: Option<i64>) -> Result<Change, Memory> {
+fn drop_object(alloc: Global, table: &[u8]) -> Result<Change, TestFail> {
+    Ok(Change::DropObject {
+        object: object(alloc, table)?,
+    })
+}
+
+fn point_view(alloc: Global) -> Result<Change, TestFail> {
+    Ok(Change::PointView {
+        view: name(alloc, b"a", b"m")?,
+        target: object(alloc, b"t")?,
+    })
+}
+
+fn drop_view(alloc: Global, model: &[u8]) -> Result<Change, TestFail> {
+    Ok(Change::DropView {
+        view: name(alloc, b"a", model)?,
+    })
+}
+
+fn record_range(alloc: Global, first: i64, last: i64) -> Result<Change, TestFail> {
+    Ok(Change::RecordRange {
+        object: object(alloc, b"t")?,
+        start: first,
+        end: last,
+    })
+}
+
+fn record_marks(alloc: Global) -> Result<Change, TestFail> {
+    Ok(Change::RecordMarks {
+        object: object(alloc, b"t")?,
+        marks: marks(alloc, 8)?,
+    })
+}
+
+fn put_snapshot(alloc: Global, rank: u32) -> Result<Change, TestFail> {
+    Ok(Change::PutSnapshot {
+        snapshot: snapshot(alloc, b"m", b"t", rank)?,
+    })
+}
+
+fn delete_snapshot(alloc: Global) -> Result<Change, TestFail> {
+    Ok(Change::DeleteSnapshot {
+        name: name(alloc, b"a", b"m")?,
+        fingerprint: [7; 32],
+    })
+}
+
+fn forget_version(alloc: Global) -> Result<Change, TestFail> {
+    Ok(Change::ForgetVersion {
+        object: object(alloc, b"t")?,
+    })
+}
+
+fn set_pending(alloc: Global, models: &[u8], expires: Option<i64>) -> Result<Change, TestFail> {
     Ok(Change::SetPending {
         env: text(alloc, b"dev")?,
         list: refs(alloc, models)?,
@@ -302,329 +390,228 @@ fn set_pending(alloc: Global, models: &[u8], expires: Option<i64>) -> Result<Cha
     })
 }
 
+fn finalize(alloc: Global) -> Result<Change, TestFail> {
+    Ok(Change::Finalize {
+        env: text(alloc, b"dev")?,
+    })
+}
+
+fn expire(alloc: Global) -> Result<Change, TestFail> {
+    Ok(Change::Expire {
+        env: text(alloc, b"dev")?,
+    })
+}
+
+fn delete_env(alloc: Global) -> Result<Change, TestFail> {
+    Ok(Change::DeleteEnv {
+        env: text(alloc, b"dev")?,
+    })
+}
+
 const DAY: i64 = 86_400;
 
 #[test]
-fn moments_and_sources(rt: HostRuntime) -> Result<(), TestFail> {
+fn moments(rt: HostRuntime) -> Result<(), TestFail> {
     let alloc = rt.alloc();
-    let mut w = World::new(alloc);
-    assert!(rt; makes(alloc, &mut w, Change::Moment { t: 5 }, "5 ")?);
-    assert!(rt; makes(alloc, &mut w, Change::Moment { t: 3 }, "5 ")?);
-    assert!(rt;
-        makes(
-            alloc,
-            &mut w,
-            load(alloc, b"a", &[1], true)?,
-            "5 source a.r day n 1 ;"
-        )?
-    );
-    assert!(rt;
-        makes(
-            alloc,
-            &mut w,
-            load(alloc, b"a", &[2, 3], true)?,
-            "5 source a.r day n 1 2 3 ;"
-        )?
-    );
-    assert!(rt;
-        makes(
-            alloc,
-            &mut w,
-            load(alloc, b"a", &[4], false)?,
-            "5 source a.r day n 4 ;"
-        )?
-    );
-    assert!(rt;
-        makes(
-            alloc,
-            &mut w,
-            load(alloc, b"a__x", &[5], true)?,
-            "5 source a.r day n 4 ;"
-        )?
-    );
+    let w = after(alloc, World::new(alloc), Ok(Change::Moment { t: 5 }), "5 ")?;
+    let w = after(alloc, w, Ok(Change::Moment { t: 3 }), "5 ")?;
+    assert_eq!(rt; w.book.moment, 5);
     Ok(())
 }
 
 #[test]
-fn tables(rt: HostRuntime) -> Result<(), TestFail> {
-    let alloc = rt.alloc();
-    let mut w = World::new(alloc);
-    assert!(rt; makes(alloc, &mut w, replace_rows(alloc, b"t", &[1])?, "0 ")?);
-    assert!(rt;
-        makes(
-            alloc,
-            &mut w,
-            write_range(alloc, b"t", b"day", 0, DAY, &[1])?,
-            "0 "
-        )?
-    );
-    assert!(rt;
-        makes(
-            alloc,
-            &mut w,
-            make_table(alloc, b"t")?,
-            "0 object s__x.t day n ;"
-        )?
-    );
-    assert!(rt;
-        makes(
-            alloc,
-            &mut w,
-            replace_rows(alloc, b"t", &[3, 1, 2])?,
-            "0 object s__x.t day n 3 1 2 ;"
-        )?
-    );
-    assert!(rt;
-        makes(
-            alloc,
-            &mut w,
-            write_range(alloc, b"t", b"day", DAY, 2 * DAY, &[5])?,
-            "0 object s__x.t day n 3 2 5 ;"
-        )?
-    );
-    assert!(rt;
-        makes(
-            alloc,
-            &mut w,
-            write_range(alloc, b"t", b"no", 0, 9 * DAY, &[2])?,
-            "0 object s__x.t day n 3 2 5 2 ;"
-        )?
-    );
-    assert!(rt;
-        makes(
-            alloc,
-            &mut w,
-            write_range(alloc, b"t", b"n", 2, 3, &[])?,
-            "0 object s__x.t day n 3 5 ;"
-        )?
-    );
-    assert!(rt;
-        makes(
-            alloc,
-            &mut w,
-            Change::DropObject {
-                object: object(alloc, b"u")?
-            },
-            "0 object s__x.t day n 3 5 ;"
-        )?
-    );
-    assert!(rt;
-        makes(
-            alloc,
-            &mut w,
-            Change::DropObject {
-                object: object(alloc, b"t")?
-            },
-            "0 "
-        )?
-    );
-    let plain = Change::MakeTable {
-        object: name(alloc, b"s_x", b"t")?,
-        columns: columns(alloc)?,
-    };
-    assert!(rt; makes(alloc, &mut w, plain, "0 ")?);
+fn sources(rt: HostRuntime) -> Result<(), TestFail> {
+    let a = rt.alloc();
+    let w = after(
+        a,
+        World::new(a),
+        load(a, b"a", &[1], true),
+        "0 source a.r day n 1 ;",
+    )?;
+    let w = after(
+        a,
+        w,
+        load(a, b"a", &[2, 3], true),
+        "0 source a.r day n 1 2 3 ;",
+    )?;
+    let w = after(a, w, load(a, b"a", &[4], false), "0 source a.r day n 4 ;")?;
+    let w = after(a, w, load(a, b"a__x", &[5], true), "0 source a.r day n 4 ;")?;
+    assert!(rt; w.objects.as_slice().is_empty());
     Ok(())
 }
 
 #[test]
-fn stored_queries_and_views(rt: HostRuntime) -> Result<(), TestFail> {
-    let alloc = rt.alloc();
-    let mut w = World::new(alloc);
+fn no_table_to_change(rt: HostRuntime) -> Result<(), TestFail> {
+    let a = rt.alloc();
+    let w = after(a, World::new(a), replace_rows(a, b"t", &[1]), "0 ")?;
+    let w = after(a, w, write_range(a, b"t", b"day", 0, DAY, &[1]), "0 ")?;
+    let w = after(a, w, drop_object(a, b"t"), "0 ")?;
+    let w = after(a, w, make_plain_table(a), "0 ")?;
+    let w = after(a, w, make_plain_view(a), "0 ")?;
+    assert!(rt; w.objects.as_slice().is_empty());
+    Ok(())
+}
+
+// A table with the rows 3, 1 and 2.
+fn filled(a: Global) -> Result<World, TestFail> {
+    let w = after(
+        a,
+        World::new(a),
+        make_table(a, b"t"),
+        "0 object s__x.t day n ;",
+    )?;
+    after(
+        a,
+        w,
+        replace_rows(a, b"t", &[3, 1, 2]),
+        "0 object s__x.t day n 3 1 2 ;",
+    )
+}
+
+#[test]
+fn ranges_are_written(rt: HostRuntime) -> Result<(), TestFail> {
+    let a = rt.alloc();
+    let w = filled(a)?;
+    let range = write_range(a, b"t", b"day", DAY, 2 * DAY, &[5]);
+    let w = after(a, w, range, "0 object s__x.t day n 3 2 5 ;")?;
+    let range = write_range(a, b"t", b"no", 0, 9 * DAY, &[2]);
+    let w = after(a, w, range, "0 object s__x.t day n 3 2 5 2 ;")?;
+    let range = write_range(a, b"t", b"n", 2, 3, &[]);
+    let w = after(a, w, range, "0 object s__x.t day n 3 5 ;")?;
+    assert!(rt; w.views.as_slice().is_empty());
+    Ok(())
+}
+
+#[test]
+fn tables_are_dropped(rt: HostRuntime) -> Result<(), TestFail> {
+    let a = rt.alloc();
+    let w = filled(a)?;
+    let w = after(a, w, drop_object(a, b"u"), "0 object s__x.t day n 3 1 2 ;")?;
+    let w = after(a, w, drop_object(a, b"t"), "0 ")?;
+    assert!(rt; w.objects.as_slice().is_empty());
+    Ok(())
+}
+
+#[test]
+fn stored_queries_have_no_rows(rt: HostRuntime) -> Result<(), TestFail> {
+    let a = rt.alloc();
     let stored = "0 object s__x.q day n stores a.m a.m s__x.t ;";
-    assert!(rt; makes(alloc, &mut w, make_view(alloc, b"q")?, stored)?);
-    assert!(rt; makes(alloc, &mut w, replace_rows(alloc, b"q", &[1])?, stored)?);
-    assert!(rt;
-        makes(
-            alloc,
-            &mut w,
-            write_range(alloc, b"q", b"day", 0, DAY, &[1])?,
-            stored
-        )?
-    );
-    let plain = Change::MakeView {
-        object: name(alloc, b"s", b"q")?,
-        columns: columns(alloc)?,
-        own: own(alloc, b"m")?,
-        targets: targets(alloc)?,
-    };
-    assert!(rt; makes(alloc, &mut w, plain, stored)?);
-    let mut w = World::new(alloc);
-    let point = Change::PointView {
-        view: name(alloc, b"a", b"m")?,
-        target: object(alloc, b"t")?,
-    };
-    assert!(rt; makes(alloc, &mut w, point, "0 view a.m s__x.t ;")?);
-    assert!(rt;
-        makes(
-            alloc,
-            &mut w,
-            Change::DropView {
-                view: name(alloc, b"a", b"z")?
-            },
-            "0 view a.m s__x.t ;"
-        )?
-    );
-    assert!(rt;
-        makes(
-            alloc,
-            &mut w,
-            Change::DropView {
-                view: name(alloc, b"a", b"m")?
-            },
-            "0 "
-        )?
-    );
+    let w = after(a, World::new(a), make_view(a, b"q"), stored)?;
+    let w = after(a, w, replace_rows(a, b"q", &[1]), stored)?;
+    let w = after(a, w, write_range(a, b"q", b"day", 0, DAY, &[1]), stored)?;
+    let w = after(a, w, make_plain_view(a), stored)?;
+    assert!(rt; w.views.as_slice().is_empty());
     Ok(())
+}
+
+#[test]
+fn views(rt: HostRuntime) -> Result<(), TestFail> {
+    let a = rt.alloc();
+    let w = after(a, World::new(a), point_view(a), "0 view a.m s__x.t ;")?;
+    let w = after(a, w, drop_view(a, b"z"), "0 view a.m s__x.t ;")?;
+    let w = after(a, w, drop_view(a, b"m"), "0 ")?;
+    assert!(rt; w.views.as_slice().is_empty());
+    Ok(())
+}
+
+// A snapshot whose version has a range and marks, after the same without them.
+fn versioned(a: Global) -> Result<World, TestFail> {
+    let w = after(a, World::new(a), record_range(a, 0, 5), "0 ")?;
+    let w = after(a, w, record_marks(a), "0 ")?;
+    let w = after(
+        a,
+        w,
+        put_snapshot(a, 1),
+        "0 snapshot a.m 1 ;version s__x.t new ;",
+    )?;
+    let w = after(
+        a,
+        w,
+        record_range(a, 0, 5),
+        "0 snapshot a.m 1 ;version s__x.t new 0 5 ;",
+    )?;
+    let w = after(
+        a,
+        w,
+        put_snapshot(a, 2),
+        "0 snapshot a.m 2 ;version s__x.t new 0 5 ;",
+    )?;
+    after(
+        a,
+        w,
+        record_marks(a),
+        "0 snapshot a.m 2 ;version s__x.t new 0 5 marks 8 ;",
+    )
 }
 
 #[test]
 fn snapshots_and_versions(rt: HostRuntime) -> Result<(), TestFail> {
-    let alloc = rt.alloc();
-    let mut w = World::new(alloc);
-    let range = Change::RecordRange {
-        object: object(alloc, b"t")?,
-        start: 0,
-        end: 5,
-    };
-    assert!(rt; makes(alloc, &mut w, range.copy()?, "0 ")?);
-    let mark = Change::RecordMarks {
-        object: object(alloc, b"t")?,
-        marks: marks(alloc, 8)?,
-    };
-    assert!(rt; makes(alloc, &mut w, mark.copy()?, "0 ")?);
-    let put = Change::PutSnapshot {
-        snapshot: snapshot(alloc, b"m", b"t", 1)?,
-    };
-    assert!(rt; makes(alloc, &mut w, put, "0 snapshot a.m 1 ;version s__x.t new ;")?);
-    assert!(rt;
-        makes(
-            alloc,
-            &mut w,
-            range.copy()?,
-            "0 snapshot a.m 1 ;version s__x.t new 0 5 ;"
-        )?
-    );
-    let again = Change::PutSnapshot {
-        snapshot: snapshot(alloc, b"m", b"t", 2)?,
-    };
-    assert!(rt;
-        makes(
-            alloc,
-            &mut w,
-            again,
-            "0 snapshot a.m 2 ;version s__x.t new 0 5 ;"
-        )?
-    );
-    assert!(rt;
-        makes(
-            alloc,
-            &mut w,
-            mark,
-            "0 snapshot a.m 2 ;version s__x.t new 0 5 marks 8 ;"
-        )?
-    );
-    let gone = Change::DeleteSnapshot {
-        name: name(alloc, b"a", b"m")?,
-        fingerprint: [7; 32],
-    };
-    assert!(rt; makes(alloc, &mut w, gone, "0 version s__x.t new 0 5 marks 8 ;")?);
-    assert!(rt;
-        makes(
-            alloc,
-            &mut w,
-            make_view(alloc, b"t")?,
-            "0 object s__x.t day n stores a.m a.m s__x.t ;version s__x.t made 0 5 ;"
-        )?
-    );
-    assert!(rt;
-        makes(
-            alloc,
-            &mut w,
-            make_table(alloc, b"t")?,
-            "0 object s__x.t day n ;version s__x.t made ;"
-        )?
-    );
-    let empty = Change::RecordRange {
-        object: object(alloc, b"t")?,
-        start: 5,
-        end: 5,
-    };
-    assert!(rt;
-        makes(
-            alloc,
-            &mut w,
-            empty,
-            "0 object s__x.t day n ;version s__x.t made ;"
-        )?
-    );
-    assert!(rt;
-        makes(
-            alloc,
-            &mut w,
-            Change::ForgetVersion {
-                object: object(alloc, b"t")?
-            },
-            "0 object s__x.t day n ;"
-        )?
-    );
+    let a = rt.alloc();
+    let w = versioned(a)?;
+    let w = after(
+        a,
+        w,
+        delete_snapshot(a),
+        "0 version s__x.t new 0 5 marks 8 ;",
+    )?;
+    let stored = "0 object s__x.t day n stores a.m a.m s__x.t ;version s__x.t made 0 5 ;";
+    let w = after(a, w, make_view(a, b"t"), stored)?;
+    let w = after(
+        a,
+        w,
+        make_table(a, b"t"),
+        "0 object s__x.t day n ;version s__x.t made ;",
+    )?;
+    let w = after(
+        a,
+        w,
+        record_range(a, 5, 5),
+        "0 object s__x.t day n ;version s__x.t made ;",
+    )?;
+    let w = after(a, w, forget_version(a), "0 object s__x.t day n ;")?;
+    assert!(rt; w.views.as_slice().is_empty());
     Ok(())
+}
+
+// An environment that has been at `m`, at `n`, and at `n` and `o`.
+fn pending(a: Global) -> Result<World, TestFail> {
+    let w = after(a, World::new(a), finalize(a), "0 ")?;
+    let w = after(a, w, expire(a), "0 ")?;
+    let w = after(
+        a,
+        w,
+        set_pending(a, b"m", None),
+        "0 environment dev pending list a.m previous ;",
+    )?;
+    let w = after(
+        a,
+        w,
+        set_pending(a, b"n", Some(4)),
+        "0 environment dev pending list a.n previous a.m 4 ;",
+    )?;
+    after(
+        a,
+        w,
+        set_pending(a, b"no", Some(6)),
+        "0 environment dev pending list a.n a.o previous a.m a.n 6 ;",
+    )
 }
 
 #[test]
 fn environments(rt: HostRuntime) -> Result<(), TestFail> {
-    let alloc = rt.alloc();
-    let mut w = World::new(alloc);
-    let env = text(alloc, b"dev")?;
-    assert!(rt; makes(alloc, &mut w, Change::Finalize { env: env.copy()? }, "0 ")?);
-    assert!(rt; makes(alloc, &mut w, Change::Expire { env: env.copy()? }, "0 ")?);
-    assert!(rt;
-        makes(
-            alloc,
-            &mut w,
-            set_pending(alloc, b"m", None)?,
-            "0 environment dev pending list a.m previous ;"
-        )?
-    );
-    assert!(rt;
-        makes(
-            alloc,
-            &mut w,
-            set_pending(alloc, b"n", Some(4))?,
-            "0 environment dev pending list a.n previous a.m 4 ;"
-        )?
-    );
-    assert!(rt;
-        makes(
-            alloc,
-            &mut w,
-            set_pending(alloc, b"no", Some(6))?,
-            "0 environment dev pending list a.n a.o previous a.m a.n 6 ;"
-        )?
-    );
-    assert!(rt;
-        makes(
-            alloc,
-            &mut w,
-            Change::Expire { env: env.copy()? },
-            "0 environment dev pending list a.n a.o previous a.m a.n 0 ;"
-        )?
-    );
-    assert!(rt;
-        makes(
-            alloc,
-            &mut w,
-            Change::Finalize { env: env.copy()? },
-            "0 environment dev final list a.n a.o previous 0 ;"
-        )?
-    );
-    assert!(rt;
-        makes(
-            alloc,
-            &mut w,
-            set_pending(alloc, b"m", None)?,
-            "0 environment dev pending list a.m previous a.n a.o ;"
-        )?
-    );
-    assert!(rt; makes(alloc, &mut w, Change::DeleteEnv { env }, "0 ")?);
+    let a = rt.alloc();
+    let w = pending(a)?;
+    let expired = "0 environment dev pending list a.n a.o previous a.m a.n 0 ;";
+    let w = after(a, w, expire(a), expired)?;
+    let w = after(
+        a,
+        w,
+        finalize(a),
+        "0 environment dev final list a.n a.o previous 0 ;",
+    )?;
+    let again = "0 environment dev pending list a.m previous a.n a.o ;";
+    let w = after(a, w, set_pending(a, b"m", None), again)?;
+    let w = after(a, w, delete_env(a), "0 ")?;
+    assert!(rt; w.views.as_slice().is_empty());
     Ok(())
 }

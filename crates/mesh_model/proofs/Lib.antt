@@ -3,8 +3,6 @@ pub mod Positions
 pub mod Folders
 pub mod Digits
 pub mod Fields
-pub mod Utf8
-pub mod Records
 pub mod SoFar
 pub mod Steps
 pub mod Spelled

@@ -1,6 +1,6 @@
 use Rattle.std.proofs.Common.{◌∙◌}
 use Rattle.std.specs.Str.{valid_up_to}
-use Rattle.mesh_model.proofs.Utf8.{tested_text}
+use Rattle.mesh_csv.proofs.Utf8.{tested_text}
 use Rattle.mesh_model.proofs.cell.is_text.Goals as goal
 
 pub returns : goal.returns

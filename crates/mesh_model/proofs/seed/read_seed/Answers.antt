@@ -6,7 +6,7 @@ use Rattle.csv.specs.declared.parser.State.TheVariants as st
 use Rattle.csv.specs.declared.reader.ReaderBuilder.{ReaderBuilder}
 use Rattle.csv.proofs.ReadFacts.{rows-end, rows-more}
 use Rattle.mesh_model.specs.Seed.{seed_rows}
-use Rattle.mesh_model.proofs.Records.{records_begin, records_end}
+use Rattle.mesh_csv.proofs.RecordSteps.{records_begin, records_end}
 use Rattle.mesh_model.proofs.SoFar.{so_far_more, so_far_refused, so_far_rows, so_far_none}
 use Rattle.mesh_model.proofs.seed.read_seed.Goals as goal
 

@@ -1,0 +1,11 @@
+//! Cells as another type, and the numbers, truths and days that texts are. Its contract: each call is its definition in
+//! `mesh_meaning`. It stands on `mesh_list`, `mesh_base`, `mesh_time`, `mesh_meaning` and `itoa`.
+#![tactic(auto)]
+
+mod casts;
+mod days;
+#[cfg(test)]
+mod tests;
+
+pub use casts::{cast, lower_case, number_named, truth_named};
+pub use days::{day_named, is_day_number};

@@ -1,0 +1,6 @@
+pub mod Places
+pub mod HeaderSteps
+pub mod RowSteps
+pub mod RecordSteps
+pub mod Utf8
+pub mod Fitting

@@ -1,0 +1,79 @@
+// The records of a text.
+ghost use Rattle.std.specs.Prelude.{◌≡◌, IfOk, length, slice_get, slice_index_or, option_map};
+ghost use Rattle.csv.specs.Reading.{default_config, records, strip_bom};
+ghost use Rattle.csv.specs.Records.{fields_of};
+ghost use Rattle.mesh_csv.specs.Cells.{field};
+
+use csv::{ByteRecord, ReaderBuilder};
+use mesh_list::{Memory, Seq};
+use std::alloc::Global;
+use std::marker::Model;
+
+/// A record, which contracts see as the list of its fields.
+#[derive(Debug, Drop)]
+pub(crate) struct Record {
+    fields: ByteRecord,
+}
+
+impl Model for Record {
+    ghost use Rattle.std.specs.Prelude.{List, ℕ};
+    ghost use Rattle.std.specs.Coded.{coded_list, coded_ℕ};
+    ghost use Rattle.csv.specs.Records.{fields_of};
+
+    ghost Value = { List (List ℕ) };
+
+    ghost coded = { coded_list (coded_list coded_ℕ) };
+
+    ghost view = { λ r. fields_of r.fields };
+}
+
+impl Record {
+    fn new(fields: ByteRecord) -> Record
+        ensures { result ≡ fields_of fields }
+    {
+        Record { fields }
+    }
+
+    pub(crate) fn len(&self) -> usize
+        ensures { result ≡ length self.now }
+    {
+        self.fields.len()
+    }
+
+    pub(crate) fn get(&self, at: usize) -> Option<&[u8]>
+        ensures { option_map (λ f. f.now) result ≡ slice_get self.now at }
+    {
+        self.fields.get(at)
+    }
+
+    /// The field at a place from 0, and an empty one where there is none.
+    pub(crate) fn field(&self, at: usize) -> &[u8]
+        ensures { result.now ≡ field at self.now }
+    {
+        match self.get(at) {
+            Some(found) => found,
+            None => &[],
+        }
+    }
+}
+
+pub(crate) type Records = Seq<Record>;
+
+/// Every record of a text, the header among them, without a byte order mark.
+pub(crate) fn records_of(alloc: Global, text: &[u8]) -> Result<Records, Memory>
+    ensures { IfOk result (λ found. found ≡ records default_config (strip_bom text.now)) }
+{
+    let reader = ReaderBuilder::new()
+        .has_headers(false)
+        .flexible(true)
+        .from_reader(alloc, text);
+    let mut list = Vec::new(alloc);
+    for found in reader.into_byte_records() {
+        // A slice gives no error of input, though no clause says so, and records of any length are read.
+        let Ok(fields) = found else {
+            return Err(Memory);
+        };
+        list.push(Record::new(fields))?;
+    }
+    Ok(Seq::from_vec(list))
+}

@@ -1,0 +1,88 @@
+// The rows of the records under a header.
+ghost use Rattle.std.specs.Prelude.{◌≡◌, IfOk, map};
+ghost use Rattle.mesh_csv.specs.Cells.{row_of};
+ghost use Rattle.mesh_csv.specs.Seeds.{unread_field, record_fault, records_fault};
+
+use crate::fields::{cell_of, is_read};
+use crate::header::bad_row;
+use crate::records::Record;
+use mesh_base::{ColType, Row, Rows};
+use mesh_list::{Memory, Seq};
+use mesh_tokens::ReadFault;
+use std::alloc::Global;
+
+// The first field, from 1, that isn't read as its column's type.
+fn unread_field(alloc: Global, kinds: &[ColType], record: &Record) -> Result<Option<u64>, Memory>
+    ensures { IfOk result (λ place. place ≡ unread_field 1 kinds.now record.now) }
+{
+    for i in 0..kinds.len() {
+        let kind = &kinds[i];
+        let Some(field) = record.get(i) else {
+            return Ok(None);
+        };
+        if !is_read(alloc, *kind, field)? {
+            return Ok(Some(i as u64 + 1));
+        }
+    }
+    Ok(None)
+}
+
+// What is wrong with a record, the header being record 1.
+fn record_fault(
+    alloc: Global,
+    row: u64,
+    kinds: &[ColType],
+    record: &Record,
+) -> Result<Option<ReadFault>, Memory>
+    ensures { IfOk result (λ fault. fault ≡ record_fault row kinds.now record.now) }
+{
+    if record.len() != kinds.len() {
+        return Ok(Some(bad_row(row, 0)));
+    }
+    match unread_field(alloc, kinds, record)? {
+        Some(field) => Ok(Some(bad_row(row, field))),
+        None => Ok(None),
+    }
+}
+
+/// The first fault of the records under the header.
+pub(crate) fn records_fault(
+    alloc: Global,
+    kinds: &[ColType],
+    records: &[Record],
+) -> Result<Option<ReadFault>, Memory>
+    ensures { IfOk result (λ fault. fault ≡ records_fault 2 kinds.now records.now) }
+{
+    for i in 0..records.len() {
+        let record = &records[i];
+        let fault = record_fault(alloc, i as u64 + 2, kinds, record)?;
+        if fault.is_some() {
+            return Ok(fault);
+        }
+    }
+    Ok(None)
+}
+
+fn row_of(alloc: Global, kinds: &[ColType], record: &Record) -> Result<Row, Memory>
+    ensures { IfOk result (λ row. row ≡ row_of kinds.now record.now) }
+{
+    let mut row: Row = Seq::new(alloc);
+    for i in 0..kinds.len() {
+        let kind = &kinds[i];
+        let Some(field) = record.get(i) else {
+            return Ok(row);
+        };
+        row.push(cell_of(alloc, *kind, field)?)?;
+    }
+    Ok(row)
+}
+
+pub(crate) fn rows_of(alloc: Global, kinds: &[ColType], records: &[Record]) -> Result<Rows, Memory>
+    ensures { IfOk result (λ rows. rows ≡ map (row_of kinds.now) records.now) }
+{
+    let mut rows: Rows = Seq::new(alloc);
+    for record in records {
+        rows.push(row_of(alloc, kinds, record)?)?;
+    }
+    Ok(rows)
+}
