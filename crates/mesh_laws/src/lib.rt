@@ -6,5 +6,5 @@ mod laws;
 
 pub use laws::{
     models_respect_bags, rows_hang_on_read_columns, rows_respect_bags,
-    rows_respect_bags_of_read_columns,
+    rows_respect_bags_of_read_columns, seconds_are_time_values,
 };

@@ -132,6 +132,9 @@ on_the_next_day = refl
 without_a_time : lies cell.Null ≡ false
 without_a_time = refl
 
+of_truth_value : lies (cell.Bool true) ≡ false
+of_truth_value = refl
+
 -- a seed, and a FULL model that joins it to itself on a column with NULLs
 abbrev k : List ℕ
 k = codes "k"
