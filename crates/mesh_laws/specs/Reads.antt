@@ -22,10 +22,11 @@ use Rattle.mesh_meaning.specs.Named.{Place, columns}
 use Rattle.mesh_meaning.specs.Tables.{columns_in, rows_in}
 use Rattle.mesh_laws.specs.Alike.{names, named}
 
--- the expressions of a SELECT: its items, ON, WHERE, keys and HAVING
+-- the ON conditions of a FROM
 abbrev pub on_of : List FromItem → List Expr
 on_of from = flat_map (λ (f : FromItem). option_to_list f.on) from
 
+-- the expressions of a SELECT: its items, ON, WHERE, keys and HAVING
 abbrev pub expressions : Select → List Expr
 expressions s = map (λ (i : Item). i.expr) s.items ++ (on_of s.from ++ (option_to_list s.filter ++ (s.keys ++ option_to_list s.having)))
 

@@ -1,5 +1,6 @@
-//! Laws of what a query and a model mean, each on a function with an empty body. It stands on `mesh_meaning`,
-//! `mesh_rules` and `mesh_scratch`.
+//! Laws of what a query and a model mean, each the contract of a function with an empty body: what rows hang on, and what
+//! not. Its definitions are read in this order: `Alike`, `Reads` and `Loads`. It stands on `mesh_meaning`, `mesh_rules`,
+//! `mesh_casts` and `mesh_scratch`.
 #![tactic(auto)]
 
 mod laws;
