@@ -2,7 +2,8 @@
 ghost use Rattle.std.specs.Prelude.{◌≡◌, OnOk, OnErr};
 ghost use Rattle.std.specs.Option.{option_copied};
 ghost use Rattle.mesh_base.specs.Picked.{same_text, cell_of};
-ghost use Rattle.mesh_house.specs.Times.{or_null, time_of, is_within, lies_within, rewritten};
+ghost use Rattle.mesh_scratch.specs.Times.{time_of, is_within};
+ghost use Rattle.mesh_house.specs.Times.{or_null, lies_within, rewritten};
 
 use mesh_base::{Cell, Column, Row, Rows, Str};
 use mesh_list::{Memory, Seq};
@@ -11,7 +12,7 @@ use std::mem;
 
 // Whether a cell stands for one of the seconds.
 fn is_within(start: i64, end: i64, cell: &Cell) -> bool
-    ensures { result ≡ is_within start end (time_of cell.now) }
+    ensures { result ≡ is_within (record { start = start; end = end }) (time_of cell.now) }
 {
     match time_value(cell) {
         None => false,
