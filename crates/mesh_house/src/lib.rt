@@ -16,10 +16,6 @@ mod same;
 mod same_changes;
 mod sources;
 mod step;
-#[cfg(test)]
-mod step_tests;
-#[cfg(test)]
-mod tests;
 mod times;
 mod world;
 
