@@ -3,7 +3,7 @@ use Rattle.std.proofs.Common.{◌≡◌, ℕ, ◌+◌, ◌<◌, List, length, ge
 use Rattle.std.proofs.lemmas.List.{drop_more}
 use Rattle.mesh_tokens.specs.declared.tokens.Token.{Token}
 use Rattle.mesh_tokens.specs.declared.tokens.TokenKind.{TokenKind}
-use Rattle.mesh_query.specs.Signs.{place, Next}
+use Rattle.mesh_grammar.specs.Signs.{place, Next}
 
 pub place_at : (ts : List Token) (at : ℕ) (d : Token) → at < length ts → place (drop at ts) ≡ (get_or ts at d).start
 place_at ts at d h = ap place (drop_more ts at d h)

@@ -1,6 +1,6 @@
 // Looking at the next token, and taking it.
 ghost use Rattle.std.specs.Prelude.{◌≡◌, ◌<◌, ◌+◌, drop, length, IsTrue, IfOk};
-ghost use Rattle.mesh_query.specs.Signs.{place as place_of, IsWord, IsSign, IsName, IsType, IsFunction, IsQualified, IsOptional};
+ghost use Rattle.mesh_grammar.specs.Signs.{place as place_of, IsWord, IsSign, IsName, IsType, IsFunction, IsQualified, IsOptional};
 ghost use Rattle.mesh_query.specs.Places.{Takes, Reaches};
 
 use crate::fault::Fault;

@@ -3,8 +3,8 @@
 ghost use Rattle.std.specs.Prelude.{◌≡◌, ℕ, codes, true, IfOk};
 ghost use Rattle.mesh_surface.specs.declared.signs.Function.{Function as Functions};
 ghost use Rattle.mesh_surface.specs.declared.signs.Function.TheVariants.{Count};
-ghost use Rattle.mesh_query.specs.Signs.{IsWord};
-ghost use Rattle.mesh_query.specs.Grammar.{expr as an_expr, conjunction as a_conjunction, negation as a_negation, pred as a_pred, tested, ranged, cat as a_cat, sum as a_sum, product as a_product, signed, post as a_post, value, operand, arms as some_arms, arm as an_arm, otherwise, arguments, exprs as some_exprs, takes_one};
+ghost use Rattle.mesh_grammar.specs.Signs.{IsWord};
+ghost use Rattle.mesh_grammar.specs.Grammar.{expr as an_expr, conjunction as a_conjunction, negation as a_negation, pred as a_pred, tested, ranged, cat as a_cat, sum as a_sum, product as a_product, signed, post as a_post, value, operand, arms as some_arms, arm as an_arm, otherwise, arguments, exprs as some_exprs, takes_one};
 ghost use Rattle.mesh_query.specs.Places.{Reads, ReadsBehind, ReadsOn};
 
 use crate::cursor::{

@@ -1,7 +1,7 @@
 // Values that one token or two spell.
 ghost use Rattle.std.specs.Prelude.{ℕ, IfOk};
-ghost use Rattle.mesh_query.specs.Signs.{IsDay};
-ghost use Rattle.mesh_query.specs.Grammar.{value};
+ghost use Rattle.mesh_grammar.specs.Signs.{IsDay};
+ghost use Rattle.mesh_grammar.specs.Grammar.{value};
 ghost use Rattle.mesh_query.specs.Places.{Takes, Reads};
 
 use crate::cursor::{is_word, place, qualified};

@@ -1,7 +1,7 @@
 // Whole queries. Each function reads its form from a token on, and answers it with the place behind it.
 ghost use Rattle.std.specs.Prelude.{codes, IfOk};
-ghost use Rattle.mesh_query.specs.Signs.{IsAlias, IsFlag, IsOptionalSign};
-ghost use Rattle.mesh_query.specs.Grammar.{Spells, query as a_query, ctes as some_ctes, cte_list as a_cte_list, exprs as some_exprs, cte as a_cte, union as a_union, select as a_select, items as some_items, item as an_item, condition, keys as some_keys};
+ghost use Rattle.mesh_grammar.specs.Signs.{IsAlias, IsFlag, IsOptionalSign};
+ghost use Rattle.mesh_grammar.specs.Grammar.{Spells, query as a_query, ctes as some_ctes, cte_list as a_cte_list, exprs as some_exprs, cte as a_cte, union as a_union, select as a_select, items as some_items, item as an_item, condition, keys as some_keys};
 ghost use Rattle.mesh_query.specs.Places.{Reads, Reaches, ReachesBy};
 
 use crate::cursor::{is_name, is_sign, is_word, name, nested, place, sign, word};

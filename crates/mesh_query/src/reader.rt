@@ -1,7 +1,7 @@
 // From the tokens to the tree, or to the fault that is printed.
 ghost use Rattle.std.specs.Prelude.{drop, [], IfOk, IfErr};
 ghost use Rattle.mesh_query.specs.Refusals.{IsEnd, IsLimit, IsRefusal};
-ghost use Rattle.mesh_query.specs.Grammar.{Spells, query as a_query};
+ghost use Rattle.mesh_grammar.specs.Grammar.{Spells, query as a_query};
 ghost use Rattle.mesh_query.specs.Places.{deepest};
 
 use crate::fault::Fault;

@@ -1,7 +1,7 @@
 // What a SELECT reads from.
 ghost use Rattle.std.specs.Prelude.{◌<◌, ◌≤◌, drop, length, IsTrue, IfOk};
-ghost use Rattle.mesh_query.specs.Signs.{IsRelation};
-ghost use Rattle.mesh_query.specs.Grammar.{source as a_source, relations as some_relations, join as a_join, IsRelationOn};
+ghost use Rattle.mesh_grammar.specs.Signs.{IsRelation};
+ghost use Rattle.mesh_grammar.specs.Grammar.{source as a_source, relations as some_relations, join as a_join, IsRelationOn};
 ghost use Rattle.mesh_query.specs.Places.{Reads, ReadsOn, Reaches};
 
 use crate::cursor::{is_sign, is_word, optional, place, qualified, word};

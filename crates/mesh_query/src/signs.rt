@@ -1,6 +1,6 @@
 // The operators that a token can be.
 ghost use Rattle.std.specs.Prelude.{◌+◌, IfSome};
-ghost use Rattle.mesh_query.specs.Signs.{IsSign, cmp_text, add_text, mul_text};
+ghost use Rattle.mesh_grammar.specs.Signs.{IsSign, cmp_text, add_text, mul_text};
 ghost use Rattle.mesh_query.specs.Places.{Takes};
 
 use crate::cursor::is_sign;

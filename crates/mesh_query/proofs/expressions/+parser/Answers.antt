@@ -1,6 +1,6 @@
 use Rattle.std.proofs.Common.{arith}
 use Rattle.std.proofs.lemmas.Result.{IfOk-weaker}
-use Rattle.mesh_query.specs.Grammar as gram
+use Rattle.mesh_grammar.specs.Grammar as gram
 use Rattle.mesh_query.proofs.expressions.+parser.Goals as goal
 
 pub args-returns-in_ok-values-in-Coalesce : goal.args-returns-in_ok-values-in-Coalesce

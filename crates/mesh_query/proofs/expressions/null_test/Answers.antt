@@ -1,5 +1,5 @@
 use Rattle.std.proofs.Common.{arith}
-use Rattle.mesh_query.specs.Grammar.{is_null, is_not_null}
+use Rattle.mesh_grammar.specs.Grammar.{is_null, is_not_null}
 use Rattle.mesh_query.proofs.expressions.null_test.Goals as goal
 
 pub returns-then-is_word : goal.returns-then-is_word

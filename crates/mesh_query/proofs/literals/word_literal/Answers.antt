@@ -1,6 +1,6 @@
 use Rattle.std.proofs.Common.{rules, arith, FitsSigned, w32}
 use Rattle.std.proofs.lemmas.Int.{to_z-of_z}
-use Rattle.mesh_query.specs.Grammar.{truth, falsehood, null, date}
+use Rattle.mesh_grammar.specs.Grammar.{truth, falsehood, null, date}
 use Rattle.mesh_query.proofs.literals.word_literal.Goals as goal
 
 pub returns-then-is_word : goal.returns-then-is_word

@@ -1,5 +1,5 @@
 use Rattle.std.proofs.Common.{arith, refl, inl, inr}
-use Rattle.mesh_query.specs.Grammar as gram
+use Rattle.mesh_grammar.specs.Grammar as gram
 use Rattle.mesh_query.proofs.queries.items.Goals as goal
 
 pub commas-init : goal.commas-init

@@ -1,6 +1,6 @@
 use Rattle.std.proofs.Common.{arith}
 use Rattle.std.proofs.lemmas.Result.{IfOk-weaker}
-use Rattle.mesh_query.specs.Grammar as gram
+use Rattle.mesh_grammar.specs.Grammar as gram
 use Rattle.mesh_query.proofs.queries.keys.Goals as goal
 
 pub returns-then-is_word : goal.returns-then-is_word

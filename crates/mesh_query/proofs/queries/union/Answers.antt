@@ -1,5 +1,5 @@
 use Rattle.std.proofs.Common.{arith}
-use Rattle.mesh_query.specs.Grammar as gram
+use Rattle.mesh_grammar.specs.Grammar as gram
 use Rattle.mesh_query.proofs.queries.union.Goals as goal
 
 pub unions-init : goal.unions-init
