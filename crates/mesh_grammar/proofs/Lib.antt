@@ -5,3 +5,4 @@ pub mod Sound
 pub mod Scale
 pub mod Takes
 pub mod Complete
+pub mod Endings
