@@ -1,55 +1,39 @@
 -- What the grammar spells is read, before a token that does not go on with it.
-use Rattle.std.proofs.Common.{◌≡◌, ◌≢◌, ℕ, ℤ, ◌+◌, ◌<◌, ◌≤◌, List, [], ◌∷◌, ◌++◌, codes, Bool, true, false, ◌||◌, Option, Some, None, ◌⊎◌, inl, inr, refl, ap, sym, ◌∙◌, subst, arith}
+use Rattle.std.proofs.Common.{◌≡◌, ℕ, ◌+◌, ◌<◌, ◌≤◌, List, [], ◌∷◌, ◌++◌, codes, Bool, true, false, ◌||◌, Option, Some, None, ◌⊎◌, inl, inr, refl, ap, sym, ◌∙◌, subst, arith}
 use Rattle.std.specs.Str.{bytes_eq}
 use Rattle.mesh_tokens.specs.declared.tokens.Token.{Token}
 use Rattle.mesh_tokens.specs.declared.tokens.TokenKind.{TokenKind}
-use Rattle.mesh_tokens.specs.declared.tokens.TokenKind.TheVariants.{Ident, Number, Text, Macro, Sign}
-use Rattle.mesh_surface.specs.declared.signs.Cmp.{Cmp}
-use Rattle.mesh_surface.specs.declared.signs.AddSign.{AddSign}
-use Rattle.mesh_surface.specs.declared.signs.MulSign.{MulSign}
+use Rattle.mesh_tokens.specs.declared.tokens.TokenKind.TheVariants.{Ident, Sign}
 use Rattle.mesh_surface.specs.declared.expressions.AddStep.{roll-AddStep}
 use Rattle.mesh_surface.specs.declared.expressions.MulStep.{roll-MulStep}
-use Rattle.mesh_surface.specs.declared.expressions.CatExpr.{CatExpr}
-use Rattle.mesh_surface.specs.declared.expressions.AddExpr.{AddExpr}
-use Rattle.mesh_surface.specs.declared.expressions.Post.{Post}
 use Rattle.mesh_surface.specs.declared.expressions.Primary.{Primary}
-use Rattle.mesh_surface.specs.declared.expressions.Arm.{Arm}
 use Rattle.mesh_surface.specs.declared.queries.SurfaceItem.{SurfaceItem}
-use Rattle.mesh_surface.specs.declared.queries.SurfaceFrom.{SurfaceFrom}
-use Rattle.mesh_surface.specs.declared.queries.SurfaceUnion.{SurfaceUnion}
-use Rattle.mesh_surface.specs.declared.queries.SurfaceCte.{SurfaceCte}
 use Rattle.mesh_surface.specs.declared.queries.SurfaceSelect.{SurfaceSelect}
 use Rattle.mesh_surface.specs.declared.queries.Surface.{Surface}
 use Rattle.mesh_surface.specs.declared.signs.Function.{Function}
 use Rattle.mesh_surface.specs.declared.signs.Function.TheVariants as the_function
 use Rattle.mesh_surface.specs.declared.expressions.OrExpr.{OrExpr, roll-OrExpr}
-use Rattle.mesh_surface.specs.declared.expressions.AndExpr.{AndExpr, roll-AndExpr}
-use Rattle.mesh_surface.specs.declared.expressions.NotExpr.TheVariants as the_not
-use Rattle.mesh_surface.specs.declared.expressions.Pred.{roll-Pred}
+use Rattle.mesh_surface.specs.declared.expressions.AndExpr.{roll-AndExpr}
 use Rattle.mesh_surface.specs.declared.expressions.Test.TheVariants as the_test
 use Rattle.mesh_surface.specs.declared.expressions.CatExpr.{roll-CatExpr}
 use Rattle.mesh_surface.specs.declared.expressions.AddExpr.{roll-AddExpr}
 use Rattle.mesh_surface.specs.declared.expressions.AddStep.{roll-AddStep}
-use Rattle.mesh_surface.specs.declared.expressions.MulExpr.{MulExpr, roll-MulExpr}
+use Rattle.mesh_surface.specs.declared.expressions.MulExpr.{roll-MulExpr}
 use Rattle.mesh_surface.specs.declared.expressions.MulStep.{roll-MulStep}
-use Rattle.mesh_surface.specs.declared.expressions.Unary.TheVariants as the_unary
 use Rattle.mesh_surface.specs.declared.expressions.Post.{roll-Post}
 use Rattle.mesh_surface.specs.declared.expressions.Primary.TheVariants as the_primary
-use Rattle.mesh_surface.specs.declared.expressions.Arm.{roll-Arm}
 use Rattle.mesh_surface.specs.declared.expressions.Args.TheVariants as the_args
 use Rattle.mesh_surface.specs.declared.queries.SurfaceItem.TheVariants as the_item
-use Rattle.mesh_surface.specs.declared.queries.SurfaceJoin.{SurfaceJoin}
 use Rattle.mesh_surface.specs.declared.queries.SurfaceJoin.TheVariants as the_join
 use Rattle.mesh_surface.specs.declared.queries.SurfaceRel.{SurfaceRel}
 use Rattle.mesh_grammar.specs.Words.{is_reserved, function_of}
-use Rattle.mesh_grammar.specs.Signs.{place, Next, IsWord, IsSign, IsName, IsType, IsFunction, IsDay, cmp_text, add_text, mul_text, IsAlias, IsOptional, IsFlag, IsOptionalSign, IsQualified, IsRelation}
+use Rattle.mesh_grammar.specs.Signs.{place, Next, IsWord, IsSign, IsName, IsAlias, IsOptional, IsFlag, IsOptionalSign, IsQualified, IsRelation}
 use Rattle.mesh_grammar.specs.Grammar as gram
 use Rattle.mesh_grammar.specs.Grammar.{Phrase, Spells, takes_one}
-use Rattle.mesh_grammar.specs.Rules.{Rule, Tree, expr, more_ors, conjunction, more_ands, negation, pred, tested, ranged, cat, more_cats, sum, more_sums, product, more_products, signed, post, more_casts, value, named, group, case, cast, operand, arms, more_arms, arm, otherwise, arguments, exprs, more_exprs, item, items, more_items, alias, qualified, relation, relations, more_joins, join, joined, source, condition, keys, select, selected, union, more_selects, cte, cte_list, more_ctes, ctes, query}
-use Rattle.mesh_grammar.specs.Plans.{Plan, plan, done, read, day, accept, said, bytes_of, negated, kind_is_word, kind_is_sign, kind_is_name, kind_is_text, kind_is_number, kind_is_macro, is_word, is_sign, is_name, is_text, begins_join, column_plan, named_plan, call_plan, arguments_plan, literal_plan, on_plan, peek, nest, stuck, is_any, ends_items, star}
-use Rattle.mesh_grammar.specs.Machine.{next, begins, begins_star, Runs, Reads, ends, accepts, rejects, sees, misses, notes, reads, nests, days, stars, starless}
-use Rattle.mesh_grammar.proofs.Heads.{same_bytes}
-use Rattle.mesh_grammar.proofs.Scale.{kind_scale, scale, kind_opens, opens, scale_next, opens_next, seen, untrue, no_word, no_sign, unopened_word, unopened_sign, unlike, name_scale, name_opens, no_name, no_text, add_next, mul_next, cmp_next, no_add, no_mul, no_cmp, no_range, no_join, ends_or_over, unended, is_there}
+use Rattle.mesh_grammar.specs.Rules.{Rule, Tree, expr, more_ors, conjunction, more_ands, negation, pred, tested, ranged, cat, more_cats, sum, more_sums, product, more_products, signed, post, more_casts, value, named, operand, arms, more_arms, arm, otherwise, arguments, exprs, more_exprs, item, items, more_items, alias, qualified, relation, relations, more_joins, join, joined, source, condition, keys, select, selected, union, more_selects, cte, cte_list, more_ctes, ctes, query}
+use Rattle.mesh_grammar.specs.Plans.{Plan, done, read, accept, said, bytes_of, negated, kind_is_word, kind_is_sign, kind_is_name, kind_is_text, kind_is_number, kind_is_macro, is_word, is_sign, is_name, is_text, begins_join, column_plan, named_plan, call_plan, literal_plan, on_plan, peek, nest, stuck, is_any, ends_items, star}
+use Rattle.mesh_grammar.specs.Machine.{begins, begins_star, Runs, Reads, ends, rejects, sees, misses, notes, reads, nests, days, stars, starless}
+use Rattle.mesh_grammar.proofs.Scale.{kind_scale, scale, kind_opens, opens, scale_next, opens_next, seen, no_word, no_sign, unopened_word, unopened_sign, unlike, name_scale, name_opens, no_name, no_text, add_next, mul_next, cmp_next, no_add, no_mul, no_cmp, no_range, no_join, ends_or_over, unended, is_there}
 use Rattle.mesh_grammar.proofs.Takes.{takes_word, takes_sign, takes_name, takes_type, takes_number, takes_text, takes_macro, takes_cmp, takes_add, takes_mul, function_unreserved, starless_name, starless_dot, starless_times}
 
 -- it begins like an expression, and with no star of a name
@@ -299,13 +283,19 @@ inner_read : {n : ℕ} {r : SurfaceRel} {x : OrExpr} {s m i e : List Token} → 
 unfolding kind_scale is_reserved
 inner_read {i = i} (inl h) v d =
     let w : IsWord (codes "join") _ i = subst (λ (z : List Token). IsWord (codes "join") z i) (sym h) v in
-    let j = word_scale (codes "join") 9 refl w in
-    (seen kind_begins_join w, omega (arith, j), notes (rejects (seen (kind_is_sign (codes ",")) w) (rejects (seen (kind_is_word (codes "cross")) w) (rejects (seen (kind_is_word (codes "left")) w)
-    (rejects (seen (kind_is_word (codes "inner")) w) (takes_word (codes "join") w (reads d ends)))))))
+    let j = word_scale (codes "join") 9 refl w in (
+      seen kind_begins_join w,
+      omega (arith, j),
+      notes (rejects (seen (kind_is_sign (codes ",")) w) (rejects (seen (kind_is_word (codes "cross")) w) (rejects (seen (kind_is_word (codes "left")) w)
+          (rejects (seen (kind_is_word (codes "inner")) w) (takes_word (codes "join") w (reads d ends)))))),
+    )
 inner_read (inr w) v d =
-    let j = word_scale (codes "inner") 9 refl w in
-    (seen kind_begins_join w, omega (arith, j), notes (rejects (seen (kind_is_sign (codes ",")) w) (rejects (seen (kind_is_word (codes "cross")) w) (rejects (seen (kind_is_word (codes "left")) w)
-    (takes_word (codes "inner") w (takes_word (codes "join") v (reads d ends)))))))
+    let j = word_scale (codes "inner") 9 refl w in (
+      seen kind_begins_join w,
+      omega (arith, j),
+      notes (rejects (seen (kind_is_sign (codes ",")) w) (rejects (seen (kind_is_word (codes "cross")) w) (rejects (seen (kind_is_word (codes "left")) w)
+          (takes_word (codes "inner") w (takes_word (codes "join") v (reads d ends)))))),
+    )
 
 outer_read : {n : ℕ} (at : ℕ) {r : SurfaceRel} {x : OrExpr} {s m i e : List Token} → IsOptional (codes "outer") s m → IsWord (codes "join") m i → Reads n joined (r, x) i e →
     Runs n join (accept (is_word (codes "outer")) (λ j. on_plan (the_join.Left at)) (on_plan (the_join.Left at))) (the_join.Left at r x) s e
@@ -458,14 +448,18 @@ complete (gram.case {s = s} e w o d y u) h =
     let i = word_scale (codes "end") 11 refl u in
     let Y = complete y (omega (arith, i)) in
     let D = complete d (omega (arith, Y.0)) in
-    let O = complete o D.0 in
-    (led_by w refl (omega arith) (omega arith), notes (misses (seen (kind_is_sign (codes "(")) w) (sees (seen (kind_is_word (codes "case")) w)
-    (reads (notes (takes_word (codes "case") w (nests e O (nests e (D.1 _ _ (misses (no_word (codes "when") 13 _ refl Y.0) ends)) (nests e Y.1 (takes_word (codes "end") u ends)))))) ends))))
+    let O = complete o D.0 in (
+      led_by w refl (omega arith) (omega arith),
+      notes (misses (seen (kind_is_sign (codes "(")) w) (sees (seen (kind_is_word (codes "case")) w)
+          (reads (notes (takes_word (codes "case") w (nests e O (nests e (D.1 _ _ (misses (no_word (codes "when") 13 _ refl Y.0) ends)) (nests e Y.1 (takes_word (codes "end") u ends)))))) ends))),
+    )
 complete (gram.cast {x = x} {s = s} e w v d u k y) h =
     let i = word_scale (codes "as") 15 refl u in
-    let D = complete d (omega (arith, i)) in
-    (led_by w refl (omega arith) (omega arith), notes (misses (seen (kind_is_sign (codes "(")) w) (misses (seen (kind_is_word (codes "case")) w) (sees (seen (kind_is_word (codes "cast")) w)
-    (reads (notes (takes_word (codes "cast") w (takes_sign (codes "(") v (nests e D.1 (takes_word (codes "as") u (takes_type (λ z. accept (is_sign (codes ")")) (λ g. done (the_primary.Cast (place s) x z)) stuck) k (takes_sign (codes ")") y ends))))))) ends)))))
+    let D = complete d (omega (arith, i)) in (
+      led_by w refl (omega arith) (omega arith),
+      notes (misses (seen (kind_is_sign (codes "(")) w) (misses (seen (kind_is_word (codes "case")) w) (sees (seen (kind_is_word (codes "cast")) w)
+          (reads (notes (takes_word (codes "cast") w (takes_sign (codes "(") v (nests e D.1 (takes_word (codes "as") u (takes_type (λ z. accept (is_sign (codes ")")) (λ g. done (the_primary.Cast (place s) x z)) stuck) k (takes_sign (codes ")") y ends))))))) ends)))),
+    )
 complete gram.no_operand h = sees (seen (kind_is_word (codes "when")) h.1) ends
 complete (gram.an_operand {s = s} d) h =
     let i = word_scale (codes "when") 13 refl h.1 in
@@ -546,9 +540,12 @@ complete (gram.inner {s = s} {e = e} w v r u d) h =
 complete (gram.left {s = s} w o v r u d) h =
     let i = word_scale (codes "left") 9 refl w in
     let j = word_scale (codes "on") 8 refl u in
-    let D = complete d (omega (arith, h)) in
-    (seen kind_begins_join w, omega (arith, i), notes (rejects (seen (kind_is_sign (codes ",")) w) (rejects (seen (kind_is_word (codes "cross")) w) (takes_word (codes "left") w
-    (outer_read (place s) o v (reads (relation_read r (omega (arith, j))) (takes_word (codes "on") u (reads D.1 ends))))))))
+    let D = complete d (omega (arith, h)) in (
+      seen kind_begins_join w,
+      omega (arith, i),
+      notes (rejects (seen (kind_is_sign (codes ",")) w) (rejects (seen (kind_is_word (codes "cross")) w) (takes_word (codes "left") w
+          (outer_read (place s) o v (reads (relation_read r (omega (arith, j))) (takes_word (codes "on") u (reads D.1 ends))))))),
+    )
 complete (gram.no_condition {w = w} {s = s}) h = let i = h.0 in (omega (arith, i), rejects (no_word w (kind_scale (Ident w)) s refl h.0) ends)
 complete (gram.a_condition {w = w} v d) h =
     let i = scale_next v in

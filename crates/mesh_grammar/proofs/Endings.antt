@@ -1,29 +1,18 @@
 -- Each rule can be brought to an end, and so can what is left of it behind each of its steps.
-use Rattle.std.proofs.Common.{◌≡◌, ℕ, ℤ, ◌+◌, List, [], ◌∷◌, ◌++◌, codes, Bool, true, false, Option, Some, None, ◌⊎◌, inl, inr, refl, ap, sym, ◌∙◌, subst, arith}
+use Rattle.std.proofs.Common.{◌≡◌, ℕ, ◌+◌, List, [], ◌∷◌, codes, Bool, true, false, Option, Some, None, refl, ap, sym, ◌∙◌, arith}
 use Rattle.std.specs.Str.{bytes_eq}
 use Rattle.mesh_tokens.specs.declared.tokens.Token.{Token}
 use Rattle.mesh_tokens.specs.declared.tokens.TokenKind.{TokenKind}
-use Rattle.mesh_tokens.specs.declared.tokens.TokenKind.TheVariants.{Ident, Number, Text, Macro, Sign}
-use Rattle.mesh_surface.specs.declared.signs.Cmp.{Cmp}
-use Rattle.mesh_surface.specs.declared.signs.Cmp.TheVariants as cmp
-use Rattle.mesh_surface.specs.declared.signs.AddSign.{AddSign}
-use Rattle.mesh_surface.specs.declared.signs.AddSign.TheVariants as add
-use Rattle.mesh_surface.specs.declared.signs.MulSign.{MulSign}
-use Rattle.mesh_surface.specs.declared.signs.MulSign.TheVariants as mul
+use Rattle.mesh_tokens.specs.declared.tokens.TokenKind.TheVariants.{Ident, Number, Sign}
 use Rattle.mesh_surface.specs.declared.signs.Function.{Function}
 use Rattle.mesh_surface.specs.declared.signs.Function.TheVariants as the_function
-use Rattle.mesh_surface.specs.declared.expressions.OrExpr.{OrExpr, roll-OrExpr}
-use Rattle.mesh_surface.specs.declared.expressions.AndExpr.{AndExpr, roll-AndExpr}
+use Rattle.mesh_surface.specs.declared.expressions.OrExpr.{OrExpr}
+use Rattle.mesh_surface.specs.declared.expressions.AndExpr.{AndExpr}
 use Rattle.mesh_surface.specs.declared.expressions.NotExpr.TheVariants as the_not
 use Rattle.mesh_surface.specs.declared.expressions.Pred.{roll-Pred}
 use Rattle.mesh_surface.specs.declared.expressions.Test.TheVariants as the_test
-use Rattle.mesh_surface.specs.declared.expressions.CatExpr.{roll-CatExpr}
-use Rattle.mesh_surface.specs.declared.expressions.AddExpr.{roll-AddExpr}
-use Rattle.mesh_surface.specs.declared.expressions.AddStep.{roll-AddStep}
-use Rattle.mesh_surface.specs.declared.expressions.MulExpr.{MulExpr, roll-MulExpr}
-use Rattle.mesh_surface.specs.declared.expressions.MulStep.{roll-MulStep}
+use Rattle.mesh_surface.specs.declared.expressions.MulExpr.{MulExpr}
 use Rattle.mesh_surface.specs.declared.expressions.Unary.TheVariants as the_unary
-use Rattle.mesh_surface.specs.declared.expressions.Post.{roll-Post}
 use Rattle.mesh_surface.specs.declared.expressions.Primary.TheVariants as the_primary
 use Rattle.mesh_surface.specs.declared.expressions.Arm.{roll-Arm}
 use Rattle.mesh_surface.specs.declared.expressions.Args.TheVariants as the_args
@@ -43,16 +32,16 @@ use Rattle.mesh_surface.specs.declared.queries.SurfaceItem.{SurfaceItem}
 use Rattle.mesh_surface.specs.declared.queries.SurfaceSelect.{SurfaceSelect}
 use Rattle.mesh_surface.specs.declared.queries.SurfaceCte.{SurfaceCte}
 use Rattle.mesh_grammar.specs.Words.{is_reserved, function_of}
-use Rattle.mesh_grammar.specs.Signs.{place, IsName, IsSign, IsQualified}
+use Rattle.mesh_grammar.specs.Signs.{place, IsQualified}
 use Rattle.mesh_grammar.specs.Grammar as gram
 use Rattle.mesh_grammar.specs.Grammar.{Spells}
 use Rattle.mesh_grammar.specs.Rules.{Rule, Tree, expr, more_ors, conjunction, more_ands, negation, pred, tested, ranged, cat, more_cats, sum, more_sums, product, more_products, signed, post, more_casts, value, named, group, case, cast, operand, arms, more_arms, arm, otherwise, arguments, exprs, more_exprs, item, items, more_items, alias, qualified, relation, relations, more_joins, join, joined, source, condition, keys, select, selected, union, more_selects, cte, cte_list, more_ctes, ctes, query}
-use Rattle.mesh_grammar.specs.Plans.{Plan, plan, done, read, note, is_name, is_sign, said, amount, type_named, cmp_said, column_plan, named_plan, call_plan, arguments_plan, literal_plan, on_plan}
+use Rattle.mesh_grammar.specs.Plans.{plan, done, read, said, amount, type_named, cmp_said, column_plan, named_plan, call_plan, arguments_plan, on_plan}
 use Rattle.mesh_grammar.specs.Machine.{Runs, ends, rejects, reads, Reads}
-use Rattle.mesh_grammar.proofs.Heads.{name_kind, name_at, sign_at}
-use Rattle.mesh_grammar.proofs.Scale.{kind_scale, scale, scale_next}
+use Rattle.mesh_grammar.proofs.Heads.{name_at, sign_at}
+use Rattle.mesh_grammar.proofs.Scale.{kind_scale, scale}
 use Rattle.mesh_grammar.proofs.Complete.{complete}
-use Rattle.mesh_grammar.proofs.Runs.{Front, Notes, Says, says_done, says_accept, says_reject, says_see, says_miss, says_note, says_read, says_nest, says_day, says_star, says_starless, Ending, Goes, All, Named}
+use Rattle.mesh_grammar.proofs.Runs.{Front, Notes, Says, says_done, says_accept, says_reject, says_see, says_miss, says_note, says_read, says_nest, Ending, Goes, All}
 
 made : TokenKind → Token
 made k = record { start = 0; end = 0; kind = k }
@@ -219,11 +208,16 @@ g_pred = (λ n. (_, _, (s_pred (n + 1)).1), λ at l. (λ n. (_, _, says_read (s_
 
 g_tested : Lives tested
 g_tested = (
-  λ n. (_, _, (s_tested (n + 1)).1), (
-    λ k h. (λ n. (_, _, says_reject (says_accept (word (codes "null")) refl says_done)), (
-      λ j i. (λ n. (_, _, says_accept (word (codes "null")) refl says_done), (λ l m. last tested (the_test.IsNull true), tt)),
-      (λ j i. last tested (the_test.IsNull false), tt),
-    )), (
+  λ n. (_, _, (s_tested (n + 1)).1),
+  (
+    λ k h. (
+      λ n. (_, _, says_reject (says_accept (word (codes "null")) refl says_done)),
+      (
+        λ j i. (λ n. (_, _, says_accept (word (codes "null")) refl says_done), (λ l m. last tested (the_test.IsNull true), tt)),
+        (λ j i. last tested (the_test.IsNull false), tt),
+      ),
+    ),
+    (
       λ k h. (λ n. (_, _, says_read (s_ranged (n + 1) true).1 says_done), last tested),
       (last tested, (λ k h. (λ n. (_, _, says_read (s_cat (n + 1)).1 says_done), λ r. last tested (the_test.Compare (cmp_said (said k)) r)), tt)),
     ),
@@ -232,13 +226,26 @@ g_tested = (
 
 g_ranged : (g : Bool) → Lives (ranged g)
 g_ranged g = (
-  λ n. (_, _, (s_ranged (n + 1) g).1), (
-    λ k h. (λ n. (_, _, says_read (s_cat (n + 1)).1 (says_accept (word (codes "and")) refl (says_read (s_cat (n + 1)).1 says_done))),
-    λ a. (λ n. (_, _, says_accept (word (codes "and")) refl (says_read (s_cat (n + 1)).1 says_done)),
-    (λ j i. (λ n. (_, _, says_read (s_cat (n + 1)).1 says_done), λ b. last (ranged g) (the_test.Between g a b)), tt))), (
-      λ k h. (λ n. (_, _, says_accept (sign (codes "(")) refl (says_nest refl (s_exprs n).1 (says_accept (sign (codes ")")) refl says_done))),
-      (λ j i. (λ n. (_, _, says_nest refl (s_exprs n).1 (says_accept (sign (codes ")")) refl says_done)),
-      λ xs. (λ n. (_, _, says_accept (sign (codes ")")) refl says_done), (λ l m. last (ranged g) (the_test.OneOf g xs), tt))), tt)),
+  λ n. (_, _, (s_ranged (n + 1) g).1),
+  (
+    λ k h. (
+      λ n. (_, _, says_read (s_cat (n + 1)).1 (says_accept (word (codes "and")) refl (says_read (s_cat (n + 1)).1 says_done))),
+      λ a. (
+        λ n. (_, _, says_accept (word (codes "and")) refl (says_read (s_cat (n + 1)).1 says_done)),
+        (λ j i. (λ n. (_, _, says_read (s_cat (n + 1)).1 says_done), λ b. last (ranged g) (the_test.Between g a b)), tt),
+      ),
+    ),
+    (
+      λ k h. (
+        λ n. (_, _, says_accept (sign (codes "(")) refl (says_nest refl (s_exprs n).1 (says_accept (sign (codes ")")) refl says_done))),
+        (
+          λ j i. (
+            λ n. (_, _, says_nest refl (s_exprs n).1 (says_accept (sign (codes ")")) refl says_done)),
+            λ xs. (λ n. (_, _, says_accept (sign (codes ")")) refl says_done), (λ l m. last (ranged g) (the_test.OneOf g xs), tt)),
+          ),
+          tt,
+        ),
+      ),
       tt,
     ),
   ),
@@ -319,8 +326,10 @@ arguments_goes f = λ at x. last (arguments f) (the_args.List at (x ∷ []))
 call_goes : (at : ℕ) (name : List ℕ) (o : Option Function) → Goes (call_plan at name o)
 call_goes at name None = tt
 call_goes at name (Some f) = (
-  λ k h. (λ n. (_, _, says_nest refl (arguments_ends f n).2 (says_accept (sign (codes ")")) refl says_done)),
-  λ a. (λ n. (_, _, says_accept (sign (codes ")")) refl says_done), (λ j i. last (named at name) (the_primary.Call at f a), tt))),
+  λ k h. (
+    λ n. (_, _, says_nest refl (arguments_ends f n).2 (says_accept (sign (codes ")")) refl says_done)),
+    λ a. (λ n. (_, _, says_accept (sign (codes ")")) refl says_done), (λ j i. last (named at name) (the_primary.Call at f a), tt)),
+  ),
   tt,
 )
 
@@ -338,20 +347,37 @@ named_goes at name false = column_goes at name
 g_value : Lives value
 g_value = (
   λ n. (_, _, (s_value (n + 1)).1),
-  λ at. (last value, (last value, (last value, (λ k h. (λ n. (_, _, says_read (named_ends at (said k) (n + 1)).2 says_done), last value), (
-    λ k h. last value (the_primary.Number at (amount k)), (
-      λ k h. last value (the_primary.Text at (said k)), (
-        λ k h. last value (the_primary.Macro at (said k)), (
-          λ k h. last value (the_primary.Truth at true), (
-            λ k h. last value (the_primary.Truth at false), (
-              λ k h. last value (the_primary.Null at),
-              tt,
+  λ at. (
+    last value,
+    (
+      last value,
+      (
+        last value,
+        (
+          λ k h. (λ n. (_, _, says_read (named_ends at (said k) (n + 1)).2 says_done), last value),
+          (
+            λ k h. last value (the_primary.Number at (amount k)),
+            (
+              λ k h. last value (the_primary.Text at (said k)),
+              (
+                λ k h. last value (the_primary.Macro at (said k)),
+                (
+                  λ k h. last value (the_primary.Truth at true),
+                  (
+                    λ k h. last value (the_primary.Truth at false),
+                    (
+                      λ k h. last value (the_primary.Null at),
+                      tt,
+                    ),
+                  ),
+                ),
+              ),
             ),
           ),
         ),
       ),
     ),
-  ))))),
+  ),
 )
 
 g_named : (at : ℕ) (name : List ℕ) → Lives (named at name)
@@ -373,10 +399,16 @@ g_case : Lives case
 g_case = (
   λ n. (_, _, says_note 0 (zeroed case_front refl) (says_accept (word (codes "case")) refl (says_nest refl (s_operand n).1 (says_nest refl (s_arms n).1 (says_nest refl (s_otherwise n).1 (says_accept (word (codes "end")) refl says_done)))))),
   λ at. (
-    λ k h. (λ n. (_, _, says_nest refl (s_operand n).1 (says_nest refl (s_arms n).1 (says_nest refl (s_otherwise n).1 (says_accept (word (codes "end")) refl says_done)))),
-    λ o. (λ n. (_, _, says_nest refl (s_arms n).1 (says_nest refl (s_otherwise n).1 (says_accept (word (codes "end")) refl says_done))),
-    λ xs. (λ n. (_, _, says_nest refl (s_otherwise n).1 (says_accept (word (codes "end")) refl says_done)),
-    λ e. (λ n. (_, _, says_accept (word (codes "end")) refl says_done), (λ j i. last case (the_primary.Case at o xs e), tt))))),
+    λ k h. (
+      λ n. (_, _, says_nest refl (s_operand n).1 (says_nest refl (s_arms n).1 (says_nest refl (s_otherwise n).1 (says_accept (word (codes "end")) refl says_done)))),
+      λ o. (
+        λ n. (_, _, says_nest refl (s_arms n).1 (says_nest refl (s_otherwise n).1 (says_accept (word (codes "end")) refl says_done))),
+        λ xs. (
+          λ n. (_, _, says_nest refl (s_otherwise n).1 (says_accept (word (codes "end")) refl says_done)),
+          λ e. (λ n. (_, _, says_accept (word (codes "end")) refl says_done), (λ j i. last case (the_primary.Case at o xs e), tt)),
+        ),
+      ),
+    ),
     tt,
   ),
 )
@@ -388,17 +420,28 @@ g_cast : Lives cast
 g_cast = (
   λ n. (_, _, says_note 0 (zeroed cast_front refl) (says_accept (word (codes "cast")) refl (says_accept (sign (codes "(")) refl (says_nest refl (s_expr n).1 (says_accept (word (codes "as")) refl (says_accept (word (codes "int")) refl (says_accept (sign (codes ")")) refl says_done))))))),
   λ at. (
-    λ k h. (λ n. (_, _, says_accept (sign (codes "(")) refl (says_nest refl (s_expr n).1 (says_accept (word (codes "as")) refl (says_accept (word (codes "int")) refl (says_accept (sign (codes ")")) refl says_done))))), (
-      λ j i. (λ n. (_, _, says_nest refl (s_expr n).1 (says_accept (word (codes "as")) refl (says_accept (word (codes "int")) refl (says_accept (sign (codes ")")) refl says_done)))),
-      λ x. (λ n. (_, _, says_accept (word (codes "as")) refl (says_accept (word (codes "int")) refl (says_accept (sign (codes ")")) refl says_done))), (
-        λ l m. (λ n. (_, _, says_accept (word (codes "int")) refl (says_accept (sign (codes ")")) refl says_done)), (
-          λ a b. (λ n. (_, _, says_accept (sign (codes ")")) refl says_done), (λ c d. last cast (the_primary.Cast at x (type_named a)), tt)),
-          tt,
-        )),
+    λ k h. (
+      λ n. (_, _, says_accept (sign (codes "(")) refl (says_nest refl (s_expr n).1 (says_accept (word (codes "as")) refl (says_accept (word (codes "int")) refl (says_accept (sign (codes ")")) refl says_done))))),
+      (
+        λ j i. (
+          λ n. (_, _, says_nest refl (s_expr n).1 (says_accept (word (codes "as")) refl (says_accept (word (codes "int")) refl (says_accept (sign (codes ")")) refl says_done)))),
+          λ x. (
+            λ n. (_, _, says_accept (word (codes "as")) refl (says_accept (word (codes "int")) refl (says_accept (sign (codes ")")) refl says_done))),
+            (
+              λ l m. (
+                λ n. (_, _, says_accept (word (codes "int")) refl (says_accept (sign (codes ")")) refl says_done)),
+                (
+                  λ a b. (λ n. (_, _, says_accept (sign (codes ")")) refl says_done), (λ c d. last cast (the_primary.Cast at x (type_named a)), tt)),
+                  tt,
+                ),
+              ),
+              tt,
+            ),
+          ),
+        ),
         tt,
-      ))),
-      tt,
-    )),
+      ),
+    ),
     tt,
   ),
 )
@@ -416,9 +459,13 @@ g_arm : Lives arm
 g_arm = (
   λ n. (_, _, (s_arm (n + 1)).1),
   λ at. (
-    λ k h. (λ n. (_, _, says_read (s_expr (n + 1)).1 (says_accept (word (codes "then")) refl (says_read (s_expr (n + 1)).1 says_done))),
-    λ t. (λ n. (_, _, says_accept (word (codes "then")) refl (says_read (s_expr (n + 1)).1 says_done)),
-    (λ j i. (λ n. (_, _, says_read (s_expr (n + 1)).1 says_done), λ v. last arm (roll-Arm (record { at = at; test = t; value = v }))), tt))),
+    λ k h. (
+      λ n. (_, _, says_read (s_expr (n + 1)).1 (says_accept (word (codes "then")) refl (says_read (s_expr (n + 1)).1 says_done))),
+      λ t. (
+        λ n. (_, _, says_accept (word (codes "then")) refl (says_read (s_expr (n + 1)).1 says_done)),
+        (λ j i. (λ n. (_, _, says_read (s_expr (n + 1)).1 says_done), λ v. last arm (roll-Arm (record { at = at; test = t; value = v }))), tt),
+      ),
+    ),
     tt,
   ),
 )
@@ -447,7 +494,8 @@ g_more_items xs = (
 g_alias : Lives alias
 unfolding is_reserved
 g_alias = (
-  λ n. (_, _, (s_alias (n + 1)).1), (
+  λ n. (_, _, (s_alias (n + 1)).1),
+  (
     λ k h. (λ n. (_, _, says_accept (word (codes "a")) refl says_done), (λ j i. last alias (Some (said j)), tt)),
     (λ k h. last alias (Some (said k)), tt),
   ),
@@ -456,7 +504,8 @@ g_alias = (
 g_qualified : Lives qualified
 unfolding is_reserved
 g_qualified = (
-  λ n. (_, _, (s_qualified (n + 1)).1), (
+  λ n. (_, _, (s_qualified (n + 1)).1),
+  (
     λ k h. (λ n. (_, _, says_reject says_done), (λ j i. (λ n. (_, _, says_accept (word (codes "a")) refl says_done), (λ l m. last qualified (Some (said k), said l), tt)), tt)),
     tt,
   ),
@@ -484,8 +533,10 @@ g_join : Lives join
 g_join = (
   λ n. (_, _, (s_join (n + 1)).1),
   λ at. (
-    λ k h. (λ n. (_, _, says_read (s_relation (n + 1)).1 says_done), λ r. last join (the_join.Comma at r)), (
-      λ k h. (λ n. (_, _, says_accept (word (codes "join")) refl (says_read (s_relation (n + 1)).1 says_done)), (λ j i. (λ n. (_, _, says_read (s_relation (n + 1)).1 says_done), λ r. last join (the_join.Cross at r)), tt)), (
+    λ k h. (λ n. (_, _, says_read (s_relation (n + 1)).1 says_done), λ r. last join (the_join.Comma at r)),
+    (
+      λ k h. (λ n. (_, _, says_accept (word (codes "join")) refl (says_read (s_relation (n + 1)).1 says_done)), (λ j i. (λ n. (_, _, says_read (s_relation (n + 1)).1 says_done), λ r. last join (the_join.Cross at r)), tt)),
+      (
         λ k h. (λ n. (_, _, says_reject (on_ends (the_join.Left at) n).2), (λ j i. (on_ends (the_join.Left at), on_goes (the_join.Left at)), on_goes (the_join.Left at))),
         (λ k h. (on_ends (the_join.Inner at), on_goes (the_join.Inner at)), on_goes (the_join.Inner at)),
       ),
@@ -523,11 +574,19 @@ g_select = (
 g_selected : (at : ℕ) (d : Bool) → Lives (selected at d)
 g_selected at d = (
   λ n. (_, _, (s_selected (n + 1) at d).1),
-  λ xs. (λ n. (_, _, says_read (s_source (n + 1)).1 (says_read (s_condition (n + 1) (codes "where")).1 (says_read (s_keys (n + 1)).1 (says_read (s_condition (n + 1) (codes "having")).1 says_done)))),
-  λ f. (λ n. (_, _, says_read (s_condition (n + 1) (codes "where")).1 (says_read (s_keys (n + 1)).1 (says_read (s_condition (n + 1) (codes "having")).1 says_done))),
-  λ w. (λ n. (_, _, says_read (s_keys (n + 1)).1 (says_read (s_condition (n + 1) (codes "having")).1 says_done)),
-  λ ks. (λ n. (_, _, says_read (s_condition (n + 1) (codes "having")).1 says_done),
-  λ h. last (selected at d) (record { at = at; distinct = d; items = xs; from = f; filter = w; keys = ks; having = h }))))),
+  λ xs. (
+    λ n. (_, _, says_read (s_source (n + 1)).1 (says_read (s_condition (n + 1) (codes "where")).1 (says_read (s_keys (n + 1)).1 (says_read (s_condition (n + 1) (codes "having")).1 says_done)))),
+    λ f. (
+      λ n. (_, _, says_read (s_condition (n + 1) (codes "where")).1 (says_read (s_keys (n + 1)).1 (says_read (s_condition (n + 1) (codes "having")).1 says_done))),
+      λ w. (
+        λ n. (_, _, says_read (s_keys (n + 1)).1 (says_read (s_condition (n + 1) (codes "having")).1 says_done)),
+        λ ks. (
+          λ n. (_, _, says_read (s_condition (n + 1) (codes "having")).1 says_done),
+          λ h. last (selected at d) (record { at = at; distinct = d; items = xs; from = f; filter = w; keys = ks; having = h }),
+        ),
+      ),
+    ),
+  ),
 )
 
 g_union : Lives union
@@ -535,9 +594,12 @@ g_union = (λ n. (_, _, (s_union (n + 1)).1), λ at x. (λ n. (_, _, says_read (
 
 g_more_selects : (at : ℕ) (xs : List SurfaceSelect) → Lives (more_selects at xs)
 g_more_selects at xs = (
-  λ n. (_, _, says_reject says_done), (
-    λ k h. (λ n. (_, _, says_accept (word (codes "all")) refl (says_read (s_select (n + 1)).1 (says_read (says_reject says_done) says_done))),
-    (λ j i. (λ n. (_, _, says_read (s_select (n + 1)).1 (says_read (says_reject says_done) says_done)), λ x. (λ n. (_, _, says_read (says_reject says_done) says_done), last (more_selects at xs))), tt)),
+  λ n. (_, _, says_reject says_done),
+  (
+    λ k h. (
+      λ n. (_, _, says_accept (word (codes "all")) refl (says_read (s_select (n + 1)).1 (says_read (says_reject says_done) says_done))),
+      (λ j i. (λ n. (_, _, says_read (s_select (n + 1)).1 (says_read (says_reject says_done) says_done)), λ x. (λ n. (_, _, says_read (says_reject says_done) says_done), last (more_selects at xs))), tt),
+    ),
     tt,
   ),
 )
@@ -546,14 +608,22 @@ g_cte : Lives cte
 g_cte = (
   λ n. (_, _, (s_cte n).1),
   λ at. (
-    λ k h. (λ n. (_, _, says_accept (word (codes "as")) refl (says_accept (sign (codes "(")) refl (says_nest refl (s_union n).1 (says_accept (sign (codes ")")) refl says_done)))), (
-      λ j i. (λ n. (_, _, says_accept (sign (codes "(")) refl (says_nest refl (s_union n).1 (says_accept (sign (codes ")")) refl says_done))), (
-        λ l m. (λ n. (_, _, says_nest refl (s_union n).1 (says_accept (sign (codes ")")) refl says_done)),
-        λ u. (λ n. (_, _, says_accept (sign (codes ")")) refl says_done), (λ a b. last cte (record { at = at; name = said k; body = u }), tt))),
+    λ k h. (
+      λ n. (_, _, says_accept (word (codes "as")) refl (says_accept (sign (codes "(")) refl (says_nest refl (s_union n).1 (says_accept (sign (codes ")")) refl says_done)))),
+      (
+        λ j i. (
+          λ n. (_, _, says_accept (sign (codes "(")) refl (says_nest refl (s_union n).1 (says_accept (sign (codes ")")) refl says_done))),
+          (
+            λ l m. (
+              λ n. (_, _, says_nest refl (s_union n).1 (says_accept (sign (codes ")")) refl says_done)),
+              λ u. (λ n. (_, _, says_accept (sign (codes ")")) refl says_done), (λ a b. last cte (record { at = at; name = said k; body = u }), tt)),
+            ),
+            tt,
+          ),
+        ),
         tt,
-      )),
-      tt,
-    )),
+      ),
+    ),
     tt,
   ),
 )
@@ -573,8 +643,10 @@ g_ctes = (λ n. (_, _, (s_ctes (n + 1)).1), (λ k h. (λ n. (_, _, says_read (sa
 g_query : Lives query
 g_query = (
   λ n. (_, _, says_note 0 (zeroed (λ x. word (codes "select") ∷ sign (codes "*") ∷ x) refl) (says_read (s_ctes (n + 1)).1 (says_read (s_union (n + 1)).1 (says_reject says_done)))),
-  λ at cs. (λ n. (_, _, says_read (s_union (n + 1)).1 (says_reject says_done)),
-  λ u. (λ n. (_, _, says_reject says_done), (λ k h. last query (record { at = at; ctes = cs; body = u }), tt))),
+  λ at cs. (
+    λ n. (_, _, says_read (s_union (n + 1)).1 (says_reject says_done)),
+    λ u. (λ n. (_, _, says_reject says_done), (λ k h. last query (record { at = at; ctes = cs; body = u }), tt)),
+  ),
 )
 
 -- a column by its own name, or behind another name
@@ -590,7 +662,8 @@ unfolding kind_scale scale
 g_item = (
   λ n. (_, _, (s_item (n + 1)).1),
   λ at. (
-    λ k h. last item (the_item.All at), (
+    λ k h. last item (the_item.All at),
+    (
       λ k h. last item (the_item.AllOf at (said k)),
       λ x. (λ n. (_, _, says_read (s_alias (n + 1)).1 says_done), λ a. last item (the_item.Value at x a)),
       λ n k c h g. (

@@ -1,16 +1,13 @@
 -- What a token is that passes a test.
-use Rattle.std.proofs.Common.{◌≡◌, ℕ, List, [], ◌∷◌, codes, Bool, true, false, ◌||◌, Option, Some, None, refl, ap, sym, ◌∙◌, subst, if◌then◌else◌}
+use Rattle.std.proofs.Common.{◌≡◌, ℕ, List, ◌∷◌, codes, Bool, true, false, ◌||◌, Option, Some, None, refl, ap, if◌then◌else◌}
 use Rattle.std.specs.Str.{bytes_eq}
 use Rattle.std.proofs.lemmas.Slice.Eq.{bytes_eq-Decides}
 use Rattle.mesh_base.specs.declared.values.ColType.{ColType}
 use Rattle.mesh_tokens.specs.declared.tokens.Token.{Token}
 use Rattle.mesh_tokens.specs.declared.tokens.TokenKind.{TokenKind}
 use Rattle.mesh_tokens.specs.declared.tokens.TokenKind.TheVariants.{Ident, Number, Text, Macro, Sign}
-use Rattle.mesh_surface.specs.declared.signs.Cmp.{Cmp}
 use Rattle.mesh_surface.specs.declared.signs.Cmp.TheVariants as cmp
-use Rattle.mesh_surface.specs.declared.signs.AddSign.{AddSign}
 use Rattle.mesh_surface.specs.declared.signs.AddSign.TheVariants as add
-use Rattle.mesh_surface.specs.declared.signs.MulSign.{MulSign}
 use Rattle.mesh_surface.specs.declared.signs.MulSign.TheVariants as mul
 use Rattle.mesh_grammar.specs.Words.{is_reserved, type_of}
 use Rattle.mesh_grammar.specs.Signs.{Next, IsWord, IsSign, IsName, IsType, cmp_text, add_text, mul_text}

@@ -6,3 +6,4 @@ pub mod Scale
 pub mod Takes
 pub mod Complete
 pub mod Endings
+pub mod Faults

@@ -1,12 +1,11 @@
 -- What the grammar says of what a rule reads. Of what is left of a rule it says what the whole is, behind any beginning.
-use Rattle.std.proofs.Common.{◌≡◌, ℕ, ℤ, ◌+◌, List, [], ◌∷◌, codes, Bool, true, false, Option, Some, None, ◌⊎◌, refl, ap, sym, ◌∙◌, subst}
+use Rattle.std.proofs.Common.{◌≡◌, ℕ, ℤ, ◌+◌, List, ◌∷◌, codes, Bool, true, false, ◌⊎◌}
 use Rattle.mesh_tokens.specs.declared.tokens.Token.{Token}
-use Rattle.mesh_tokens.specs.declared.tokens.TokenKind.{TokenKind}
 use Rattle.mesh_tokens.specs.declared.tokens.TokenKind.TheVariants.{Ident, Text}
 use Rattle.mesh_surface.specs.declared.queries.SurfaceItem.{SurfaceItem}
 use Rattle.mesh_time.specs.Moments.{IsDayText}
 use Rattle.mesh_grammar.specs.Words.{is_reserved}
-use Rattle.mesh_grammar.specs.Signs.{place, IsWord, IsFlag, IsAlias, IsQualified, IsRelation, IsOptionalSign}
+use Rattle.mesh_grammar.specs.Signs.{IsWord, IsFlag, IsAlias, IsQualified, IsRelation, IsOptionalSign}
 use Rattle.mesh_grammar.specs.Grammar as gram
 use Rattle.mesh_grammar.specs.Grammar.{Phrase, Spells, IsRelationOn}
 use Rattle.mesh_grammar.specs.Rules.{Rule, Tree, expr, more_ors, conjunction, more_ands, negation, pred, tested, ranged, cat, more_cats, sum, more_sums, product, more_products, signed, post, more_casts, value, named, group, case, cast, operand, arms, more_arms, arm, otherwise, arguments, exprs, more_exprs, item, items, more_items, alias, qualified, relation, relations, more_joins, join, joined, source, condition, keys, select, selected, union, more_selects, cte, cte_list, more_ctes, ctes, query}

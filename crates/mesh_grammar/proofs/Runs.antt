@@ -1,12 +1,11 @@
 -- A run is the only one on what it reads and the token after it. A run that fails is begun by some phrase, and no run goes
 -- on from what it read and the token at fault.
-use Rattle.std.proofs.Common.{◌≡◌, ℕ, ℤ, ◌+◌, List, [], ◌∷◌, ◌++◌, codes, Bool, true, false, ◌&&◌, Option, Some, None, ◌⊎◌, inl, inr, refl, ap, sym, ◌∙◌, subst, arith}
+use Rattle.std.proofs.Common.{◌≡◌, ℕ, ℤ, ◌+◌, List, [], ◌∷◌, ◌++◌, codes, Bool, true, false, ◌&&◌, Some, ◌⊎◌, inl, inr, refl, ap, sym, ◌∙◌, subst, arith}
 use Rattle.mesh_tokens.specs.declared.tokens.Token.{Token}
-use Rattle.mesh_tokens.specs.declared.tokens.TokenKind.{TokenKind}
 use Rattle.mesh_tokens.specs.declared.tokens.TokenKind.TheVariants.{Text}
 use Rattle.mesh_time.specs.Moments.{IsDayText}
 use Rattle.mesh_time.proofs.TextLaws.{one_day}
-use Rattle.mesh_grammar.specs.Signs.{place, Next, IsDay}
+use Rattle.mesh_grammar.specs.Signs.{place, IsDay}
 use Rattle.mesh_grammar.specs.Rules.{Rule, Tree}
 use Rattle.mesh_grammar.specs.Plans.{Plan, done, stuck, accept, peek, note, read, nest, day, star, plan, is_name, is_sign}
 use Rattle.mesh_grammar.specs.Machine.{next, passes, begins, are_star, begins_star, Runs, ends, accepts, rejects, sees, misses, notes, reads, nests, days, stars, starless, Cause, syntax, nesting, Fails, fails_here, fails_deep, fails_day, fails_behind_day, fails_after, fails_without, fails_seen, fails_missed, fails_noted, fails_first, fails_then, fails_inside, fails_behind, fails_starred, fails_starless}
@@ -393,7 +392,7 @@ begun_noted n r f s e (token {u = u} j a) h (inl b) = inl b
 begun_noted n r f s e (token {u = u} j a) h (inr b) = inr (b.0, b.1, says_note (place s) (λ k w g. ap place h ∙ ap (λ (z : Front). place (z [])) g) b.2)
 
 -- what is begun behind a token, or at it
-begun_behind : (n : ℕ) (r : Rule) (q : Plan r) {u : Front} → Ending q → Begun n r q u → (t : Tree r) × (v : Front) × Says (n + 1) r q t (λ x. u (v x))
+pub begun_behind : (n : ℕ) (r : Rule) (q : Plan r) {u : Front} → Ending q → Begun n r q u → (t : Tree r) × (v : Front) × Says (n + 1) r q t (λ x. u (v x))
 begun_behind n r q E (inl h) = let z = E n in (z.0, z.1, subst (λ (y : Front). Says (n + 1) r q z.0 (λ x. y (z.1 x))) (sym h) z.2)
 begun_behind n r q E (inr h) = h
 

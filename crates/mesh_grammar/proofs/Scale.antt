@@ -1,13 +1,13 @@
 -- How tightly a token binds what stands before it, and how it may begin a phrase.
-use Rattle.std.proofs.Common.{◌≡◌, ◌≢◌, ℕ, ◌+◌, ◌-◌, ◌<◌, ◌≤◌, List, [], ◌∷◌, codes, Bool, true, false, ◌||◌, Option, Some, None, ◌⊎◌, inl, inr, refl, ap, sym, ◌∙◌, subst, arith, if◌then◌else◌}
+use Rattle.std.proofs.Common.{◌≡◌, ◌≢◌, ℕ, ◌+◌, ◌-◌, ◌<◌, List, [], ◌∷◌, codes, Bool, true, false, ◌||◌, Option, Some, None, ◌⊎◌, inl, inr, refl, ap, ◌∙◌, arith, if◌then◌else◌}
 use Rattle.std.specs.Str.{bytes_eq}
 use Rattle.std.proofs.lemmas.Slice.Eq.{bytes_eq-Decides}
 use Rattle.mesh_tokens.specs.declared.tokens.Token.{Token}
 use Rattle.mesh_tokens.specs.declared.tokens.TokenKind.{TokenKind}
-use Rattle.mesh_tokens.specs.declared.tokens.TokenKind.TheVariants.{Ident, Number, Text, Macro, Sign}
+use Rattle.mesh_tokens.specs.declared.tokens.TokenKind.TheVariants.{Ident, Text, Sign}
 use Rattle.mesh_grammar.specs.Words.{is_reserved}
-use Rattle.mesh_grammar.specs.Signs.{place, Next, IsWord, IsSign, IsName}
-use Rattle.mesh_grammar.specs.Plans.{said, kind_is_word, kind_is_sign, kind_is_name, kind_is_text, is_word, is_sign, is_name, is_text, is_any, is_cmp, is_add, is_mul, begins_range, begins_join, ends_items, cmp_said, add_said, mul_said}
+use Rattle.mesh_grammar.specs.Signs.{Next, IsWord, IsSign, IsName}
+use Rattle.mesh_grammar.specs.Plans.{said, kind_is_word, kind_is_sign, is_word, is_sign, is_name, is_text, is_any, is_cmp, is_add, is_mul, begins_range, begins_join, ends_items, cmp_said, add_said, mul_said}
 use Rattle.mesh_grammar.specs.Signs.{cmp_text, add_text, mul_text}
 use Rattle.mesh_surface.specs.declared.signs.Cmp.{Cmp}
 use Rattle.mesh_surface.specs.declared.signs.Cmp.TheVariants as cmp
@@ -15,7 +15,7 @@ use Rattle.mesh_surface.specs.declared.signs.AddSign.{AddSign}
 use Rattle.mesh_surface.specs.declared.signs.AddSign.TheVariants as add
 use Rattle.mesh_surface.specs.declared.signs.MulSign.{MulSign}
 use Rattle.mesh_surface.specs.declared.signs.MulSign.TheVariants as mul
-use Rattle.mesh_grammar.specs.Machine.{next, passes, begins}
+use Rattle.mesh_grammar.specs.Machine.{next, begins}
 use Rattle.mesh_grammar.proofs.Heads.{word_at, sign_at, name_at, text_at, cmp_at, add_at, mul_at}
 
 abbrev pub kind_ends_items : TokenKind → Bool

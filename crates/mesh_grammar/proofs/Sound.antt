@@ -1,44 +1,33 @@
 -- What each plan reads means what its rule is to mean.
-use Rattle.std.proofs.Common.{◌≡◌, ℕ, ℤ, ◌+◌, List, [], ◌∷◌, ◌++◌, codes, Bool, true, false, Option, Some, None, ◌⊎◌, inl, inr, refl, ap, sym, ◌∙◌, subst, arith}
+use Rattle.std.proofs.Common.{◌≡◌, ℕ, ◌+◌, List, [], ◌∷◌, codes, Bool, true, false, Option, Some, None, ◌⊎◌, inl, inr, refl, ap, sym, ◌∙◌, subst, arith}
 use Rattle.std.specs.Str.{bytes_eq}
 use Rattle.mesh_tokens.specs.declared.tokens.Token.{Token}
 use Rattle.mesh_tokens.specs.declared.tokens.TokenKind.TheVariants.{Ident}
-use Rattle.mesh_surface.specs.declared.signs.Cmp.{Cmp}
-use Rattle.mesh_surface.specs.declared.signs.Cmp.TheVariants as cmp
-use Rattle.mesh_surface.specs.declared.signs.AddSign.{AddSign}
-use Rattle.mesh_surface.specs.declared.signs.AddSign.TheVariants as add
-use Rattle.mesh_surface.specs.declared.signs.MulSign.{MulSign}
-use Rattle.mesh_surface.specs.declared.signs.MulSign.TheVariants as mul
 use Rattle.mesh_surface.specs.declared.signs.Function.{Function}
 use Rattle.mesh_surface.specs.declared.signs.Function.TheVariants as the_function
-use Rattle.mesh_surface.specs.declared.expressions.OrExpr.{OrExpr, roll-OrExpr}
-use Rattle.mesh_surface.specs.declared.expressions.AndExpr.{AndExpr, roll-AndExpr}
+use Rattle.mesh_surface.specs.declared.expressions.OrExpr.{roll-OrExpr}
+use Rattle.mesh_surface.specs.declared.expressions.AndExpr.{roll-AndExpr}
 use Rattle.mesh_surface.specs.declared.expressions.NotExpr.TheVariants as the_not
 use Rattle.mesh_surface.specs.declared.expressions.Pred.{roll-Pred}
-use Rattle.mesh_surface.specs.declared.expressions.Test.TheVariants as the_test
 use Rattle.mesh_surface.specs.declared.expressions.CatExpr.{roll-CatExpr}
 use Rattle.mesh_surface.specs.declared.expressions.AddExpr.{roll-AddExpr}
-use Rattle.mesh_surface.specs.declared.expressions.AddStep.{roll-AddStep}
-use Rattle.mesh_surface.specs.declared.expressions.MulExpr.{MulExpr, roll-MulExpr}
-use Rattle.mesh_surface.specs.declared.expressions.MulStep.{roll-MulStep}
+use Rattle.mesh_surface.specs.declared.expressions.MulExpr.{roll-MulExpr}
 use Rattle.mesh_surface.specs.declared.expressions.Unary.TheVariants as the_unary
 use Rattle.mesh_surface.specs.declared.expressions.Post.{roll-Post}
 use Rattle.mesh_surface.specs.declared.expressions.Primary.TheVariants as the_primary
 use Rattle.mesh_surface.specs.declared.expressions.Arm.{roll-Arm}
 use Rattle.mesh_surface.specs.declared.expressions.Args.TheVariants as the_args
 use Rattle.mesh_surface.specs.declared.queries.SurfaceItem.TheVariants as the_item
-use Rattle.mesh_surface.specs.declared.queries.SurfaceJoin.{SurfaceJoin}
 use Rattle.mesh_surface.specs.declared.queries.SurfaceJoin.TheVariants as the_join
-use Rattle.mesh_surface.specs.declared.queries.SurfaceRel.{SurfaceRel}
-use Rattle.mesh_grammar.specs.Words.{is_reserved, function_of}
+use Rattle.mesh_grammar.specs.Words.{function_of}
 use Rattle.mesh_grammar.specs.Signs.{place}
 use Rattle.mesh_grammar.specs.Grammar as gram
 use Rattle.mesh_grammar.specs.Grammar.{Phrase, Spells}
 use Rattle.mesh_grammar.specs.Rules.{Rule, Tree, expr, more_ors, conjunction, more_ands, negation, pred, tested, ranged, cat, more_cats, sum, more_sums, product, more_products, signed, post, more_casts, value, named, group, case, cast, operand, arms, more_arms, arm, otherwise, arguments, exprs, more_exprs, item, items, more_items, alias, qualified, relation, relations, more_joins, join, joined, source, condition, keys, select, selected, union, more_selects, cte, cte_list, more_ctes, ctes, query}
-use Rattle.mesh_grammar.specs.Plans.{Plan, plan, said, amount, type_named, add_said, mul_said, cmp_said, arguments_plan, call_plan, column_plan, named_plan}
+use Rattle.mesh_grammar.specs.Plans.{plan, said, amount, type_named, add_said, mul_said, arguments_plan, call_plan, column_plan, named_plan}
 use Rattle.mesh_grammar.proofs.Runs.{Front, Notes, Says, is_named, is_dot, is_times}
 use Rattle.mesh_grammar.proofs.Heads.{same_bytes, name_kind, word_at, sign_at, name_at, text_at, macro_at, number_at, type_at, add_at, mul_at, cmp_at}
-use Rattle.mesh_grammar.proofs.Means.{Framed, Begins, Starts, Means, Sound, meant}
+use Rattle.mesh_grammar.proofs.Means.{Begins, Starts, Means, Sound, meant}
 
 begun : (at : ℕ) {u : Front} (v : Front) → Notes at (λ x. u (v x)) → Begins u → Starts at u
 begun at v h b = (b.0, b.1, b.2, h b.0 (λ x. b.1 (v x)) (ap {B = Front} (λ (z : Front) x. z (v x)) b.2))
@@ -70,10 +59,13 @@ call_sound n at name (Some f) e = (
 )
 
 column_sound : (n at : ℕ) (name : List ℕ) → Sound n (Means n (named at name)) (column_plan at name)
-column_sound n at name = (call_sound n at name (function_of name) refl, (
-  λ k g. (λ j i m b c d z. at_place (λ y. gram.value (the_primary.Column y (Some name) (said j))) (sym b) (gram.column {of = Some name} {name = said j} (k ∷ j ∷ z, j ∷ z, ((m, refl, c), d), sign_at (codes ".") k g (j ∷ z), name_at j i z)), tt),
-  λ m b c d z. at_place (λ y. gram.value (the_primary.Column y None name)) (sym b) (gram.column {of = None} {name = name} ((m, refl, c), d)),
-))
+column_sound n at name = (
+  call_sound n at name (function_of name) refl,
+  (
+    λ k g. (λ j i m b c d z. at_place (λ y. gram.value (the_primary.Column y (Some name) (said j))) (sym b) (gram.column {of = Some name} {name = said j} (k ∷ j ∷ z, j ∷ z, ((m, refl, c), d), sign_at (codes ".") k g (j ∷ z), name_at j i z)), tt),
+    λ m b c d z. at_place (λ y. gram.value (the_primary.Column y None name)) (sym b) (gram.column {of = None} {name = name} ((m, refl, c), d)),
+  ),
+)
 
 named_sound : (n at : ℕ) (name : List ℕ) (b : Bool) → bytes_eq name (codes "date") ≡ b → Sound n (Means n (named at name)) (named_plan at name b)
 named_sound n at name true h = (
@@ -84,7 +76,8 @@ named_sound n at name false h = column_sound n at name
 
 arguments_sound : (n : ℕ) (f : Function) → Sound n (Means n (arguments f)) (arguments_plan f)
 arguments_sound n the_function.Count = λ at. (
-  λ k g h z. at_place (λ y. gram.arguments the_function.Count (the_args.Star y)) (sym (h k (λ x. x) refl)) (gram.star (sign_at (codes "*") k g z)), (
+  λ k g h z. at_place (λ y. gram.arguments the_function.Count (the_args.Star y)) (sym (h k (λ x. x) refl)) (gram.star (sign_at (codes "*") k g z)),
+  (
     λ k g x u X h z. at_place (λ y. gram.arguments the_function.Count (the_args.Distinct y x)) (sym (h k u refl)) (gram.different (word_at (codes "distinct") k g (u z)) (X.1 z)),
     λ x u X h z. at_place (λ y. gram.arguments the_function.Count (the_args.List y (x ∷ []))) (placed (begun at (λ z. z) h X.0) z) (gram.one_argument refl (X.1 z)),
   ),
@@ -116,13 +109,15 @@ sound tested n = (
   λ k g. (
     λ j f. (λ i l z. gram.is_not_null (word_at (codes "is") k g (j ∷ i ∷ z)) (word_at (codes "not") j f (i ∷ z)) (word_at (codes "null") i l z), tt),
     (λ j f z. gram.is_null (word_at (codes "is") k g (j ∷ z)) (word_at (codes "null") j f z), tt),
-  ), (
+  ),
+  (
     λ k g t u X z. gram.without_range (word_at (codes "not") k g (u z)) (X z),
     (λ t u X z. gram.with_range (X z), (λ k g r u X z. gram.compared (cmp_at k g (u z)) (X.1 z), λ z. gram.nothing)),
   ),
 )
 sound (ranged g) n = (
-  λ k h a u A. (λ j i b v B z. gram.between (word_at (codes "between") k h (u (j ∷ v z))) (A.1 (j ∷ v z)) (word_at (codes "and") j i (v z)) (B.1 z), tt), (
+  λ k h a u A. (λ j i b v B z. gram.between (word_at (codes "between") k h (u (j ∷ v z))) (A.1 (j ∷ v z)) (word_at (codes "and") j i (v z)) (B.1 z), tt),
+  (
     λ k h. (λ j i o e xs u X. (λ l m z. gram.one_of e (word_at (codes "in") k h (j ∷ u (l ∷ z))) (sign_at (codes "(") j i (u (l ∷ z))) (X.1 (l ∷ z)) (sign_at (codes ")") l m z), tt), tt),
     tt,
   ),
@@ -152,14 +147,22 @@ sound (more_casts at v ks) n = (
   λ w s p z. at_place (λ j. gram.post (roll-Post (record { at = j; value = v; casts = ks }))) (placed s z) (gram.posts (p z)),
 )
 sound value n = λ at. (
-  λ t u X h. X, (
-    λ t u X h. X, (
-      λ t u X h. X, (
-        λ k g t u M h. ((k, u, refl), M k (h k u refl) (name_kind k.kind g).0 (name_kind k.kind g).1), (
-          λ k g h. ((k, λ x. x, refl), λ z. at_place (λ j. gram.value (the_primary.Number j (amount k))) (sym (h k (λ x. x) refl)) (gram.number (number_at k g z))), (
-            λ k g h. ((k, λ x. x, refl), λ z. at_place (λ j. gram.value (the_primary.Text j (said k))) (sym (h k (λ x. x) refl)) (gram.text (text_at k g z))), (
-              λ k g h. ((k, λ x. x, refl), λ z. at_place (λ j. gram.value (the_primary.Macro j (said k))) (sym (h k (λ x. x) refl)) (gram.macro (macro_at k g z))), (
-                λ k g h. ((k, λ x. x, refl), λ z. at_place (λ j. gram.value (the_primary.Truth j true)) (sym (h k (λ x. x) refl)) (gram.truth (word_at (codes "true") k g z))), (
+  λ t u X h. X,
+  (
+    λ t u X h. X,
+    (
+      λ t u X h. X,
+      (
+        λ k g t u M h. ((k, u, refl), M k (h k u refl) (name_kind k.kind g).0 (name_kind k.kind g).1),
+        (
+          λ k g h. ((k, λ x. x, refl), λ z. at_place (λ j. gram.value (the_primary.Number j (amount k))) (sym (h k (λ x. x) refl)) (gram.number (number_at k g z))),
+          (
+            λ k g h. ((k, λ x. x, refl), λ z. at_place (λ j. gram.value (the_primary.Text j (said k))) (sym (h k (λ x. x) refl)) (gram.text (text_at k g z))),
+            (
+              λ k g h. ((k, λ x. x, refl), λ z. at_place (λ j. gram.value (the_primary.Macro j (said k))) (sym (h k (λ x. x) refl)) (gram.macro (macro_at k g z))),
+              (
+                λ k g h. ((k, λ x. x, refl), λ z. at_place (λ j. gram.value (the_primary.Truth j true)) (sym (h k (λ x. x) refl)) (gram.truth (word_at (codes "true") k g z))),
+                (
                   λ k g h. ((k, λ x. x, refl), λ z. at_place (λ j. gram.value (the_primary.Truth j false)) (sym (h k (λ x. x) refl)) (gram.falsehood (word_at (codes "false") k g z))),
                   (λ k g h. ((k, λ x. x, refl), λ z. at_place (λ j. gram.value (the_primary.Null j)) (sym (h k (λ x. x) refl)) (gram.null (word_at (codes "null") k g z))), tt),
                 ),
@@ -178,8 +181,11 @@ sound group n = λ at. (
 )
 sound case n = λ at. (
   λ k g i e o u O i2 e2 xs v X i3 e3 y w Y. (
-    λ j l h. ((k, λ z. u (v (w (j ∷ z))), refl), λ z. at_place (λ q. gram.value (the_primary.Case q o xs y)) (sym (h k (λ z. u (v (w (j ∷ z)))) refl))
-        (gram.case e (word_at (codes "case") k g (u (v (w (j ∷ z))))) (O (v (w (j ∷ z)))) (as_deep e e2 (X (w (j ∷ z)))) (as_deep e e3 (Y (j ∷ z))) (word_at (codes "end") j l z))),
+    λ j l h. (
+      (k, λ z. u (v (w (j ∷ z))), refl),
+      λ z. at_place (λ q. gram.value (the_primary.Case q o xs y)) (sym (h k (λ z. u (v (w (j ∷ z)))) refl))
+          (gram.case e (word_at (codes "case") k g (u (v (w (j ∷ z))))) (O (v (w (j ∷ z)))) (as_deep e e2 (X (w (j ∷ z)))) (as_deep e e3 (Y (j ∷ z))) (word_at (codes "end") j l z)),
+    ),
     tt,
   ),
   tt,
@@ -189,8 +195,11 @@ sound cast n = λ at. (
     λ j l i e x u X. (
       λ a b. (
         λ c d. (
-          λ y f h. ((k, λ z. j ∷ u (a ∷ c ∷ y ∷ z), refl), λ z. at_place (λ q. gram.value (the_primary.Cast q x (type_named c))) (sym (h k (λ z. j ∷ u (a ∷ c ∷ y ∷ z)) refl))
-              (gram.cast e (word_at (codes "cast") k g (j ∷ u (a ∷ c ∷ y ∷ z))) (sign_at (codes "(") j l (u (a ∷ c ∷ y ∷ z))) (X.1 (a ∷ c ∷ y ∷ z)) (word_at (codes "as") a b (c ∷ y ∷ z)) (type_at c d (y ∷ z)) (sign_at (codes ")") y f z))),
+          λ y f h. (
+            (k, λ z. j ∷ u (a ∷ c ∷ y ∷ z), refl),
+            λ z. at_place (λ q. gram.value (the_primary.Cast q x (type_named c))) (sym (h k (λ z. j ∷ u (a ∷ c ∷ y ∷ z)) refl))
+                (gram.cast e (word_at (codes "cast") k g (j ∷ u (a ∷ c ∷ y ∷ z))) (sign_at (codes "(") j l (u (a ∷ c ∷ y ∷ z))) (X.1 (a ∷ c ∷ y ∷ z)) (word_at (codes "as") a b (c ∷ y ∷ z)) (type_at c d (y ∷ z)) (sign_at (codes ")") y f z)),
+          ),
           tt,
         ),
         tt,
@@ -213,7 +222,8 @@ sound (arguments f) n = arguments_sound n f
 sound exprs n = λ x u X t v M. (on X.0 v, M u (λ z. gram.one_expr (X.1 z)))
 sound (more_exprs xs) n = (λ k g x u X t v M w p. M (λ z. w (k ∷ u z)) (λ z. gram.more_expr (p (k ∷ u z)) (sign_at (codes ",") k g (u z)) (X.1 z)), λ w p. p)
 sound item n = λ at. (
-  λ k g h z. at_place (λ j. gram.item (the_item.All j)) (sym (h k (λ x. x) refl)) (gram.all (sign_at (codes "*") k g z)), (
+  λ k g h z. at_place (λ j. gram.item (the_item.All j)) (sym (h k (λ x. x) refl)) (gram.all (sign_at (codes "*") k g z)),
+  (
     λ k d m i h z. at_place (λ j. gram.item (the_item.AllOf j (said k))) (sym (h k (λ x. d ∷ m ∷ x) refl))
         (gram.all_of (name_at k (is_named k d m i) (d ∷ m ∷ z)) (sign_at (codes ".") d (is_dot k d m i) (m ∷ z)) (sign_at (codes "*") m (is_times k d m i) z)),
     λ x u X a v A h z. at_place (λ j. gram.item (the_item.Value j x a)) (placed (begun at v h X.0) (v z)) (gram.one_value (X.1 (v z)) (A z)),
@@ -222,7 +232,8 @@ sound item n = λ at. (
 sound items n = λ x u X t v M. M u (λ z. gram.one_item (X z))
 sound (more_items xs) n = (
   λ k g. (
-    λ w p z. (k ∷ z, p (k ∷ z), inr (sign_at (codes ",") k g z)), (
+    λ w p z. (k ∷ z, p (k ∷ z), inr (sign_at (codes ",") k g z)),
+    (
       λ x u X t v M w p. M (λ z. w (k ∷ u z)) (λ z. gram.more_item (p (k ∷ u z)) (sign_at (codes ",") k g (u z)) (X z)),
       λ w p z. (k ∷ z, p (k ∷ z), inr (sign_at (codes ",") k g z)),
     ),
@@ -247,24 +258,29 @@ sound (more_joins at r xs) n = (
   λ w s p z. at_place (λ j. gram.relations (record { at = j; first = r; joins = xs })) (placed s z) (gram.related (p z)),
 )
 sound join n = λ at. (
-  λ k g r u R h z. at_place (λ j. gram.join (the_join.Comma j r)) (sym (h k u refl)) (gram.comma (sign_at (codes ",") k g (u z)) (R.1 z)), (
-    λ k g. (λ j i r u R h z. at_place (λ y. gram.join (the_join.Cross y r)) (sym (h k (λ z. j ∷ u z) refl)) (gram.cross (word_at (codes "cross") k g (j ∷ u z)) (word_at (codes "join") j i (u z)) (R.1 z)), tt), (
+  λ k g r u R h z. at_place (λ j. gram.join (the_join.Comma j r)) (sym (h k u refl)) (gram.comma (sign_at (codes ",") k g (u z)) (R.1 z)),
+  (
+    λ k g. (λ j i r u R h z. at_place (λ y. gram.join (the_join.Cross y r)) (sym (h k (λ z. j ∷ u z) refl)) (gram.cross (word_at (codes "cross") k g (j ∷ u z)) (word_at (codes "join") j i (u z)) (R.1 z)), tt),
+    (
       λ k g. (
         λ j i. (
           λ l m p u X h z. at_place (λ y. gram.join (the_join.Left y p.0 p.1)) (sym (h k (λ z. j ∷ l ∷ u z) refl))
               (gram.left (word_at (codes "left") k g (j ∷ l ∷ u z)) (inr (word_at (codes "outer") j i (l ∷ u z))) (word_at (codes "join") l m (u z)) (X z).2 (X z).3 (X z).4),
           tt,
-        ), (
+        ),
+        (
           λ l m p u X h z. at_place (λ y. gram.join (the_join.Left y p.0 p.1)) (sym (h k (λ z. l ∷ u z) refl))
               (gram.left (word_at (codes "left") k g (l ∷ u z)) (inl refl) (word_at (codes "join") l m (u z)) (X z).2 (X z).3 (X z).4),
           tt,
         ),
-      ), (
+      ),
+      (
         λ k g. (
           λ l m p u X h z. at_place (λ y. gram.join (the_join.Inner y p.0 p.1)) (sym (h k (λ z. l ∷ u z) refl))
               (gram.inner (inr (word_at (codes "inner") k g (l ∷ u z))) (word_at (codes "join") l m (u z)) (X z).2 (X z).3 (X z).4),
           tt,
-        ), (
+        ),
+        (
           λ l m p u X h z. at_place (λ y. gram.join (the_join.Inner y p.0 p.1)) (sym (h l u refl))
               (gram.inner (inl refl) (word_at (codes "join") l m (u z)) (X z).2 (X z).3 (X z).4),
           tt,
@@ -299,8 +315,11 @@ sound cte n = λ at. (
   λ k g. (
     λ j i. (
       λ l m o e x u X. (
-        λ y f h. ((k, λ z. j ∷ l ∷ u (y ∷ z), refl), λ z. at_place (λ q. gram.cte (record { at = q; name = said k; body = x })) (sym (h k (λ z. j ∷ l ∷ u (y ∷ z)) refl))
-            (gram.defined e (name_at k g (j ∷ l ∷ u (y ∷ z))) (word_at (codes "as") j i (l ∷ u (y ∷ z))) (sign_at (codes "(") l m (u (y ∷ z))) (X.1 (y ∷ z)) (sign_at (codes ")") y f z))),
+        λ y f h. (
+          (k, λ z. j ∷ l ∷ u (y ∷ z), refl),
+          λ z. at_place (λ q. gram.cte (record { at = q; name = said k; body = x })) (sym (h k (λ z. j ∷ l ∷ u (y ∷ z)) refl))
+              (gram.defined e (name_at k g (j ∷ l ∷ u (y ∷ z))) (word_at (codes "as") j i (l ∷ u (y ∷ z))) (sign_at (codes "(") l m (u (y ∷ z))) (X.1 (y ∷ z)) (sign_at (codes ")") y f z)),
+        ),
         tt,
       ),
       tt,

@@ -5,7 +5,7 @@ use Rattle.std.proofs.lemmas.Slice.Eq.{bytes_eq-Decides}
 use Rattle.mesh_base.specs.declared.values.ColType.{ColType}
 use Rattle.mesh_tokens.specs.declared.tokens.Token.{Token}
 use Rattle.mesh_tokens.specs.declared.tokens.TokenKind.{TokenKind}
-use Rattle.mesh_tokens.specs.declared.tokens.TokenKind.TheVariants.{Ident, Number, Text, Macro, Sign}
+use Rattle.mesh_tokens.specs.declared.tokens.TokenKind.TheVariants.{Number, Text, Macro, Sign}
 use Rattle.mesh_surface.specs.declared.signs.Cmp.{Cmp}
 use Rattle.mesh_surface.specs.declared.signs.Cmp.TheVariants as cmp
 use Rattle.mesh_surface.specs.declared.signs.AddSign.{AddSign}
@@ -17,9 +17,8 @@ use Rattle.mesh_grammar.specs.Words.{is_reserved, type_of, row_function_of, grou
 use Rattle.mesh_grammar.specs.Signs.{place, Next, IsWord, IsSign, IsName, IsType, cmp_text, add_text, mul_text}
 use Rattle.mesh_grammar.specs.Rules.{Rule, Tree}
 use Rattle.mesh_grammar.specs.Plans.{Plan, accept, said, amount, bytes_of, number_in, kind_is_word, kind_is_sign, kind_is_name, kind_is_text, kind_is_number, kind_is_macro, kind_is_type, negated, is_type_of, the_type, type_named, is_word, is_sign, is_name, is_text, is_number, is_macro, is_type, is_cmp, is_add, is_mul, cmp_said, add_said, mul_said}
-use Rattle.mesh_grammar.specs.Machine.{begins, begins_star, are_star, Runs, accepts}
+use Rattle.mesh_grammar.specs.Machine.{begins, begins_star, Runs, accepts}
 use Rattle.mesh_grammar.proofs.Heads.{same_bytes}
-use Rattle.mesh_grammar.proofs.Scale.{untrue}
 
 own_bytes : (w : List ℕ) → bytes_eq w w ≡ true
 own_bytes w = (bytes_eq-Decides w w).1 refl

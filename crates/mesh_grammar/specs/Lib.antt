@@ -4,6 +4,8 @@ pub mod Words
 pub mod Signs
 -- Grammar: which tokens spell which part of a query.
 pub mod Grammar
+-- Beginnings: which tokens are a query, which begin one, and where others go wrong.
+pub mod Beginnings
 -- Rules: the rules of the grammar, and what may be left of one when its beginning has been read.
 pub mod Rules
 -- Plans: what is done at the next token, for each rule.

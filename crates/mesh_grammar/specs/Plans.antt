@@ -1,5 +1,5 @@
 -- What is done at the next token, for each rule.
-use Rattle.std.specs.Prelude.{ℕ, ℤ, List, [], ◌∷◌, ◌++◌, codes, Bool, true, false, ◌||◌, ◌&&◌, Option, Some, None, if◌then◌else◌}
+use Rattle.std.specs.Prelude.{ℕ, ℤ, List, [], ◌∷◌, ◌++◌, codes, Bool, true, false, ◌||◌, Option, Some, None, if◌then◌else◌}
 use Rattle.std.specs.Str.{bytes_eq}
 use Rattle.mesh_base.specs.declared.values.ColType.{ColType}
 use Rattle.mesh_base.specs.declared.values.ColType.TheVariants as column
@@ -15,14 +15,14 @@ use Rattle.mesh_surface.specs.declared.signs.MulSign.TheVariants as mul
 use Rattle.mesh_surface.specs.declared.signs.Function.{Function}
 use Rattle.mesh_surface.specs.declared.signs.Function.TheVariants as the_function
 use Rattle.mesh_surface.specs.declared.expressions.OrExpr.{OrExpr, roll-OrExpr}
-use Rattle.mesh_surface.specs.declared.expressions.AndExpr.{AndExpr, roll-AndExpr}
+use Rattle.mesh_surface.specs.declared.expressions.AndExpr.{roll-AndExpr}
 use Rattle.mesh_surface.specs.declared.expressions.NotExpr.TheVariants as the_not
 use Rattle.mesh_surface.specs.declared.expressions.Pred.{roll-Pred}
 use Rattle.mesh_surface.specs.declared.expressions.Test.TheVariants as the_test
 use Rattle.mesh_surface.specs.declared.expressions.CatExpr.{roll-CatExpr}
 use Rattle.mesh_surface.specs.declared.expressions.AddExpr.{roll-AddExpr}
 use Rattle.mesh_surface.specs.declared.expressions.AddStep.{roll-AddStep}
-use Rattle.mesh_surface.specs.declared.expressions.MulExpr.{MulExpr, roll-MulExpr}
+use Rattle.mesh_surface.specs.declared.expressions.MulExpr.{roll-MulExpr}
 use Rattle.mesh_surface.specs.declared.expressions.MulStep.{roll-MulStep}
 use Rattle.mesh_surface.specs.declared.expressions.Unary.TheVariants as the_unary
 use Rattle.mesh_surface.specs.declared.expressions.Post.{roll-Post}

@@ -1,11 +1,8 @@
-//! The grammar of queries.
+//! The grammar of queries: which tokens spell which tree, which tokens begin a query, and how both are found with one
+//! token of lookahead. Its contract is its laws: one list of tokens has one tree at most, and one place at most where it
+//! goes wrong. It stands on `mesh_list`, `mesh_base`, `mesh_tokens`, `mesh_surface` and the days of `mesh_time`.
 #![tactic(auto)]
 
-ghost use Rattle.std.specs.Prelude.{◌≡◌, ℕ, List, []};
-ghost use Rattle.mesh_tokens.specs.declared.tokens.Token.{Token};
-ghost use Rattle.mesh_grammar.specs.Machine.{Runs};
+mod laws;
 
-pub fn first()
-    ensures { (n : ℕ) → n ≡ n }
-{
-}
+pub use laws::{one_longest_beginning, one_tree, with_more_room};
