@@ -37,30 +37,30 @@ abbrev pub IsOpened : Bool → List Token → List Token → Type 0
 IsOpened d s e = (m : List Token) × IsWord (codes "select") s m × IsFlag (codes "distinct") d m e
 
 -- what goes on with what was begun
-abbrev pub Goes : (List Token → List Token → Type 0) → (List Token → List Token → Type 0) → Front → Type 0
-Goes R Q u = (w : Front) → Framed R w → Framed Q (λ x. w (u x))
+abbrev pub GoesOn : (List Token → List Token → Type 0) → (List Token → List Token → Type 0) → Front → Type 0
+GoesOn R Q u = (w : Front) → Framed R w → Framed Q (λ x. w (u x))
 
-abbrev pub GoesFrom : ℕ → (List Token → List Token → Type 0) → (List Token → List Token → Type 0) → Front → Type 0
-GoesFrom at R Q u = (w : Front) → Starts at w → Framed R w → Framed Q (λ x. w (u x))
+abbrev pub GoesOnFrom : ℕ → (List Token → List Token → Type 0) → (List Token → List Token → Type 0) → Front → Type 0
+GoesOnFrom at R Q u = (w : Front) → Starts at w → Framed R w → Framed Q (λ x. w (u x))
 
 abbrev pub Means : ℕ → (r : Rule) → Tree r → Front → Type 0
 Means n expr t u = Solid (Spells n (gram.expr t)) u
-Means n (more_ors at xs) t u = GoesFrom at (Spells n (gram.or_parts xs)) (Spells n (gram.expr t)) u
+Means n (more_ors at xs) t u = GoesOnFrom at (Spells n (gram.or_parts xs)) (Spells n (gram.expr t)) u
 Means n conjunction t u = Solid (Spells n (gram.conjunction t)) u
-Means n (more_ands at xs) t u = GoesFrom at (Spells n (gram.and_parts xs)) (Spells n (gram.conjunction t)) u
+Means n (more_ands at xs) t u = GoesOnFrom at (Spells n (gram.and_parts xs)) (Spells n (gram.conjunction t)) u
 Means n negation t u = Solid (Spells n (gram.negation t)) u
 Means n pred t u = Solid (Spells n (gram.pred t)) u
 Means n tested t u = Framed (Spells n (gram.tested t)) u
 Means n (ranged g) t u = Framed (Spells n (gram.ranged g t)) u
 Means n cat t u = Solid (Spells n (gram.cat t)) u
-Means n (more_cats at xs) t u = GoesFrom at (Spells n (gram.cat_parts xs)) (Spells n (gram.cat t)) u
+Means n (more_cats at xs) t u = GoesOnFrom at (Spells n (gram.cat_parts xs)) (Spells n (gram.cat t)) u
 Means n sum t u = Solid (Spells n (gram.sum t)) u
-Means n (more_sums at y xs) t u = GoesFrom at (Spells n (gram.sum_steps y xs)) (Spells n (gram.sum t)) u
+Means n (more_sums at y xs) t u = GoesOnFrom at (Spells n (gram.sum_steps y xs)) (Spells n (gram.sum t)) u
 Means n product t u = Solid (Spells n (gram.product t)) u
-Means n (more_products at y xs) t u = GoesFrom at (Spells n (gram.product_steps y xs)) (Spells n (gram.product t)) u
+Means n (more_products at y xs) t u = GoesOnFrom at (Spells n (gram.product_steps y xs)) (Spells n (gram.product t)) u
 Means n signed t u = Solid (Spells n (gram.signed t)) u
 Means n post t u = Solid (Spells n (gram.post t)) u
-Means n (more_casts at v ks) t u = GoesFrom at (Spells n (gram.casts v ks)) (Spells n (gram.post t)) u
+Means n (more_casts at v ks) t u = GoesOnFrom at (Spells n (gram.casts v ks)) (Spells n (gram.post t)) u
 Means n value t u = Solid (Spells n (gram.value t)) u
 Means n (named at name) t u =
     (k : Token) → at ≡ k.start → k.kind ≡ Ident name → is_reserved name ≡ false → Framed (Spells n (gram.value t)) (λ x. k ∷ u x)
@@ -69,32 +69,32 @@ Means n case t u = Solid (Spells n (gram.value t)) u
 Means n cast t u = Solid (Spells n (gram.value t)) u
 Means n operand t u = Framed (Spells n (gram.operand t)) u
 Means n arms t u = Framed (Spells n (gram.arms t)) u
-Means n (more_arms xs) t u = Goes (Spells n (gram.arms xs)) (Spells n (gram.arms t)) u
+Means n (more_arms xs) t u = GoesOn (Spells n (gram.arms xs)) (Spells n (gram.arms t)) u
 Means n arm t u = Framed (Spells n (gram.arm t)) u
 Means n otherwise t u = Framed (Spells n (gram.otherwise t)) u
 Means n (arguments f) t u = Framed (Spells n (gram.arguments f t)) u
 Means n exprs t u = Solid (Spells n (gram.exprs t)) u
-Means n (more_exprs xs) t u = Goes (Spells n (gram.exprs xs)) (Spells n (gram.exprs t)) u
+Means n (more_exprs xs) t u = GoesOn (Spells n (gram.exprs xs)) (Spells n (gram.exprs t)) u
 Means n item t u = Framed (Spells n (gram.item t)) u
 Means n items t u = Framed (Listed n t) u
-Means n (more_items xs) t u = Goes (Spells n (gram.items xs)) (Listed n t) u
+Means n (more_items xs) t u = GoesOn (Spells n (gram.items xs)) (Listed n t) u
 Means n alias t u = Framed (IsAlias t) u
 Means n qualified t u = Solid (IsQualified t.0 t.1) u
 Means n relation t u = Solid (IsRelation t) u
 Means n relations t u = Framed (Spells n (gram.relations t)) u
-Means n (more_joins at r xs) t u = GoesFrom at (Spells n (gram.joined r xs)) (Spells n (gram.relations t)) u
+Means n (more_joins at r xs) t u = GoesOnFrom at (Spells n (gram.joined r xs)) (Spells n (gram.relations t)) u
 Means n join t u = Framed (Spells n (gram.join t)) u
 Means n joined t u = Framed (IsRelationOn n t.0 t.1) u
 Means n source t u = Framed (Spells n (gram.source t)) u
 Means n (condition w) t u = Framed (Spells n (gram.condition w t)) u
 Means n keys t u = Framed (Spells n (gram.keys t)) u
 Means n select t u = Solid (Spells n (gram.select t)) u
-Means n (selected at d) t u = GoesFrom at (IsOpened d) (Spells n (gram.select t)) u
+Means n (selected at d) t u = GoesOnFrom at (IsOpened d) (Spells n (gram.select t)) u
 Means n union t u = Solid (Spells n (gram.union t)) u
-Means n (more_selects at xs) t u = GoesFrom at (Spells n (gram.selects xs)) (Spells n (gram.union t)) u
+Means n (more_selects at xs) t u = GoesOnFrom at (Spells n (gram.selects xs)) (Spells n (gram.union t)) u
 Means n cte t u = Solid (Spells n (gram.cte t)) u
 Means n cte_list t u = Solid (Spells n (gram.cte_list t)) u
-Means n (more_ctes xs) t u = Goes (Spells n (gram.cte_list xs)) (Spells n (gram.cte_list t)) u
+Means n (more_ctes xs) t u = GoesOn (Spells n (gram.cte_list xs)) (Spells n (gram.cte_list t)) u
 Means n ctes t u = ((u ≡ (λ x. x)) ⊎ Begins u) × Framed (Spells n (gram.ctes t)) u
 Means n query t u = Framed (Spells n (gram.query t)) u
 

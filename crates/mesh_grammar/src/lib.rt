@@ -5,4 +5,7 @@
 
 mod laws;
 
-pub use laws::{one_longest_beginning, one_tree, with_more_room};
+pub use laws::{
+    a_failed_run_ends_behind_the_longest_beginning, one_longest_beginning, one_tree,
+    what_is_read_is_spelled, with_more_room,
+};
