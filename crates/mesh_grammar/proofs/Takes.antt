@@ -5,7 +5,7 @@ use Rattle.std.proofs.lemmas.Slice.Eq.{bytes_eq-Decides}
 use Rattle.mesh_base.specs.declared.values.ColType.{ColType}
 use Rattle.mesh_tokens.specs.declared.tokens.Token.{Token}
 use Rattle.mesh_tokens.specs.declared.tokens.TokenKind.{TokenKind}
-use Rattle.mesh_tokens.specs.declared.tokens.TokenKind.TheVariants.{Number, Text, Macro, Sign}
+use Rattle.mesh_tokens.specs.declared.tokens.TokenKind.TheVariants.{Ident, Number, Text, Macro, Sign}
 use Rattle.mesh_surface.specs.declared.signs.Cmp.{Cmp}
 use Rattle.mesh_surface.specs.declared.signs.Cmp.TheVariants as cmp
 use Rattle.mesh_surface.specs.declared.signs.AddSign.{AddSign}
@@ -22,6 +22,18 @@ use Rattle.mesh_grammar.proofs.Heads.{same_bytes}
 
 own_bytes : (w : List ℕ) → bytes_eq w w ≡ true
 own_bytes w = (bytes_eq-Decides w w).1 refl
+
+pub word_taken : (w : List ℕ) (k : Token) → k.kind ≡ Ident w → is_word w k ≡ true
+word_taken w k h = ap (kind_is_word w) h ∙ own_bytes w
+
+pub sign_taken : (w : List ℕ) (k : Token) → k.kind ≡ Sign w → is_sign w k ≡ true
+sign_taken w k h = ap (kind_is_sign w) h ∙ own_bytes w
+
+pub name_taken : {x : List ℕ} {s m : List Token} (h : IsName x s m) → (is_name h.0.0 ≡ true) × (said h.0.0 ≡ x)
+name_taken h = (ap kind_is_name h.0.2 ∙ ap negated h.1, ap bytes_of h.0.2)
+
+pub type_taken : {x : ColType} {s m : List Token} (h : IsType x s m) → (is_type h.1.0 ≡ true) × (type_named h.1.0 ≡ x)
+type_taken h = (ap kind_is_type h.1.2 ∙ ap is_type_of h.2, ap (λ (z : TokenKind). the_type (type_of (bytes_of z))) h.1.2 ∙ ap the_type h.2)
 
 pub takes_word : {n : ℕ} {r : Rule} (w : List ℕ) {f : Token → Plan r} {q : Plan r} {t : Tree r} {s m e : List Token} (h : IsWord w s m) → Runs n r (f h.0) t m e → Runs n r (accept (is_word w) f q) t s e
 takes_word {n = n} {r = r} w {f = f} {q = q} {t = t} {e = e} h d =
@@ -187,3 +199,12 @@ starless_dot k (d ∷ m ∷ s) h = false_second (is_name k) (is_sign (codes ".")
 pub starless_times : (k d : Token) (s : List Token) → begins (is_sign (codes "*")) s ≡ false → begins_star (k ∷ d ∷ s) ≡ false
 starless_times k d [] h = refl
 starless_times k d (m ∷ s) h = false_third (is_name k) (is_sign (codes ".") d) (is_sign (codes "*") m) h
+
+pub cmp_taken : (o : Cmp) {s m : List Token} (h : IsSign (cmp_text o) s m) → (is_cmp h.0 ≡ true) × (cmp_said (said h.0) ≡ o)
+cmp_taken o h = (ap kind_is_cmp h.2 ∙ cmp_true o, ap (λ (z : TokenKind). cmp_said (bytes_of z)) h.2 ∙ cmp_read o)
+
+pub add_taken : (o : AddSign) {s m : List Token} (h : IsSign (add_text o) s m) → (is_add h.0 ≡ true) × (add_said (said h.0) ≡ o)
+add_taken o h = (ap kind_is_add h.2 ∙ add_true o, ap (λ (z : TokenKind). add_said (bytes_of z)) h.2 ∙ add_read o)
+
+pub mul_taken : (o : MulSign) {s m : List Token} (h : IsSign (mul_text o) s m) → (is_mul h.0 ≡ true) × (mul_said (said h.0) ≡ o)
+mul_taken o h = (ap kind_is_mul h.2 ∙ mul_true o, ap (λ (z : TokenKind). mul_said (bytes_of z)) h.2 ∙ mul_read o)

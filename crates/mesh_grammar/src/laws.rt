@@ -26,8 +26,7 @@ pub fn one_longest_beginning()
 /// With one token of lookahead exactly those tokens are read to their end that the grammar spells.
 pub fn what_is_read_is_spelled()
     ensures { (ts : List Token) (n : ℕ) (a : Surface) → Reads n the_query a ts [] ↔ Spells n (query a) ts [] }
-{
-}
+{}
 
 /// Where reading fails, what was taken is the longest beginning of a query, and the whole is none.
 pub fn a_failed_run_ends_behind_the_longest_beginning()
@@ -36,5 +35,4 @@ pub fn a_failed_run_ends_behind_the_longest_beginning()
     ensures left_over { (ts rest : List Token) (k : Token) (n : ℕ) (a : Surface) → Reads n the_query a ts (k ∷ rest) →
         (front : List Token) × (ts ≡ front ++ k ∷ rest) × IsLongestBegun ts front × ((b : Surface) → IsQuery b ts → ⊥) }
     ensures too_deep { (ts rest : List Token) (n : ℕ) → Fails nesting n the_query (plan the_query) ts rest → (a : Surface) → Spells n (query a) ts [] → ⊥ }
-{
-}
+{}
