@@ -1,2 +1,1 @@
-pub mod NextToken
 pub mod Refused

@@ -3,23 +3,22 @@
 ghost use Rattle.std.specs.Prelude.{◌≡◌, ℕ, codes, true, IfOk};
 ghost use Rattle.mesh_surface.specs.declared.signs.Function.{Function as Functions};
 ghost use Rattle.mesh_surface.specs.declared.signs.Function.TheVariants.{Count};
-ghost use Rattle.mesh_query.specs.Signs.{IsWord};
-ghost use Rattle.mesh_query.specs.Grammar.{expr as an_expr, conjunction as a_conjunction, negation as a_negation, pred as a_pred, tested, ranged, cat as a_cat, sum as a_sum, product as a_product, signed, post as a_post, value, operand, arms as some_arms, arm as an_arm, otherwise, arguments, exprs as some_exprs, takes_one};
-ghost use Rattle.mesh_query.specs.Places.{Reads, ReadsBehind, ReadsOn};
+ghost use Rattle.mesh_grammar.specs.Signs.{IsWord};
+ghost use Rattle.mesh_grammar.specs.Grammar.{expr as an_expr, conjunction as a_conjunction, negation as a_negation, pred as a_pred, tested, ranged, cat as a_cat, sum as a_sum, product as a_product, signed, post as a_post, value, operand, arms as some_arms, arm as an_arm, otherwise, arguments, exprs as some_exprs, takes_one};
+ghost use Rattle.mesh_words.specs.Places.{Reads, ReadsBehind, ReadsOn};
 
-use crate::cursor::{
-    called, column_type, is_date, is_name, is_sign, is_word, nested, place, sign, word,
-};
-use crate::fault::Fault;
 use crate::literals::{column, literal};
 use crate::nodes::Nodes;
-use crate::signs::{add_sign, comparison, mul_sign};
 use mesh_list::{Boxed, Seq};
 use mesh_surface::{
     AddExpr, AddStep, AndExpr, Args, Arm, CatExpr, Function, MulExpr, MulStep, NotExpr, OrExpr,
     Post, Pred, Primary, Test, Unary,
 };
 use mesh_tokens::Token;
+use mesh_words::{
+    Fault, add_sign, called, column_type, comparison, is_date, is_name, is_sign, is_word, mul_sign,
+    nested, place, sign, word,
+};
 use std::alloc::Global;
 
 /// Parts with OR between them.

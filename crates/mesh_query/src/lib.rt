@@ -3,9 +3,7 @@
 //! at once. It stands on `mesh_list`, `mesh_base`, `mesh_tokens`, `mesh_surface` and the days of `mesh_time`.
 #![tactic(auto)]
 
-mod cursor;
 mod expressions;
-mod fault;
 mod literals;
 mod nodes;
 mod queries;
@@ -13,10 +11,8 @@ mod reader;
 mod relations;
 #[cfg(test)]
 mod shown;
-mod signs;
 #[cfg(test)]
 mod tests;
-mod words;
 
 pub use mesh_tokens::tokens_of as tokens;
 pub use reader::parse;

@@ -1,16 +1,15 @@
 // Values that one token or two spell.
 ghost use Rattle.std.specs.Prelude.{ℕ, IfOk};
-ghost use Rattle.mesh_query.specs.Signs.{IsDay};
-ghost use Rattle.mesh_query.specs.Grammar.{value};
-ghost use Rattle.mesh_query.specs.Places.{Takes, Reads};
+ghost use Rattle.mesh_grammar.specs.Signs.{IsDay};
+ghost use Rattle.mesh_grammar.specs.Grammar.{value};
+ghost use Rattle.mesh_words.specs.Places.{Takes, Reads};
 
-use crate::cursor::{is_word, place, qualified};
-use crate::fault::Fault;
 use crate::nodes::Nodes;
 use mesh_list::Duplicate;
 use mesh_surface::Primary;
 use mesh_time::day_of;
 use mesh_tokens::{Token, TokenKind};
+use mesh_words::{Fault, is_word, place, qualified};
 
 /// A number, a text, a macro, or what a word spells.
 pub fn literal(tokens: &[Token], nodes: &mut Nodes, from: usize) -> Result<(Primary, usize), Fault>

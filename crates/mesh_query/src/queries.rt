@@ -1,18 +1,17 @@
 // Whole queries. Each function reads its form from a token on, and answers it with the place behind it.
 ghost use Rattle.std.specs.Prelude.{codes, IfOk};
-ghost use Rattle.mesh_query.specs.Signs.{IsAlias, IsFlag, IsOptionalSign};
-ghost use Rattle.mesh_query.specs.Grammar.{Spells, query as a_query, ctes as some_ctes, cte_list as a_cte_list, exprs as some_exprs, cte as a_cte, union as a_union, select as a_select, items as some_items, item as an_item, condition, keys as some_keys};
-ghost use Rattle.mesh_query.specs.Places.{Reads, Reaches, ReachesBy};
+ghost use Rattle.mesh_grammar.specs.Signs.{IsAlias, IsFlag, IsOptionalSign};
+ghost use Rattle.mesh_grammar.specs.Grammar.{Spells, query as a_query, ctes as some_ctes, cte_list as a_cte_list, exprs as some_exprs, cte as a_cte, union as a_union, select as a_select, items as some_items, item as an_item, condition, keys as some_keys};
+ghost use Rattle.mesh_words.specs.Places.{Reads, Reaches, ReachesBy};
 
-use crate::cursor::{is_name, is_sign, is_word, name, nested, place, sign, word};
 use crate::expressions::expr;
-use crate::fault::Fault;
 use crate::nodes::Nodes;
 use crate::relations::source;
 use mesh_base::Str;
 use mesh_list::Seq;
 use mesh_surface::{OrExpr, Surface, SurfaceCte, SurfaceItem, SurfaceSelect, SurfaceUnion};
 use mesh_tokens::Token;
+use mesh_words::{Fault, is_name, is_sign, is_word, name, nested, place, sign, word};
 use std::alloc::Global;
 
 /// A query with its common table expressions, and a `;` if one stands behind it.

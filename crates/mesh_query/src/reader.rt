@@ -1,16 +1,18 @@
 // From the tokens to the tree, or to the fault that is printed.
-ghost use Rattle.std.specs.Prelude.{drop, [], IfOk, IfErr};
+ghost use Rattle.std.specs.Prelude.{◌≡◌, drop, [], IfOk, IfErr};
+ghost use Rattle.mesh_surface.specs.declared.queries.Surface.{Surface};
 ghost use Rattle.mesh_query.specs.Refusals.{IsEnd, IsLimit, IsRefusal};
-ghost use Rattle.mesh_query.specs.Grammar.{Spells, query as a_query};
-ghost use Rattle.mesh_query.specs.Places.{deepest};
+ghost use Rattle.mesh_grammar.specs.Grammar.{Spells, query as a_query};
+ghost use Rattle.mesh_grammar.specs.Beginnings.{IsQuery};
+ghost use Rattle.mesh_words.specs.Places.{deepest};
 
-use crate::fault::Fault;
 use crate::nodes::Nodes;
 use crate::queries::query;
 use mesh_base::{DEEPEST_NESTING, LARGEST_EXPRESSION, Str};
 use mesh_list::{Duplicate, Memory, Seq};
 use mesh_surface::Surface;
 use mesh_tokens::{FaultKind, ReadFault, Token, Tokens};
+use mesh_words::Fault;
 use std::alloc::Global;
 
 /// Parentheses, CASEs, NOTs and minus signs that may be open round a token.
@@ -22,6 +24,8 @@ const NESTING: u32 = 64;
 pub fn parse(tokens: &Tokens, from: u32) -> Result<Surface, ReadFault>
     // What is read is spelled by the tokens.
     ensures found { IfOk result (λ tree. Spells deepest (a_query tree) (drop from tokens.now) []) }
+    // No other tree has the same tokens.
+    ensures only { IfOk result (λ tree. (other : Surface) → IsQuery other (drop from tokens.now) → tree ≡ other) }
     // What is refused breaks the grammar or a limit, or memory is out.
     ensures refused { IfErr result (IsRefusal tokens.now) }
 {

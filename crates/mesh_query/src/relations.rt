@@ -1,17 +1,16 @@
 // What a SELECT reads from.
 ghost use Rattle.std.specs.Prelude.{◌<◌, ◌≤◌, drop, length, IsTrue, IfOk};
-ghost use Rattle.mesh_query.specs.Signs.{IsRelation};
-ghost use Rattle.mesh_query.specs.Grammar.{source as a_source, relations as some_relations, join as a_join, IsRelationOn};
-ghost use Rattle.mesh_query.specs.Places.{Reads, ReadsOn, Reaches};
+ghost use Rattle.mesh_grammar.specs.Signs.{IsRelation};
+ghost use Rattle.mesh_grammar.specs.Grammar.{source as a_source, relations as some_relations, join as a_join, IsRelationOn};
+ghost use Rattle.mesh_words.specs.Places.{Reads, ReadsOn, Reaches};
 
-use crate::cursor::{is_sign, is_word, optional, place, qualified, word};
 use crate::expressions::expr;
-use crate::fault::Fault;
 use crate::nodes::Nodes;
 use crate::queries::alias;
 use mesh_list::Seq;
 use mesh_surface::{OrExpr, SurfaceFrom, SurfaceJoin, SurfaceRel};
 use mesh_tokens::Token;
+use mesh_words::{Fault, is_sign, is_word, optional, place, qualified, word};
 use std::alloc::Global;
 
 /// FROM and its relations, or none.

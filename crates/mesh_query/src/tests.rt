@@ -164,8 +164,8 @@ fn trees_of_queries(rt: HostRuntime) -> Result<(), TestFail> {
 }
 
 // The place of the fault of syntax, or 999 where there is another answer.
-fn place(alloc: Global, written: &[u8]) -> Result<u64, TestFail> {
-    match parse(&tokens(alloc, written)?, 0) {
+fn place_from(alloc: Global, written: &[u8], from: u32) -> Result<u64, TestFail> {
+    match parse(&tokens(alloc, written)?, from) {
         Err(
             ReadFault::Fault {
                 at,
@@ -174,6 +174,26 @@ fn place(alloc: Global, written: &[u8]) -> Result<u64, TestFail> {
         ) => Ok(at),
         _ => Ok(999),
     }
+}
+
+fn place(alloc: Global, written: &[u8]) -> Result<u64, TestFail> {
+    place_from(alloc, written, 0)
+}
+
+#[test]
+fn places_of_faults_behind_other_tokens(rt: HostRuntime) -> Result<(), TestFail> {
+    let cases: [(&[u8], u32, u64); 6] = [
+        (b"a ; select a b c", 2, 14),
+        (b"a ; b", 2, 3),
+        (b"a ;", 2, 3),
+        (b"a ;", 9, 3),
+        (b"select select a from", 1, 20),
+        (b"select select a", 1, 999),
+    ];
+    for (written, from, at) in cases {
+        assert_eq!(rt; place_from(rt.alloc(), written, from)?, at);
+    }
+    Ok(())
 }
 
 #[test]
@@ -242,6 +262,15 @@ fn long(alloc: Global, operators: usize) -> Result<Vec<u8>, TestFail> {
     Ok(written)
 }
 
+// The query `SELECT a OR .. OR a` with that many operators.
+fn long_or(alloc: Global, operators: usize) -> Result<Vec<u8>, TestFail> {
+    let mut written = Vec::from_slice(alloc, b"select a")?;
+    for _ in 0..operators {
+        written.extend_from_slice(b" or a")?;
+    }
+    Ok(written)
+}
+
 // The first byte of the limit that is passed, or 0.
 fn limit(alloc: Global, written: &[u8]) -> Result<u8, TestFail> {
     match parse(&tokens(alloc, written)?, 0) {
@@ -266,5 +295,37 @@ fn limits(rt: HostRuntime) -> Result<(), TestFail> {
     assert_eq!(rt; limit(alloc, deep(alloc, 65)?.as_slice())?, b'n');
     assert_eq!(rt; limit(alloc, long(alloc, 2047)?.as_slice())?, 0);
     assert_eq!(rt; limit(alloc, long(alloc, 2048)?.as_slice())?, b'e');
+    Ok(())
+}
+
+#[test]
+fn chains_of_or(rt: HostRuntime) -> Result<(), TestFail> {
+    let alloc = rt.alloc();
+    assert_eq!(rt; limit(alloc, long_or(alloc, 2047)?.as_slice())?, 0);
+    assert_eq!(rt; limit(alloc, long_or(alloc, 4000)?.as_slice())?, b'e');
+    Ok(())
+}
+
+// The first fault of a text wins: a limit that was passed earlier, or a token that can't stand there.
+#[test]
+fn first_faults(rt: HostRuntime) -> Result<(), TestFail> {
+    let alloc = rt.alloc();
+    let mut long_then_deep = long(alloc, 2048)?;
+    long_then_deep.extend_from_slice(b" +")?;
+    for _ in 0..65 {
+        long_then_deep.extend_from_slice(b" (")?;
+    }
+    assert_eq!(rt; limit(alloc, long_then_deep.as_slice())?, b'e');
+    let mut long_then_wrong = long(alloc, 2048)?;
+    long_then_wrong.extend_from_slice(b" )")?;
+    assert_eq!(rt; limit(alloc, long_then_wrong.as_slice())?, b'e');
+    let mut deep_then_wrong = deep(alloc, 65)?;
+    deep_then_wrong.extend_from_slice(b" )")?;
+    assert_eq!(rt; limit(alloc, deep_then_wrong.as_slice())?, b'n');
+    let mut wrong_then_long = Vec::from_slice(alloc, b"select ) , 1")?;
+    for _ in 0..4100 {
+        wrong_then_long.extend_from_slice(b" + 1")?;
+    }
+    assert_eq!(rt; place(alloc, wrong_then_long.as_slice())?, 6);
     Ok(())
 }

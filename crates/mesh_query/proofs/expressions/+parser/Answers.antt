@@ -1,6 +1,6 @@
 use Rattle.std.proofs.Common.{arith}
 use Rattle.std.proofs.lemmas.Result.{IfOk-weaker}
-use Rattle.mesh_query.specs.Grammar as gram
+use Rattle.mesh_grammar.specs.Grammar as gram
 use Rattle.mesh_query.proofs.expressions.+parser.Goals as goal
 
 pub args-returns-in_ok-values-in-Coalesce : goal.args-returns-in_ok-values-in-Coalesce
@@ -62,7 +62,7 @@ case-returns t c =
 
 pub case_else-returns-then-is_word : goal.case_else-returns-then-is_word
 case_else-returns-then-is_word t c =
-    let word = c.is_word.ensures c.if-is_word.true in
+    let word = c.is_word.ensures.taken c.if-is_word.true in
     let value = c.in_ok-otherwise.ensures in
     rw c.in_ok-otherwise-2.ensures (omega (arith, value.0), gram.an_else word.2 value.1)
 
@@ -96,7 +96,7 @@ cat-cats-init t c =
 pub cat-cats-preserved : goal.cat-cats-preserved
 cat-cats-preserved t c =
     let before = c.cats.invariant in
-    let sign = c.is_sign.ensures c.cats-test.true in
+    let sign = c.is_sign.ensures.taken c.cats-test.true in
     let more = c.in_ok-part.ensures in
     rw c.in_ok-push-2.ensures.ok (omega (arith, before.0, more.0), gram.more_cat before.1 sign.2 more.1)
 
@@ -111,7 +111,7 @@ conjunction-ands-init t c =
 pub conjunction-ands-preserved : goal.conjunction-ands-preserved
 conjunction-ands-preserved t c =
     let before = c.ands.invariant in
-    let sign = c.is_word.ensures c.ands-test.true in
+    let sign = c.is_word.ensures.taken c.ands-test.true in
     let more = c.in_ok-part.ensures in
     rw c.in_ok-push-2.ensures.ok (omega (arith, before.0, more.0), gram.more_and before.1 sign.2 more.1)
 
@@ -119,11 +119,11 @@ pub conjunction-returns : goal.conjunction-returns
 conjunction-returns t c = rw c.place.ensures (c.ands.invariant.0, gram.ands c.ands.invariant.1)
 
 pub count_args-returns-then-is_sign : goal.count_args-returns-then-is_sign
-count_args-returns-then-is_sign t c = rw c.place-at.ensures (omega arith, gram.star (c.is_sign.ensures c.if-is_sign.true).2)
+count_args-returns-then-is_sign t c = rw c.place-at.ensures (omega arith, gram.star (c.is_sign.ensures.taken c.if-is_sign.true).2)
 
 pub count_args-returns-then-is_word : goal.count_args-returns-then-is_word
 count_args-returns-then-is_word t c =
-    let word = c.is_word.ensures c.if-is_word.true in
+    let word = c.is_word.ensures.taken c.if-is_word.true in
     let value = c.in_ok-value.ensures in
     rw (c.place-at.ensures, c.in_ok-value-2.ensures) (omega (arith, value.0), gram.different word.2 value.1)
 
@@ -135,7 +135,7 @@ expr-ors-init t c =
 pub expr-ors-preserved : goal.expr-ors-preserved
 expr-ors-preserved t c =
     let before = c.ors.invariant in
-    let sign = c.is_word.ensures c.ors-test.true in
+    let sign = c.is_word.ensures.taken c.ors-test.true in
     let more = c.in_ok-part.ensures in
     rw c.in_ok-push-2.ensures.ok (omega (arith, before.0, more.0), gram.more_or before.1 sign.2 more.1)
 
@@ -150,7 +150,7 @@ exprs-commas-init t c =
 pub exprs-commas-preserved : goal.exprs-commas-preserved
 exprs-commas-preserved t c =
     let before = c.commas.invariant in
-    let sign = c.is_sign.ensures c.commas-test.true in
+    let sign = c.is_sign.ensures.taken c.commas-test.true in
     let more = c.in_ok-more.ensures in
     rw c.in_ok-push-2.ensures.ok (omega (arith, before.0, more.0), gram.more_expr before.1 sign.2 more.1)
 
@@ -163,7 +163,7 @@ group-returns t c =
 
 pub negation-returns-then-is_word : goal.negation-returns-then-is_word
 negation-returns-then-is_word t c =
-    let word = c.is_word.ensures c.if-is_word.true in
+    let word = c.is_word.ensures.taken c.if-is_word.true in
     let inner = c.in_ok-inner.ensures in
     rw (c.place-at.ensures, c.in_ok-inner-2.ensures) (omega (arith, inner.0), gram.negated c.in_ok-deeper.ensures word.2 inner.1)
 
@@ -188,7 +188,7 @@ post-casts-init t c = let value = c.in_ok-value.ensures in rw c.new-casts.ensure
 pub post-casts-preserved : goal.post-casts-preserved
 post-casts-preserved t c =
     let before = c.casts.invariant in
-    let sign = c.is_sign.ensures c.casts-test.true in
+    let sign = c.is_sign.ensures.taken c.casts-test.true in
     let more = c.in_ok-kind.ensures in
     rw c.in_ok-push.ensures.ok (omega (arith, before.0, more.0), gram.more_cast before.1 sign.2 more.2)
 
@@ -229,12 +229,12 @@ sum-returns t c = rw c.place-2.ensures (c.sums.invariant.0, gram.sums c.sums.inv
 
 pub test-returns-then-is_word : goal.test-returns-then-is_word
 test-returns-then-is_word t c =
-    let word = c.is_word.ensures c.if-is_word.true in
+    let word = c.is_word.ensures.taken c.if-is_word.true in
     IfOk-weaker c.null_test.result _ _ (λ p h. let behind = h c.args.depth in (omega (arith, behind.0), behind.1 _ word.2)) c.null_test.ensures
 
 pub test-returns-then-is_word-2 : goal.test-returns-then-is_word-2
 test-returns-then-is_word-2 t c =
-    let word = c.is_word-2.ensures c.if-is_word-2.true in
+    let word = c.is_word-2.ensures.taken c.if-is_word-2.true in
     IfOk-weaker c.range_test.result _ _ (λ p h. (omega (arith, h.0), gram.without_range word.2 h.1)) c.range_test.ensures
 
 pub test-returns-then-is_word-3 : goal.test-returns-then-is_word-3
@@ -251,7 +251,7 @@ test-returns-in-None t c = (omega arith, gram.nothing)
 
 pub unary-returns-then-is_sign : goal.unary-returns-then-is_sign
 unary-returns-then-is_sign t c =
-    let sign = c.is_sign.ensures c.if-is_sign.true in
+    let sign = c.is_sign.ensures.taken c.if-is_sign.true in
     let inner = c.in_ok-inner.ensures in
     rw (c.place-at.ensures, c.in_ok-inner-2.ensures) (omega (arith, inner.0), gram.minus c.in_ok-deeper.ensures sign.2 inner.1)
 

@@ -1,5 +1,5 @@
 use Rattle.std.proofs.Common.{◌+◌, ◌*◌, ◌-◌, ◌≤◌, drop, length}
-use Rattle.mesh_query.specs.Grammar.{Spells, or_parts, and_parts, cat_parts, sum_steps, product_steps, casts, arms, exprs}
+use Rattle.mesh_grammar.specs.Grammar.{Spells, or_parts, and_parts, cat_parts, sum_steps, product_steps, casts, arms, exprs}
 use Rattle.mesh_query.proofs.expressions.+parser.Given as goal
 
 abbrev pub decreases-call : goal.decreases-call

@@ -1,4 +1,4 @@
-use Rattle.mesh_query.specs.Grammar.{column}
+use Rattle.mesh_grammar.specs.Grammar.{column}
 use Rattle.mesh_query.proofs.literals.column.Goals as goal
 
 pub returns : goal.returns

@@ -1,7 +1,7 @@
 use Rattle.std.proofs.Common.{arith}
 use Rattle.mesh_tokens.specs.declared.tokens.TokenKind.TheVariants as the_kind
-use Rattle.mesh_query.specs.Grammar.{number, text, macro}
-use Rattle.mesh_query.proofs.NextToken.{next_at}
+use Rattle.mesh_grammar.specs.Grammar.{number, text, macro}
+use Rattle.mesh_words.proofs.NextToken.{next_at}
 use Rattle.mesh_query.proofs.literals.literal.Goals as goal
 
 pub returns-in-Number : goal.returns-in-Number

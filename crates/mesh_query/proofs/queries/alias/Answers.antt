@@ -3,7 +3,7 @@ use Rattle.mesh_query.proofs.queries.alias.Goals as goal
 
 pub returns-then-is_word : goal.returns-then-is_word
 returns-then-is_word c =
-    let word = c.is_word.ensures c.if-is_word.true in
+    let word = c.is_word.ensures.taken c.if-is_word.true in
     let name = c.in_ok-alias.ensures in
     (omega (arith, name.0), inr (_, word.2, name.2))
 

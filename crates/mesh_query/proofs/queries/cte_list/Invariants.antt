@@ -1,5 +1,5 @@
 use Rattle.std.proofs.Common.{◌≤◌, ◌-◌, drop, length}
-use Rattle.mesh_query.specs.Grammar.{Spells, cte_list}
+use Rattle.mesh_grammar.specs.Grammar.{Spells, cte_list}
 use Rattle.mesh_query.proofs.queries.cte_list.Given as goal
 
 abbrev pub invariant-commas : goal.invariant-commas

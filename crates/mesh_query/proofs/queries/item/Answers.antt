@@ -1,10 +1,10 @@
 use Rattle.std.proofs.Common.{arith}
-use Rattle.mesh_query.specs.Grammar as gram
+use Rattle.mesh_grammar.specs.Grammar as gram
 use Rattle.mesh_query.proofs.queries.item.Goals as goal
 
 pub returns-then-is_sign : goal.returns-then-is_sign
 returns-then-is_sign c =
-    rw c.place-at.ensures (omega arith, gram.all (c.is_sign.ensures c.if-is_sign.true).2)
+    rw c.place-at.ensures (omega arith, gram.all (c.is_sign.ensures.taken c.if-is_sign.true).2)
 
 pub returns-then-is_all_of : goal.returns-then-is_all_of
 returns-then-is_all_of c =

@@ -1,5 +1,5 @@
 use Rattle.std.proofs.Common.{◌≤◌, ◌-◌, drop, length}
-use Rattle.mesh_query.specs.Grammar.{Spells, items}
+use Rattle.mesh_grammar.specs.Grammar.{Spells, items}
 use Rattle.mesh_query.proofs.queries.items.Given as goal
 
 abbrev pub invariant-commas : goal.invariant-commas

@@ -1,5 +1,5 @@
 use Rattle.std.proofs.Common.{◌≤◌, ◌-◌, drop, length}
-use Rattle.mesh_query.specs.Grammar.{Spells, selects}
+use Rattle.mesh_grammar.specs.Grammar.{Spells, selects}
 use Rattle.mesh_query.proofs.queries.union.Given as goal
 
 abbrev pub invariant-unions : goal.invariant-unions

@@ -1,7 +1,7 @@
 use Rattle.std.proofs.Common.{List, drop, subst}
 use Rattle.std.proofs.lemmas.List.{drop_all}
 use Rattle.mesh_tokens.specs.declared.tokens.Token.{Token}
-use Rattle.mesh_query.specs.Grammar as gram
+use Rattle.mesh_grammar.specs.Grammar as gram
 use Rattle.mesh_query.proofs.reader.whole_query.Goals as goal
 
 pub returns-else-at-tokens : goal.returns-else-at-tokens

@@ -1,5 +1,5 @@
 use Rattle.std.proofs.Common.{◌≤◌, ◌-◌, drop, length}
-use Rattle.mesh_query.specs.Grammar.{Spells, joined}
+use Rattle.mesh_grammar.specs.Grammar.{Spells, joined}
 use Rattle.mesh_query.proofs.relations.relations.Given as goal
 
 abbrev pub invariant-joins : goal.invariant-joins

@@ -1,15 +1,18 @@
 // The operators that a token can be.
-ghost use Rattle.std.specs.Prelude.{◌+◌, IfSome};
-ghost use Rattle.mesh_query.specs.Signs.{IsSign, cmp_text, add_text, mul_text};
-ghost use Rattle.mesh_query.specs.Places.{Takes};
+ghost use Rattle.std.specs.Prelude.{◌≡◌, ◌+◌, drop, false, MatchOption};
+ghost use Rattle.mesh_grammar.specs.Plans.{is_cmp, is_add, is_mul};
+ghost use Rattle.mesh_grammar.specs.Machine.{begins};
+ghost use Rattle.mesh_grammar.specs.Signs.{IsSign, cmp_text, add_text, mul_text};
+ghost use Rattle.mesh_words.specs.Places.{Takes};
 
 use crate::cursor::is_sign;
 use mesh_surface::{AddSign, Cmp, MulSign};
 use mesh_tokens::Token;
 
 /// The comparison that stands here, if one does.
+#[tactic(auto, using(crate::proofs::Neither::no_cmp))]
 pub fn comparison(tokens: &[Token], at: usize) -> Option<Cmp>
-    ensures { IfSome result (λ c. Takes (IsSign (cmp_text c)) tokens.now at (at + 1)) }
+    ensures { MatchOption result (begins is_cmp (drop at tokens.now) ≡ false) (λ c. Takes (IsSign (cmp_text c)) tokens.now at (at + 1)) }
 {
     if is_sign(tokens, at, b"=") {
         Some(Cmp::Eq)
@@ -29,8 +32,9 @@ pub fn comparison(tokens: &[Token], at: usize) -> Option<Cmp>
 }
 
 /// The `+` or `-` that stands here, if one does.
+#[tactic(auto, using(crate::proofs::Neither::no_add))]
 pub fn add_sign(tokens: &[Token], at: usize) -> Option<AddSign>
-    ensures { IfSome result (λ o. Takes (IsSign (add_text o)) tokens.now at (at + 1)) }
+    ensures { MatchOption result (begins is_add (drop at tokens.now) ≡ false) (λ o. Takes (IsSign (add_text o)) tokens.now at (at + 1)) }
 {
     if is_sign(tokens, at, b"+") {
         Some(AddSign::Plus)
@@ -42,8 +46,9 @@ pub fn add_sign(tokens: &[Token], at: usize) -> Option<AddSign>
 }
 
 /// The `*`, `/` or `%` that stands here, if one does.
+#[tactic(auto, using(crate::proofs::Neither::no_mul))]
 pub fn mul_sign(tokens: &[Token], at: usize) -> Option<MulSign>
-    ensures { IfSome result (λ o. Takes (IsSign (mul_text o)) tokens.now at (at + 1)) }
+    ensures { MatchOption result (begins is_mul (drop at tokens.now) ≡ false) (λ o. Takes (IsSign (mul_text o)) tokens.now at (at + 1)) }
 {
     if is_sign(tokens, at, b"*") {
         Some(MulSign::Times)

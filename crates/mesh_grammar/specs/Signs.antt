@@ -13,7 +13,7 @@ use Rattle.mesh_surface.specs.declared.signs.MulSign.TheVariants as mul
 use Rattle.mesh_surface.specs.declared.signs.Function.{Function}
 use Rattle.mesh_surface.specs.declared.queries.SurfaceRel.{SurfaceRel}
 use Rattle.mesh_time.specs.Moments.{IsDayText}
-use Rattle.mesh_query.specs.Words.{is_reserved, type_of, function_of}
+use Rattle.mesh_grammar.specs.Words.{is_reserved, type_of, function_of}
 
 -- the place of the first token's first byte, or 0 where there is none
 abbrev pub place : List Token → ℕ

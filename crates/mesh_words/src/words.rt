@@ -1,7 +1,7 @@
 // The words of queries: those that are no names, and those that name functions and types.
 ghost use Rattle.std.specs.Prelude.{◌≡◌, ◌↔◌, IsTrue};
 ghost use Rattle.std.specs.Str.{bytes_eq};
-ghost use Rattle.mesh_query.specs.Words.{words_a_to_c, words_d_to_g, words_h_to_l, words_n_to_r, words_s_to_w, is_one_of, is_reserved, type_of, function_of, row_function_of, group_function_of};
+ghost use Rattle.mesh_grammar.specs.Words.{words_a_to_c, words_d_to_g, words_h_to_l, words_n_to_r, words_s_to_w, is_one_of, is_reserved, type_of, function_of, row_function_of, group_function_of};
 
 use mesh_base::ColType;
 use mesh_surface::Function;
@@ -83,7 +83,7 @@ fn is_word_s_to_w(word: &[u8]) -> bool
 }
 
 /// Whether a word of a query can be no name.
-#[tactic(auto, unfolding(crate::specs::Words::is_reserved))]
+#[tactic(auto, unfolding(mesh_grammar::specs::Words::is_reserved))]
 pub fn is_reserved(word: &[u8]) -> bool
     ensures { result ≡ is_reserved word.now }
 {

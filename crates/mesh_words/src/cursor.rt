@@ -1,7 +1,11 @@
 // Looking at the next token, and taking it.
-ghost use Rattle.std.specs.Prelude.{◌≡◌, ◌<◌, ◌+◌, drop, length, IsTrue, IfOk};
-ghost use Rattle.mesh_query.specs.Signs.{place as place_of, IsWord, IsSign, IsName, IsType, IsFunction, IsQualified, IsOptional};
-ghost use Rattle.mesh_query.specs.Places.{Takes, Reaches};
+ghost use Rattle.std.specs.Prelude.{◌≡◌, ◌<◌, ◌+◌, ◌&&◌, codes, drop, length, IsTrue, IfOk, MatchResult};
+ghost use Rattle.mesh_grammar.specs.Signs.{place as place_of, IsWord, IsSign, IsName, IsType, IsFunction, IsQualified, IsOptional};
+ghost use Rattle.mesh_words.specs.Places.{Takes, Reaches};
+ghost use Rattle.mesh_words.specs.Answers.{IsNot};
+ghost use Rattle.mesh_words.specs.declared.fault.Fault.TheVariants.{Nesting};
+ghost use Rattle.mesh_grammar.specs.Plans.{is_word as is_the_word, is_sign as is_the_sign, is_name as is_a_name, is_text as is_a_text, is_type as is_a_type};
+ghost use Rattle.mesh_grammar.specs.Machine.{begins};
 
 use crate::fault::Fault;
 use crate::words::{function_of, is_reserved, is_same, type_of};
@@ -21,8 +25,10 @@ pub fn place(tokens: &[Token], at: usize) -> u64
     }
 }
 
+#[tactic(auto, using(crate::proofs::NextToken::begins_at, crate::proofs::NextToken::begins_past))]
 pub fn is_word(tokens: &[Token], at: usize, word: &[u8]) -> bool
-    ensures { IsTrue result → Takes (IsWord word.now) tokens.now at (at + 1) }
+    ensures taken { IsTrue result → Takes (IsWord word.now) tokens.now at (at + 1) }
+    ensures seen { result ≡ begins (is_the_word word.now) (drop at tokens.now) }
 {
     if at < tokens.len() {
         match &tokens[at].kind {
@@ -34,8 +40,10 @@ pub fn is_word(tokens: &[Token], at: usize, word: &[u8]) -> bool
     }
 }
 
+#[tactic(auto, using(crate::proofs::NextToken::begins_at, crate::proofs::NextToken::begins_past))]
 pub fn is_sign(tokens: &[Token], at: usize, sign: &[u8]) -> bool
-    ensures { IsTrue result → Takes (IsSign sign.now) tokens.now at (at + 1) }
+    ensures taken { IsTrue result → Takes (IsSign sign.now) tokens.now at (at + 1) }
+    ensures seen { result ≡ begins (is_the_sign sign.now) (drop at tokens.now) }
 {
     if at < tokens.len() {
         match &tokens[at].kind {
@@ -47,7 +55,10 @@ pub fn is_sign(tokens: &[Token], at: usize, sign: &[u8]) -> bool
     }
 }
 
-pub fn is_text(tokens: &[Token], at: usize) -> bool {
+#[tactic(auto, using(crate::proofs::NextToken::begins_at, crate::proofs::NextToken::begins_past))]
+pub fn is_text(tokens: &[Token], at: usize) -> bool
+    ensures { result ≡ begins is_a_text (drop at tokens.now) }
+{
     if at < tokens.len() {
         match &tokens[at].kind {
             TokenKind::Text(_) => true,
@@ -59,13 +70,17 @@ pub fn is_text(tokens: &[Token], at: usize) -> bool {
 }
 
 /// Whether the word `date` and a text stand here.
-pub fn is_date(tokens: &[Token], at: usize) -> bool {
+pub fn is_date(tokens: &[Token], at: usize) -> bool
+    ensures { result ≡ (begins (is_the_word (codes "date")) (drop at tokens.now) && begins is_a_text (drop (at + 1) tokens.now)) }
+{
     is_word(tokens, at, b"date") && is_text(tokens, at + 1)
 }
 
 /// Whether the token is an identifier that is no word of queries.
+#[tactic(auto, using(crate::proofs::NextToken::begins_at, crate::proofs::NextToken::begins_past))]
 pub fn is_name(tokens: &[Token], at: usize) -> bool
-    ensures { IsTrue result → (at < length tokens.now) }
+    ensures within { IsTrue result → (at < length tokens.now) }
+    ensures seen { result ≡ begins is_a_name (drop at tokens.now) }
 {
     if at < tokens.len() {
         match &tokens[at].kind {
@@ -79,7 +94,7 @@ pub fn is_name(tokens: &[Token], at: usize) -> bool
 
 /// The place behind a word that has to stand here.
 pub fn word(tokens: &[Token], at: usize, word: &[u8]) -> Result<usize, Fault>
-    ensures { IfOk result (Takes (IsWord word.now) tokens.now at) }
+    ensures { MatchResult result (Takes (IsWord word.now) tokens.now at) (IsNot (is_the_word word.now) tokens.now at) }
 {
     if is_word(tokens, at, word) {
         Ok(at + 1)
@@ -90,7 +105,7 @@ pub fn word(tokens: &[Token], at: usize, word: &[u8]) -> Result<usize, Fault>
 
 /// The place behind a sign that has to stand here.
 pub fn sign(tokens: &[Token], at: usize, sign: &[u8]) -> Result<usize, Fault>
-    ensures { IfOk result (Takes (IsSign sign.now) tokens.now at) }
+    ensures { MatchResult result (Takes (IsSign sign.now) tokens.now at) (IsNot (is_the_sign sign.now) tokens.now at) }
 {
     if is_sign(tokens, at, sign) {
         Ok(at + 1)
@@ -100,8 +115,9 @@ pub fn sign(tokens: &[Token], at: usize, sign: &[u8]) -> Result<usize, Fault>
 }
 
 /// A name that has to stand here, and the place behind it.
+#[tactic(auto, using(crate::proofs::NextToken::begins_at, crate::proofs::NextToken::begins_past))]
 pub fn name(tokens: &[Token], at: usize) -> Result<(Str, usize), Fault>
-    ensures { IfOk result (λ p. Takes (IsName p.0) tokens.now at p.1) }
+    ensures { MatchResult result (λ p. Takes (IsName p.0) tokens.now at p.1) (IsNot is_a_name tokens.now at) }
 {
     if at < tokens.len() {
         match &tokens[at].kind {
@@ -142,8 +158,9 @@ pub fn optional(tokens: &[Token], at: usize, word: &[u8]) -> usize
 }
 
 /// A type that has to stand here, and the place behind it.
+#[tactic(auto, using(crate::proofs::NextToken::begins_at, crate::proofs::NextToken::begins_past))]
 pub fn column_type(tokens: &[Token], at: usize) -> Result<(ColType, usize), Fault>
-    ensures { IfOk result (λ p. Takes (IsType p.0) tokens.now at p.1) }
+    ensures { MatchResult result (λ p. Takes (IsType p.0) tokens.now at p.1) (IsNot is_a_type tokens.now at) }
 {
     if at < tokens.len() {
         match &tokens[at].kind {
@@ -178,7 +195,7 @@ pub fn called(tokens: &[Token], at: usize) -> Result<(Function, usize), Fault>
 
 /// How much deeper it may go inside what is opened here.
 pub fn nested(depth: u32) -> Result<u32, Fault>
-    ensures { IfOk result (λ deeper. depth ≡ deeper + 1) }
+    ensures { MatchResult result (λ deeper. depth ≡ deeper + 1) (λ e. (depth ≡ 0) × (e ≡ Nesting)) }
 {
     if depth == 0 {
         Err(Fault::Nesting)

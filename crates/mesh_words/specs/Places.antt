@@ -1,7 +1,7 @@
 -- What the tokens from one place up to another spell.
 use Rattle.std.specs.Prelude.{◌≡◌, ℕ, ◌+◌, ◌≤◌, ◌<◌, List, drop, length}
 use Rattle.mesh_tokens.specs.declared.tokens.Token.{Token}
-use Rattle.mesh_query.specs.Grammar.{Phrase, Spells}
+use Rattle.mesh_grammar.specs.Grammar.{Phrase, Spells}
 
 -- the most parentheses, CASEs, NOTs and minus signs that may be open at once
 abbrev pub deepest : ℕ

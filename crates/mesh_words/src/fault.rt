@@ -1,6 +1,10 @@
 // Why tokens are no query, by the number of the token at fault.
+ghost use Rattle.std.specs.Prelude.{◌≡◌};
+ghost use Rattle.mesh_words.specs.declared.fault.Fault.TheVariants.{Memory as OutOfMemory};
+
 use mesh_list::Memory;
 
+/// Memory is out, a token can't stand there, or too much is open at once.
 #[derive(Debug, Clone, Copy)]
 pub enum Fault {
     Memory,
@@ -9,6 +13,8 @@ pub enum Fault {
 }
 
 impl From<Memory> for Fault {
+    ghost from_gives = { λ _ e. e ≡ OutOfMemory };
+
     fn from(_memory: Memory) -> Fault {
         Fault::Memory
     }

@@ -40,7 +40,7 @@ use Rattle.mesh_surface.specs.declared.queries.SurfaceFrom.{SurfaceFrom}
 use Rattle.mesh_surface.specs.declared.queries.SurfaceJoin.{SurfaceJoin}
 use Rattle.mesh_surface.specs.declared.queries.SurfaceJoin.TheVariants as the_join
 use Rattle.mesh_surface.specs.declared.queries.SurfaceRel.{SurfaceRel}
-use Rattle.mesh_query.specs.Signs.{place, Next, IsWord, IsSign, IsName, IsType, IsFunction, IsDay, cmp_text, add_text, mul_text, IsAlias, IsOptional, IsFlag, IsOptionalSign, IsQualified, IsRelation}
+use Rattle.mesh_grammar.specs.Signs.{place, Next, IsWord, IsSign, IsName, IsType, IsFunction, IsDay, cmp_text, add_text, mul_text, IsAlias, IsOptional, IsFlag, IsOptionalSign, IsQualified, IsRelation}
 
 -- What is spelled: a rule of the grammar, or a list of parts within one.
 pub data Phrase : Type 0 where

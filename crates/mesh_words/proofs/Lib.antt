@@ -1,0 +1,3 @@
+pub mod NextToken
+pub mod Neither
+pub mod Steps
