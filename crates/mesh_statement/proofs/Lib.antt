@@ -1,0 +1,2 @@
+pub mod LastOpen
+pub mod Steps
