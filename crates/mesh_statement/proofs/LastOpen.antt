@@ -1,5 +1,6 @@
 -- The innermost bracket.
 use Rattle.std.proofs.Common.{◌≡◌, Bool, true, false, cond, List, [], ◌∷◌, ◌++◌, refl, ap, ◌∙◌, sym}
+use Rattle.std.proofs.Math.Bool.{beq}
 use Rattle.std.specs.Option.{option_map}
 use Rattle.std.specs.declared.option.Option.{Option}
 use Rattle.std.specs.declared.option.Option.TheVariants.{None, Some}
@@ -14,3 +15,9 @@ pub last_closes : (round last : Bool) (held : Open) → closed round (held ++ la
 last_closes round last [] = refl
 last_closes round last (x ∷ []) = mapped (alike last round) x []
 last_closes round last (x ∷ y ∷ ys) = ap (option_map (λ l. x ∷ l)) (last_closes round last (y ∷ ys)) ∙ mapped (alike last round) x (y ∷ ys)
+
+pub is_alike : (a b : Bool) → alike a b ≡ beq a b
+is_alike true true = refl
+is_alike true false = refl
+is_alike false true = refl
+is_alike false false = refl

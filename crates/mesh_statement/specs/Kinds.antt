@@ -18,7 +18,7 @@ use Rattle.mesh_base.specs.declared.definitions.Kind.{Kind}
 use Rattle.mesh_base.specs.declared.definitions.Kind.TheVariants as base_kind
 use Rattle.mesh_statement.specs.Faults.{bad, unknown, outside, provided, is_sign, is_word}
 use Rattle.mesh_statement.specs.Brackets.{or_fault, value_len}
-use Rattle.mesh_statement.specs.Values.{word, text}
+use Rattle.mesh_statement.specs.Values.{word, text, behind}
 
 abbrev pub words_left_out : List (List ℕ)
 words_left_out = codes "incremental_by_unique_key" ∷ codes "incremental_by_partition" ∷ codes "scd_type_2" ∷ codes "embedded" ∷ codes "managed" ∷ codes "custom" ∷ []
@@ -113,12 +113,6 @@ entry kind e at name value =
     if not (is_entry kind name) then Err (unknown at name)
     else if is_one_of e.seen name || is_empty value then Err (bad at name)
     else entry_value (noted e name) at name value
-
--- what stands behind an entry: a comma and more, or the parenthesis that closes the value
-abbrev pub behind : List Token → Option (List Token)
-behind (p ∷ []) = if is_sign (codes ")") p then Some [] else None
-behind (p ∷ q ∷ ks) = if is_sign (codes ",") p then Some (q ∷ ks) else None
-behind [] = None
 
 -- one entry behind those that are known, and what stands behind it
 abbrev pub one_entry : ReadFault → KindWord → Entries → List Token → Result (Entries × List Token) ReadFault

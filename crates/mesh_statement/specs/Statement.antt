@@ -100,14 +100,24 @@ abbrev pub begins : List ℕ → List Token → Bool
 begins sign [] = false
 begins sign (k ∷ ks) = is_sign sign k
 
--- the properties from here on, up to the parenthesis that closes them
+-- one more property, and whether it is the last: a comma stands behind it, or the parenthesis that closes them, or both
+abbrev pub closes : Read → Result (Bool × Read) ReadFault
+closes r = expect (codes ")") r.parts r.before r.rest >>= λ c. Ok (true, c)
+
+abbrev pub goes_on : Read → Result (Bool × Read) ReadFault
+goes_on r = do
+  c ← expect (codes ",") r.parts r.before r.rest
+  if begins (codes ")") c.rest then closes c else Ok (false, c)
+
+abbrev pub one_property : Parts → ℕ → List Token → Result (Bool × Read) ReadFault
+one_property p before ts = do
+  r ← property p before ts
+  if begins (codes ")") r.rest then closes r else goes_on r
+
+-- the properties from here on; so many tokens are left at most
 unfoldable pub properties : ℕ → Parts → ℕ → List Token → Result Read ReadFault
 properties zero p before ts = Err (broken before)
-properties (suc most) p before ts = do
-  r ← property p before ts
-  if begins (codes ")") r.rest then expect (codes ")") r.parts r.before r.rest else (do
-    c ← expect (codes ",") r.parts r.before r.rest
-    if begins (codes ")") c.rest then expect (codes ")") c.parts c.before c.rest else properties most c.parts c.before c.rest)
+properties (suc most) p before ts = one_property p before ts >>= λ s. if s.0 then Ok s.1 else properties most s.1.parts s.1.before s.1.rest
 
 abbrev pub model_word : List Token → Result Read ReadFault
 model_word [] = Err (broken 0)

@@ -1,5 +1,5 @@
 -- What the tokens of a property's value mean. None where they mean nothing.
-use Rattle.std.specs.Prelude.{ℕ, Bool, true, false, ◌&&◌, not, nat_le, List, [], ◌∷◌, ◌++◌, codes, length, ℤ, Result, Ok, Err, if◌then◌else◌}
+use Rattle.std.specs.Prelude.{ℕ, zero, suc, Bool, true, false, ◌&&◌, not, nat_le, List, [], ◌∷◌, ◌++◌, codes, length, ℤ, Result, Ok, Err, if◌then◌else◌}
 use Rattle.std.specs.List.{list_any}
 use Rattle.std.specs.Str.{bytes_eq}
 use Rattle.std.specs.Option.{option_map}
@@ -95,15 +95,25 @@ column_of n t = do
   kind ← type_of type
   Some (record { name = name; kind = kind })
 
--- columns so far, and those that follow up to the parenthesis that closes them
-unfoldable pub columns_in : List Column → List Token → Option (List Column)
-columns_in front (n ∷ t ∷ p ∷ []) = do
+-- what stands behind an item of a list: a comma and more, or the parenthesis that ends the list
+abbrev pub behind : List Token → Option (List Token)
+behind (p ∷ []) = if is_sign (codes ")") p then Some [] else None
+behind (p ∷ q ∷ ks) = if is_sign (codes ",") p then Some (q ∷ ks) else None
+behind [] = None
+
+-- one column, and what stands behind it
+abbrev pub one_column : List Token → Option (Column × List Token)
+one_column (n ∷ t ∷ ks) = do
   column ← column_of n t
-  if is_sign (codes ")") p then Some (front ++ column ∷ []) else None
-columns_in front (n ∷ t ∷ p ∷ q ∷ ks) = do
-  column ← column_of n t
-  if is_sign (codes ",") p then columns_in (front ++ column ∷ []) (q ∷ ks) else None
-columns_in front _ = None
+  rest ← behind ks
+  Some (column, rest)
+one_column _ = None
+
+-- columns behind those that are known; so many tokens are left at most
+unfoldable pub columns_from : ℕ → List Column → List Token → Option (List Column)
+columns_from most front [] = Some front
+columns_from zero front (k ∷ ks) = None
+columns_from (suc most) front (k ∷ ks) = one_column (k ∷ ks) >>= λ r. columns_from most (front ++ r.0 ∷ []) r.1
 
 abbrev pub is_among : List Column → List ℕ → Bool
 is_among columns name = list_any (λ c. bytes_eq c.name name) columns
@@ -127,8 +137,8 @@ sized at (Some columns) =
 
 -- `(name TYPE, ..)`
 abbrev pub columns_open : List Token → Option (List Column)
-columns_open [] = None
-columns_open (k ∷ ks) = if is_sign (codes "(") k then columns_in [] ks else None
+columns_open (p ∷ q ∷ ks) = if is_sign (codes "(") p then columns_from (length (q ∷ ks)) [] (q ∷ ks) else None
+columns_open _ = None
 
 abbrev pub columns_value : ℕ → List Token → Result (List Column) ReadFault
 columns_value at value = sized at (columns_open value)

@@ -1,5 +1,5 @@
 // How far the value of a property goes.
-ghost use Rattle.std.specs.Prelude.{◌≡◌, [], ◌++◌, ◌∷◌, IfOk, length};
+ghost use Rattle.std.specs.Prelude.{◌≡◌, ◌≤◌, [], ◌++◌, ◌∷◌, IfOk, length};
 ghost use Rattle.mesh_tokens.specs.Gives.{Gives};
 ghost use Rattle.mesh_statement.specs.Faults.{broken};
 ghost use Rattle.mesh_statement.specs.Brackets.{or_fault, closed, rounds, opened, ends_value, value_len, is_none_open};
@@ -104,7 +104,8 @@ pub(crate) fn value_len(
     before: u64,
     tokens: &[Token],
 ) -> Result<usize, ReadFault>
-    ensures { Gives result (value_len any before [] tokens.now) }
+    ensures value { Gives result (value_len any before [] tokens.now) }
+    ensures within { IfOk result (λ n. n ≤ length tokens.now) }
 {
     let mut held: Open = Seq::new(alloc);
     let mut last = before;

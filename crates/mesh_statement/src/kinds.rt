@@ -1,10 +1,9 @@
 // What the value of `kind` means.
 ghost use Rattle.std.specs.Prelude.{◌≡◌, IfOk, length, map};
 ghost use Rattle.std.specs.Char.{to_ascii_uppercase};
-ghost use Rattle.std.specs.Option.{option_map};
 ghost use Rattle.mesh_tokens.specs.Gives.{Gives};
 ghost use Rattle.mesh_statement.specs.Faults.{bad};
-ghost use Rattle.mesh_statement.specs.Kinds.{kind_or_fault, first_at, path_text, time_word, is_day_format, is_false, is_idle, noted, with_path, with_time, entry_value, entry, behind, one_entry, entries_from, no_entries, entries_in, plain, seed, incremental, whole, kind_value, kind_word};
+ghost use Rattle.mesh_statement.specs.Kinds.{kind_or_fault, first_at, path_text, time_word, is_day_format, is_false, is_idle, noted, with_path, with_time, entry_value, entry, one_entry, entries_from, no_entries, entries_in, plain, seed, incremental, whole, kind_value, kind_word};
 ghost use Rattle.mesh_statement.specs.Answers.{GivesAs};
 ghost use Rattle.mesh_statement.specs.Values.{text as text_of};
 ghost use Rattle.mesh_statement.specs.Views.{seen};
@@ -12,6 +11,7 @@ ghost use Rattle.mesh_statement.specs.Views.{seen};
 use crate::brackets::value_len;
 use crate::faults::{bad, outside, unknown};
 use crate::look::{is_number, is_same, is_sign, is_word, text, word};
+use crate::values::behind;
 use crate::words::{is_entry, is_left_out, is_one_of, kind_named};
 use mesh_base::{Kind, Str, Strs};
 use mesh_list::{Duplicate, Memory, Seq};
@@ -219,23 +219,6 @@ fn entry(
     }
     let more = noted(alloc, entries, name)?;
     entry_value(alloc, more, at, name, value)
-}
-
-// What stands behind an entry: nothing where the value is closed.
-fn behind(rest: &[Token]) -> Option<&[Token]>
-    ensures { option_map (λ r. r.now) result ≡ behind rest.now }
-{
-    match rest {
-        [] => None,
-        [sign] => { if is_sign(sign, b")") { Some(&[]) } else { None } }
-        [sign, more @ ..] => {
-            if is_sign(sign, b",") {
-                Some(more)
-            } else {
-                None
-            }
-        }
-    }
 }
 
 // One entry, and what stands behind it.

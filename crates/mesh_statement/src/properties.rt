@@ -2,7 +2,7 @@
 ghost use Rattle.std.specs.Prelude.{◌≡◌, length};
 ghost use Rattle.mesh_tokens.specs.Gives.{Gives};
 ghost use Rattle.mesh_statement.specs.Answers.{GivesAs};
-ghost use Rattle.mesh_statement.specs.Statement.{Read, end_of, some_tokens, property, expect, begins, properties, model_word, statement};
+ghost use Rattle.mesh_statement.specs.Statement.{Read, end_of, some_tokens, property, expect, begins, closes, goes_on, one_property, properties, model_word, statement};
 
 use crate::brackets::value_len;
 use crate::faults::broken;
@@ -88,6 +88,50 @@ fn begins(sign: &[u8], tokens: &[Token]) -> bool
     }
 }
 
+// The parenthesis that closes the properties.
+fn closes<'a>(
+    parts: Parts,
+    before: u64,
+    tokens: &'a [Token],
+) -> Result<(bool, Parts, u64, &'a [Token]), ReadFault>
+    ensures { GivesAs (λ r. (r.0, record { parts = r.1; before = r.2; rest = r.3.now })) result (closes (record { parts = parts; before = before; rest = tokens.now })) }
+{
+    let (parts, end, rest) = expect(b")", parts, before, tokens)?;
+    Ok((true, parts, end, rest))
+}
+
+fn goes_on<'a>(
+    parts: Parts,
+    before: u64,
+    tokens: &'a [Token],
+) -> Result<(bool, Parts, u64, &'a [Token]), ReadFault>
+    ensures { GivesAs (λ r. (r.0, record { parts = r.1; before = r.2; rest = r.3.now })) result (goes_on (record { parts = parts; before = before; rest = tokens.now })) }
+{
+    let (parts, end, rest) = expect(b",", parts, before, tokens)?;
+    if begins(b")", rest) {
+        closes(parts, end, rest)
+    } else {
+        Ok((false, parts, end, rest))
+    }
+}
+
+// One more property, and whether it is the last.
+fn one_property<'a>(
+    alloc: Global,
+    parts: Parts,
+    before: u64,
+    tokens: &'a [Token],
+) -> Result<(bool, Parts, u64, &'a [Token]), ReadFault>
+    ensures { GivesAs (λ r. (r.0, record { parts = r.1; before = r.2; rest = r.3.now })) result (one_property parts before tokens.now) }
+{
+    let (parts, end, rest) = property(alloc, parts, before, tokens)?;
+    if begins(b")", rest) {
+        closes(parts, end, rest)
+    } else {
+        goes_on(parts, end, rest)
+    }
+}
+
 // The properties, up to the parenthesis that closes them.
 fn properties<'a>(
     alloc: Global,
@@ -101,13 +145,9 @@ fn properties<'a>(
     let mut before = before;
     let mut rest = tokens;
     for _ in 0..tokens.len() {
-        let (more, end, left) = property(alloc, parts, before, rest)?;
-        if begins(b")", left) {
-            return expect(b")", more, end, left);
-        }
-        let (more, end, left) = expect(b",", more, end, left)?;
-        if begins(b")", left) {
-            return expect(b")", more, end, left);
+        let (is_last, more, end, left) = one_property(alloc, parts, before, rest)?;
+        if is_last {
+            return Ok((more, end, left));
         }
         parts = more;
         before = end;

@@ -1,7 +1,8 @@
 // What the values of properties mean.
-ghost use Rattle.std.specs.Prelude.{◌≡◌, IfOk, [], ◌∷◌};
+ghost use Rattle.std.specs.Prelude.{◌≡◌, IfOk, [], ◌∷◌, length};
+ghost use Rattle.std.specs.Option.{option_map};
 ghost use Rattle.mesh_tokens.specs.Gives.{Gives};
-ghost use Rattle.mesh_statement.specs.Values.{name_of, start_of, unit_named, unit_of, cron_kind, cron_value, column_of, columns_in, columns_open, is_among, are_distinct, columns_value, sized, many_columns};
+ghost use Rattle.mesh_statement.specs.Values.{name_of, start_of, unit_named, unit_of, cron_kind, cron_value, column_of, behind, one_column, columns_from, columns_open, is_among, are_distinct, columns_value, sized, many_columns};
 ghost use Rattle.mesh_statement.specs.Answers.{Refused};
 
 use crate::faults::bad;
@@ -144,31 +145,59 @@ fn column_of(alloc: Global, name: &Token, kind: &Token) -> Result<Option<Column>
     }
 }
 
-// Columns with commas between them, up to the parenthesis that closes them.
-fn columns_in(alloc: Global, value: &[Token]) -> Result<Option<Columns>, Memory>
-    ensures { IfOk result (λ columns. columns ≡ columns_in [] value.now) }
+/// What stands behind an item of a list: nothing where the list is closed.
+pub(crate) fn behind(rest: &[Token]) -> Option<&[Token]>
+    ensures { option_map (λ r. r.now) result ≡ behind rest.now }
+{
+    match rest {
+        [] => None,
+        [sign] => { if is_sign(sign, b")") { Some(&[]) } else { None } }
+        [sign, more @ ..] => {
+            if is_sign(sign, b",") {
+                Some(more)
+            } else {
+                None
+            }
+        }
+    }
+}
+
+// One column, and what stands behind it.
+fn one_column<'a>(
+    alloc: Global,
+    tokens: &'a [Token],
+) -> Result<Option<(Column, &'a [Token])>, Memory>
+    ensures { IfOk result (λ found. option_map (λ r. (r.0, r.1.now)) found ≡ one_column tokens.now) }
+{
+    let [name, kind, more @ ..] = tokens else {
+        return Ok(None);
+    };
+    let Some(column) = column_of(alloc, name, kind)? else {
+        return Ok(None);
+    };
+    match behind(more) {
+        Some(rest) => Ok(Some((column, rest))),
+        None => Ok(None),
+    }
+}
+
+fn columns_from(alloc: Global, tokens: &[Token]) -> Result<Option<Columns>, Memory>
+    ensures { IfOk result (λ columns. columns ≡ columns_from (length tokens.now) [] tokens.now) }
 {
     let mut columns: Columns = Seq::new(alloc);
-    let mut rest = value;
-    for _ in 0..value.len() {
-        let [name, kind, sign, more @ ..] = rest else {
-            return Ok(None);
-        };
-        let Some(column) = column_of(alloc, name, kind)? else {
+    let mut rest = tokens;
+    for _ in 0..tokens.len() {
+        if rest.is_empty() {
+            return Ok(Some(columns));
+        }
+        let Some((column, left)) = one_column(alloc, rest)? else {
             return Ok(None);
         };
         columns.push(column)?;
-        if more.is_empty() {
-            return Ok(if is_sign(sign, b")") {
-                Some(columns)
-            } else {
-                None
-            });
-        }
-        if !is_sign(sign, b",") {
-            return Ok(None);
-        }
-        rest = more;
+        rest = left;
+    }
+    if rest.is_empty() {
+        return Ok(Some(columns));
     }
     Ok(None)
 }
@@ -219,9 +248,10 @@ fn columns_open(alloc: Global, value: &[Token]) -> Result<Option<Columns>, Memor
 {
     match value {
         [] => Ok(None),
+        [_] => Ok(None),
         [begin, inner @ ..] => {
             if is_sign(begin, b"(") {
-                columns_in(alloc, inner)
+                columns_from(alloc, inner)
             } else {
                 Ok(None)
             }
