@@ -1,0 +1,5 @@
+pub mod LastOpen
+pub mod Steps
+pub mod EntrySteps
+pub mod ColumnSteps
+pub mod PropertySteps

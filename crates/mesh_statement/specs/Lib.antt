@@ -1,0 +1,16 @@
+-- Types: the words of types.
+pub mod Types
+-- Views: what stands behind references.
+pub mod Views
+-- Answers: what a reader returned beside a definition.
+pub mod Answers
+-- Faults: what may be wrong with a statement.
+pub mod Faults
+-- Brackets: the value of a property, up to its comma or closing parenthesis.
+pub mod Brackets
+-- Values: what the value of each property means.
+pub mod Values
+-- Kinds: what the value of `kind` means, with its entries.
+pub mod Kinds
+-- Statement: the properties of a MODEL statement, one after the other.
+pub mod Statement

@@ -1,0 +1,364 @@
+// What the value of `kind` means.
+ghost use Rattle.std.specs.Prelude.{◌≡◌, IfOk, length, map};
+ghost use Rattle.std.specs.Char.{to_ascii_uppercase};
+ghost use Rattle.mesh_tokens.specs.Gives.{Gives};
+ghost use Rattle.mesh_statement.specs.Faults.{bad};
+ghost use Rattle.mesh_statement.specs.Kinds.{kind_or_fault, first_at, path_text, time_word, is_day_format, is_false, is_idle, noted, with_path, with_time, entry_value, entry, one_entry, entries_from, no_entries, entries_in, plain, seed, incremental, whole, kind_value, kind_word};
+ghost use Rattle.mesh_statement.specs.Answers.{GivesAs};
+ghost use Rattle.mesh_statement.specs.Values.{text as text_of};
+ghost use Rattle.mesh_statement.specs.Views.{seen};
+
+use crate::brackets::value_len;
+use crate::faults::{bad, outside, unknown};
+use crate::look::{is_number, is_same, is_sign, is_word, text, word};
+use crate::values::behind;
+use crate::words::{is_entry, is_left_out, is_one_of, kind_named};
+use mesh_base::{Kind, Str, Strs};
+use mesh_list::{Duplicate, Memory, Seq};
+use mesh_tokens::{ReadFault, Token};
+use std::alloc::Global;
+
+/// The word of a kind.
+#[derive(Clone, Copy, Debug, PartialEq, Eq)]
+pub enum KindWord {
+    Full,
+    View,
+    Seed,
+    Incremental,
+}
+
+/// The entries of a kind, and the names of all that have been read.
+#[derive(Debug, Drop)]
+pub struct Entries {
+    pub seen: Strs,
+    pub path: Option<Str>,
+    pub path_at: u64,
+    pub time: Option<Str>,
+}
+
+/// A kind, and for a SEED the path as it is written and the byte at which that text begins.
+#[derive(Debug, Drop)]
+pub struct KindText {
+    pub kind: Kind,
+    pub path: Option<Str>,
+    pub path_at: u64,
+}
+
+fn upper(alloc: Global, word: &[u8]) -> Result<Str, Memory>
+    ensures { IfOk result (λ made. made ≡ map to_ascii_uppercase word.now) }
+{
+    Ok(Seq::from_vec(word.to_ascii_uppercase(alloc)?))
+}
+
+fn kind_or_fault(alloc: Global, at: u64, word: &[u8]) -> Result<KindWord, ReadFault>
+    ensures { Gives result (kind_or_fault at word.now) }
+{
+    if is_left_out(word) {
+        let name = upper(alloc, word)?;
+        return Err(outside(alloc, at, name.as_slice()));
+    }
+    match kind_named(word) {
+        Some(kind) => Ok(kind),
+        None => Err(bad(alloc, at, b"kind")),
+    }
+}
+
+/// The byte at which the first token begins, and 0 where there is none.
+pub(crate) fn first_at(value: &[Token]) -> u64
+    ensures { result ≡ first_at value.now }
+{
+    match value {
+        [] => 0,
+        [token, ..] => token.start,
+    }
+}
+
+fn path_text(value: &[Token]) -> Option<&[u8]>
+    ensures { seen result ≡ path_text value.now }
+{
+    match value {
+        [token] => text(token),
+        _ => None,
+    }
+}
+
+fn is_day_format(format: &Token) -> bool
+    ensures { result ≡ is_day_format (text_of format.now) }
+{
+    match text(format) {
+        None => false,
+        Some(found) => is_same(found, b"%Y-%m-%d"),
+    }
+}
+
+fn time_word(value: &[Token]) -> Option<&[u8]>
+    ensures { seen result ≡ time_word value.now }
+{
+    match value {
+        [token] => word(token),
+        [begin, token, comma, format, close] => {
+            if is_sign(begin, b"(")
+                && is_sign(comma, b",")
+                && is_day_format(format)
+                && is_sign(close, b")")
+            {
+                word(token)
+            } else {
+                None
+            }
+        }
+        _ => None,
+    }
+}
+
+fn is_false(value: &[Token]) -> bool
+    ensures { result ≡ is_false value.now }
+{
+    match value {
+        [token] => is_word(token, b"false"),
+        _ => false,
+    }
+}
+
+// Whether an entry that means nothing has the one value that it may have.
+fn is_idle(name: &[u8], value: &[Token]) -> bool
+    ensures { result ≡ is_idle name.now value.now }
+{
+    if is_same(name, b"batch_size") {
+        is_number(value, 1)
+    } else if is_same(name, b"lookback") {
+        is_number(value, 0)
+    } else {
+        is_false(value)
+    }
+}
+
+fn noted(alloc: Global, entries: Entries, name: &[u8]) -> Result<Entries, Memory>
+    ensures { IfOk result (λ more. more ≡ noted entries name.now) }
+{
+    let mut more = entries;
+    let name = u8::copy_items(alloc, name)?;
+    more.seen.push(name)?;
+    Ok(more)
+}
+
+fn with_path(
+    alloc: Global,
+    entries: Entries,
+    name: &[u8],
+    value: &[Token],
+) -> Result<Entries, ReadFault>
+    ensures { Gives result (with_path entries name.now value.now) }
+{
+    let at = first_at(value);
+    let Some(path) = path_text(value) else {
+        return Err(bad(alloc, at, name));
+    };
+    let path = u8::copy_items(alloc, path)?;
+    let mut more = entries;
+    more.path = Some(path);
+    more.path_at = at;
+    Ok(more)
+}
+
+fn with_time(
+    alloc: Global,
+    entries: Entries,
+    name: &[u8],
+    value: &[Token],
+) -> Result<Entries, ReadFault>
+    ensures { Gives result (with_time entries name.now value.now) }
+{
+    let Some(time) = time_word(value) else {
+        return Err(bad(alloc, first_at(value), name));
+    };
+    let time = u8::copy_items(alloc, time)?;
+    let mut more = entries;
+    more.time = Some(time);
+    Ok(more)
+}
+
+fn entry_value(
+    alloc: Global,
+    entries: Entries,
+    at: u64,
+    name: &[u8],
+    value: &[Token],
+) -> Result<Entries, ReadFault>
+    ensures { Gives result (entry_value entries at name.now value.now) }
+{
+    if is_same(name, b"path") {
+        return with_path(alloc, entries, name, value);
+    }
+    if is_same(name, b"time_column") {
+        return with_time(alloc, entries, name, value);
+    }
+    if is_idle(name, value) {
+        Ok(entries)
+    } else {
+        Err(outside(alloc, at, name))
+    }
+}
+
+// An entry of a kind, whose name begins at byte `at`.
+fn entry(
+    alloc: Global,
+    kind: KindWord,
+    entries: Entries,
+    at: u64,
+    name: &[u8],
+    value: &[Token],
+) -> Result<Entries, ReadFault>
+    ensures { Gives result (entry kind entries at name.now value.now) }
+{
+    if !is_entry(kind, name) {
+        return Err(unknown(alloc, at, name));
+    }
+    if is_one_of(entries.seen.as_slice(), name) || value.is_empty() {
+        return Err(bad(alloc, at, name));
+    }
+    let more = noted(alloc, entries, name)?;
+    entry_value(alloc, more, at, name, value)
+}
+
+// One entry, and what stands behind it.
+fn one_entry<'a>(
+    alloc: Global,
+    at: u64,
+    kind: KindWord,
+    entries: Entries,
+    tokens: &'a [Token],
+) -> Result<(Entries, &'a [Token]), ReadFault>
+    ensures { GivesAs (λ r. (r.0, r.1.now)) result (one_entry (bad at kind_word) kind entries tokens.now) }
+{
+    let [first, more @ ..] = tokens else {
+        return Err(bad(alloc, at, b"kind"));
+    };
+    let Some(name) = word(first) else {
+        return Err(bad(alloc, at, b"kind"));
+    };
+    let length = value_len(alloc, true, first.end, more)?;
+    let (value, rest) = more.split_at(length);
+    let entries = entry(alloc, kind, entries, first.start, name, value)?;
+    match behind(rest) {
+        Some(rest) => Ok((entries, rest)),
+        None => Err(bad(alloc, at, b"kind")),
+    }
+}
+
+fn entries_from(
+    alloc: Global,
+    at: u64,
+    kind: KindWord,
+    tokens: &[Token],
+) -> Result<Entries, ReadFault>
+    ensures { Gives result (entries_from (length tokens.now) (bad at kind_word) kind no_entries tokens.now) }
+{
+    let mut entries = no_entries(alloc);
+    let mut rest = tokens;
+    for _ in 0..tokens.len() {
+        if rest.is_empty() {
+            return Ok(entries);
+        }
+        let (more, left) = one_entry(alloc, at, kind, entries, rest)?;
+        entries = more;
+        rest = left;
+    }
+    if rest.is_empty() {
+        Ok(entries)
+    } else {
+        Err(bad(alloc, at, b"kind"))
+    }
+}
+
+fn no_entries(alloc: Global) -> Entries
+    ensures { result ≡ no_entries }
+{
+    Entries {
+        seen: Seq::new(alloc),
+        path: None,
+        path_at: 0,
+        time: None,
+    }
+}
+
+fn entries_in(
+    alloc: Global,
+    at: u64,
+    kind: KindWord,
+    tokens: &[Token],
+) -> Result<Entries, ReadFault>
+    ensures { Gives result (entries_in (bad at kind_word) kind tokens.now) }
+{
+    match tokens {
+        [] => Ok(no_entries(alloc)),
+        [_] => Err(bad(alloc, at, b"kind")),
+        [begin, inner @ ..] => {
+            if is_sign(begin, b"(") {
+                entries_from(alloc, at, kind, inner)
+            } else {
+                Err(bad(alloc, at, b"kind"))
+            }
+        }
+    }
+}
+
+fn plain(kind: Kind) -> KindText
+    ensures { result ≡ plain kind }
+{
+    KindText {
+        kind,
+        path: None,
+        path_at: 0,
+    }
+}
+
+fn seed(alloc: Global, at: u64, path: Option<Str>, path_at: u64) -> Result<KindText, ReadFault>
+    ensures { Gives result (seed (bad at kind_word) path path_at) }
+{
+    match path {
+        Some(path) => Ok(KindText {
+            kind: Kind::Seed,
+            path: Some(path),
+            path_at,
+        }),
+        None => Err(bad(alloc, at, b"kind")),
+    }
+}
+
+fn incremental(alloc: Global, at: u64, time: Option<Str>) -> Result<KindText, ReadFault>
+    ensures { Gives result (incremental (bad at kind_word) time) }
+{
+    match time {
+        Some(time) => Ok(plain(Kind::Incremental { time })),
+        None => Err(bad(alloc, at, b"kind")),
+    }
+}
+
+// A SEED has a path, and an incremental kind a time column.
+fn whole(alloc: Global, at: u64, kind: KindWord, entries: Entries) -> Result<KindText, ReadFault>
+    ensures { Gives result (whole (bad at kind_word) kind entries) }
+{
+    let path_at = entries.path_at;
+    match kind {
+        KindWord::Full => Ok(plain(Kind::Full)),
+        KindWord::View => Ok(plain(Kind::View)),
+        KindWord::Seed => seed(alloc, at, entries.path, path_at),
+        KindWord::Incremental => incremental(alloc, at, entries.time),
+    }
+}
+
+/// The kind that a value means, which begins at byte `at`.
+pub(crate) fn kind_value(alloc: Global, at: u64, value: &[Token]) -> Result<KindText, ReadFault>
+    ensures { Gives result (kind_value at value.now) }
+{
+    let [first, more @ ..] = value else {
+        return Err(bad(alloc, at, b"kind"));
+    };
+    let Some(name) = word(first) else {
+        return Err(bad(alloc, at, b"kind"));
+    };
+    let kind = kind_or_fault(alloc, at, name)?;
+    let entries = entries_in(alloc, at, kind, more)?;
+    whole(alloc, at, kind, entries)
+}

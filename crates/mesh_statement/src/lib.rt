@@ -1,0 +1,19 @@
+//! MODEL statements. Its contract: `read_statement` gives exactly what the definition `statement` says of the tokens of a
+//! model's file: the properties up to the semicolon, or the first fault among them. It stands on `mesh_list`,
+//! `mesh_base`, `mesh_time`, `mesh_meaning`, `mesh_casts` and `mesh_tokens`.
+#![tactic(auto)]
+
+mod brackets;
+mod faults;
+mod kinds;
+mod look;
+mod parts;
+mod properties;
+#[cfg(test)]
+mod tests;
+mod values;
+mod words;
+
+pub use kinds::KindText;
+pub use parts::Parts;
+pub use properties::read_statement;

@@ -1,0 +1,155 @@
+// The properties that have been read.
+ghost use Rattle.std.specs.Prelude.{◌≡◌, IfOk};
+ghost use Rattle.mesh_tokens.specs.Gives.{Gives};
+ghost use Rattle.mesh_statement.specs.Statement.{no_parts, noted, put, put_name, put_unit, put_start, put_kind, put_cron, put_columns, admitted};
+
+use crate::faults::{bad, unknown};
+use crate::kinds::{KindText, kind_value};
+use crate::look::is_same;
+use crate::values::{columns_value, cron_value, name_of, start_of, unit_of};
+use crate::words::{is_one_of, is_property};
+use mesh_base::{Columns, Cron, Name, Strs, Unit};
+use mesh_list::{Duplicate, Memory, Seq};
+use mesh_tokens::{ReadFault, Token};
+use std::alloc::Global;
+
+/// The properties of a statement, and the names of all that stand in it. A start is a day counted from 1970-01-01; no
+/// columns stand where the property is absent.
+#[derive(Debug, Drop)]
+pub struct Parts {
+    pub seen: Strs,
+    pub name: Option<Name>,
+    pub kind: Option<KindText>,
+    pub cron: Option<Cron>,
+    pub unit: Option<Unit>,
+    pub start: Option<i32>,
+    pub columns: Columns,
+}
+
+pub(crate) fn no_parts(alloc: Global) -> Parts
+    ensures { result ≡ no_parts }
+{
+    Parts {
+        seen: Seq::new(alloc),
+        name: None,
+        kind: None,
+        cron: None,
+        unit: None,
+        start: None,
+        columns: Seq::new(alloc),
+    }
+}
+
+fn noted(alloc: Global, parts: Parts, name: &[u8]) -> Result<Parts, Memory>
+    ensures { IfOk result (λ more. more ≡ noted parts name.now) }
+{
+    let mut more = parts;
+    let name = u8::copy_items(alloc, name)?;
+    more.seen.push(name)?;
+    Ok(more)
+}
+
+/// The parts with a property's name, at byte `at`, which is known and was not there before.
+pub(crate) fn admitted(
+    alloc: Global,
+    parts: Parts,
+    at: u64,
+    name: &[u8],
+) -> Result<Parts, ReadFault>
+    ensures { Gives result (admitted parts at name.now) }
+{
+    if !is_property(name) {
+        return Err(unknown(alloc, at, name));
+    }
+    if is_one_of(parts.seen.as_slice(), name) {
+        return Err(bad(alloc, at, name));
+    }
+    Ok(noted(alloc, parts, name)?)
+}
+
+fn put_name(alloc: Global, parts: Parts, at: u64, value: &[Token]) -> Result<Parts, ReadFault>
+    ensures { Gives result (put_name parts at value.now) }
+{
+    let Some(name) = name_of(alloc, value)? else {
+        return Err(bad(alloc, at, b"name"));
+    };
+    let mut more = parts;
+    more.name = Some(name);
+    Ok(more)
+}
+
+fn put_kind(alloc: Global, parts: Parts, at: u64, value: &[Token]) -> Result<Parts, ReadFault>
+    ensures { Gives result (put_kind parts at value.now) }
+{
+    let kind = kind_value(alloc, at, value)?;
+    let mut more = parts;
+    more.kind = Some(kind);
+    Ok(more)
+}
+
+fn put_cron(alloc: Global, parts: Parts, at: u64, value: &[Token]) -> Result<Parts, ReadFault>
+    ensures { Gives result (put_cron parts at value.now) }
+{
+    let cron = cron_value(alloc, at, value)?;
+    let mut more = parts;
+    more.cron = Some(cron);
+    Ok(more)
+}
+
+fn put_unit(alloc: Global, parts: Parts, at: u64, value: &[Token]) -> Result<Parts, ReadFault>
+    ensures { Gives result (put_unit parts at value.now) }
+{
+    let Some(unit) = unit_of(value) else {
+        return Err(bad(alloc, at, b"interval_unit"));
+    };
+    let mut more = parts;
+    more.unit = Some(unit);
+    Ok(more)
+}
+
+fn put_start(alloc: Global, parts: Parts, at: u64, value: &[Token]) -> Result<Parts, ReadFault>
+    ensures { Gives result (put_start parts at value.now) }
+{
+    let Some(start) = start_of(value) else {
+        return Err(bad(alloc, at, b"start"));
+    };
+    let mut more = parts;
+    more.start = Some(start);
+    Ok(more)
+}
+
+fn put_columns(alloc: Global, parts: Parts, at: u64, value: &[Token]) -> Result<Parts, ReadFault>
+    ensures { Gives result (put_columns parts at value.now) }
+{
+    let columns = columns_value(alloc, at, value)?;
+    let mut more = parts;
+    more.columns = columns;
+    Ok(more)
+}
+
+/// The parts with the value of a property, which begins at byte `at`.
+pub(crate) fn put(
+    alloc: Global,
+    parts: Parts,
+    at: u64,
+    name: &[u8],
+    value: &[Token],
+) -> Result<Parts, ReadFault>
+    ensures { Gives result (put parts at name.now value.now) }
+{
+    if is_same(name, b"name") {
+        put_name(alloc, parts, at, value)
+    } else if is_same(name, b"kind") {
+        put_kind(alloc, parts, at, value)
+    } else if is_same(name, b"cron") {
+        put_cron(alloc, parts, at, value)
+    } else if is_same(name, b"interval_unit") {
+        put_unit(alloc, parts, at, value)
+    } else if is_same(name, b"start") {
+        put_start(alloc, parts, at, value)
+    } else if is_same(name, b"columns") {
+        put_columns(alloc, parts, at, value)
+    } else {
+        Ok(parts)
+    }
+}

@@ -1,0 +1,189 @@
+// The properties of a statement, one after the other.
+ghost use Rattle.std.specs.Prelude.{◌≡◌, length};
+ghost use Rattle.mesh_tokens.specs.Gives.{Gives};
+ghost use Rattle.mesh_statement.specs.Answers.{GivesAs};
+ghost use Rattle.mesh_statement.specs.Statement.{Read, end_of, some_tokens, property, expect, begins, closes, goes_on, one_property, properties, model_word, statement};
+
+use crate::brackets::value_len;
+use crate::faults::broken;
+use crate::kinds::first_at;
+use crate::look::{is_sign, is_word, word};
+use crate::parts::{Parts, admitted, no_parts, put};
+use crate::words::is_free;
+use mesh_tokens::{ReadFault, Token};
+use std::alloc::Global;
+
+// The end of the last of the tokens, or `before` where there is none.
+fn end_of(before: u64, tokens: &[Token]) -> u64
+    ensures { result ≡ end_of before tokens.now }
+{
+    let mut end = before;
+    for token in tokens {
+        end = token.end;
+    }
+    end
+}
+
+// A value has a token at least.
+fn some_tokens(before: u64, length: usize) -> Result<usize, ReadFault>
+    ensures { Gives result (some_tokens before length) }
+{
+    if length == 0 {
+        Err(broken(before))
+    } else {
+        Ok(length)
+    }
+}
+
+// One property, the end of its last token, and the tokens behind it.
+fn property<'a>(
+    alloc: Global,
+    parts: Parts,
+    before: u64,
+    tokens: &'a [Token],
+) -> Result<(Parts, u64, &'a [Token]), ReadFault>
+    ensures { GivesAs (λ r. record { parts = r.0; before = r.1; rest = r.2.now }) result (property parts before tokens.now) }
+{
+    let [first, more @ ..] = tokens else {
+        return Err(broken(before));
+    };
+    let Some(name) = word(first) else {
+        return Err(broken(before));
+    };
+    let known = admitted(alloc, parts, first.start, name)?;
+    let length = value_len(alloc, is_free(name), first.end, more)?;
+    let length = some_tokens(first.end, length)?;
+    let (value, rest) = more.split_at(length);
+    let parts = put(alloc, known, first_at(more), name, value)?;
+    Ok((parts, end_of(first.end, value), rest))
+}
+
+// A sign that has to stand here.
+fn expect<'a>(
+    sign: &[u8],
+    parts: Parts,
+    before: u64,
+    tokens: &'a [Token],
+) -> Result<(Parts, u64, &'a [Token]), ReadFault>
+    ensures { GivesAs (λ r. record { parts = r.0; before = r.1; rest = r.2.now }) result (expect sign.now parts before tokens.now) }
+{
+    match tokens {
+        [first, rest @ ..] => {
+            if is_sign(first, sign) {
+                Ok((parts, first.end, rest))
+            } else {
+                Err(broken(before))
+            }
+        }
+        [] => Err(broken(before)),
+    }
+}
+
+fn begins(sign: &[u8], tokens: &[Token]) -> bool
+    ensures { result ≡ begins sign.now tokens.now }
+{
+    match tokens {
+        [first, ..] => is_sign(first, sign),
+        [] => false,
+    }
+}
+
+// The parenthesis that closes the properties.
+fn closes<'a>(
+    parts: Parts,
+    before: u64,
+    tokens: &'a [Token],
+) -> Result<(bool, Parts, u64, &'a [Token]), ReadFault>
+    ensures { GivesAs (λ r. (r.0, record { parts = r.1; before = r.2; rest = r.3.now })) result (closes (record { parts = parts; before = before; rest = tokens.now })) }
+{
+    let (parts, end, rest) = expect(b")", parts, before, tokens)?;
+    Ok((true, parts, end, rest))
+}
+
+fn goes_on<'a>(
+    parts: Parts,
+    before: u64,
+    tokens: &'a [Token],
+) -> Result<(bool, Parts, u64, &'a [Token]), ReadFault>
+    ensures { GivesAs (λ r. (r.0, record { parts = r.1; before = r.2; rest = r.3.now })) result (goes_on (record { parts = parts; before = before; rest = tokens.now })) }
+{
+    let (parts, end, rest) = expect(b",", parts, before, tokens)?;
+    if begins(b")", rest) {
+        closes(parts, end, rest)
+    } else {
+        Ok((false, parts, end, rest))
+    }
+}
+
+// One more property, and whether it is the last.
+fn one_property<'a>(
+    alloc: Global,
+    parts: Parts,
+    before: u64,
+    tokens: &'a [Token],
+) -> Result<(bool, Parts, u64, &'a [Token]), ReadFault>
+    ensures { GivesAs (λ r. (r.0, record { parts = r.1; before = r.2; rest = r.3.now })) result (one_property parts before tokens.now) }
+{
+    let (parts, end, rest) = property(alloc, parts, before, tokens)?;
+    if begins(b")", rest) {
+        closes(parts, end, rest)
+    } else {
+        goes_on(parts, end, rest)
+    }
+}
+
+// The properties, up to the parenthesis that closes them.
+fn properties<'a>(
+    alloc: Global,
+    parts: Parts,
+    before: u64,
+    tokens: &'a [Token],
+) -> Result<(Parts, u64, &'a [Token]), ReadFault>
+    ensures { GivesAs (λ r. record { parts = r.0; before = r.1; rest = r.2.now }) result (properties (length tokens.now) parts before tokens.now) }
+{
+    let mut parts = parts;
+    let mut before = before;
+    let mut rest = tokens;
+    for _ in 0..tokens.len() {
+        let (is_last, more, end, left) = one_property(alloc, parts, before, rest)?;
+        if is_last {
+            return Ok((more, end, left));
+        }
+        parts = more;
+        before = end;
+        rest = left;
+    }
+    Err(broken(before))
+}
+
+fn model_word<'a>(
+    alloc: Global,
+    tokens: &'a [Token],
+) -> Result<(Parts, u64, &'a [Token]), ReadFault>
+    ensures { GivesAs (λ r. record { parts = r.0; before = r.1; rest = r.2.now }) result (model_word tokens.now) }
+{
+    match tokens {
+        [first, rest @ ..] => {
+            if is_word(first, b"model") {
+                Ok((no_parts(alloc), first.end, rest))
+            } else {
+                Err(broken(0))
+            }
+        }
+        [] => Err(broken(0)),
+    }
+}
+
+/// The properties of the MODEL statement that the tokens begin with, the byte at which its semicolon ends, and the tokens
+/// behind it. Places of faults are bytes of the text.
+pub fn read_statement<'a>(
+    alloc: Global,
+    tokens: &'a [Token],
+) -> Result<(Parts, u64, &'a [Token]), ReadFault>
+    ensures { GivesAs (λ r. record { parts = r.0; before = r.1; rest = r.2.now }) result (statement tokens.now) }
+{
+    let (parts, before, rest) = model_word(alloc, tokens)?;
+    let (parts, before, rest) = expect(b"(", parts, before, rest)?;
+    let (parts, before, rest) = properties(alloc, parts, before, rest)?;
+    expect(b";", parts, before, rest)
+}

@@ -1,0 +1,125 @@
+// The words of a statement.
+ghost use Rattle.std.specs.Prelude.{◌≡◌};
+ghost use Rattle.mesh_statement.specs.Types.{type_of};
+ghost use Rattle.mesh_statement.specs.Kinds.{is_left_out, kind_named, is_one_of, words_idle, is_entry};
+ghost use Rattle.mesh_statement.specs.Statement.{is_free, is_property, words_read};
+
+use crate::kinds::KindWord;
+use crate::look::is_same;
+use mesh_base::{ColType, Str};
+
+pub(crate) fn is_one_of(words: &[Str], word: &[u8]) -> bool
+    ensures { result ≡ is_one_of words.now word.now }
+{
+    let mut found = false;
+    for other in words {
+        found = found || is_same(word, other.as_slice());
+    }
+    found
+}
+
+/// The type that a word names.
+pub(crate) fn type_of(word: &[u8]) -> Option<ColType>
+    ensures { result ≡ type_of word.now }
+{
+    if is_same(word, b"int")
+        || is_same(word, b"integer")
+        || is_same(word, b"bigint")
+        || is_same(word, b"smallint")
+        || is_same(word, b"tinyint")
+    {
+        Some(ColType::Int)
+    } else if is_same(word, b"text")
+        || is_same(word, b"varchar")
+        || is_same(word, b"string")
+        || is_same(word, b"char")
+    {
+        Some(ColType::Text)
+    } else if is_same(word, b"date") {
+        Some(ColType::Date)
+    } else if is_same(word, b"bool") || is_same(word, b"boolean") {
+        Some(ColType::Bool)
+    } else {
+        None
+    }
+}
+
+/// Whether the word is that of a kind that the profile leaves out.
+pub(crate) fn is_left_out(word: &[u8]) -> bool
+    ensures { result ≡ is_left_out word.now }
+{
+    is_same(word, b"incremental_by_unique_key")
+        || is_same(word, b"incremental_by_partition")
+        || is_same(word, b"scd_type_2")
+        || is_same(word, b"embedded")
+        || is_same(word, b"managed")
+        || is_same(word, b"custom")
+}
+
+pub(crate) fn kind_named(word: &[u8]) -> Option<KindWord>
+    ensures { result ≡ kind_named word.now }
+{
+    if is_same(word, b"full") {
+        Some(KindWord::Full)
+    } else if is_same(word, b"view") {
+        Some(KindWord::View)
+    } else if is_same(word, b"seed") {
+        Some(KindWord::Seed)
+    } else if is_same(word, b"incremental_by_time_range") {
+        Some(KindWord::Incremental)
+    } else {
+        None
+    }
+}
+
+fn is_idle_word(word: &[u8]) -> bool
+    ensures { result ≡ is_one_of words_idle word.now }
+{
+    is_same(word, b"batch_size")
+        || is_same(word, b"lookback")
+        || is_same(word, b"forward_only")
+        || is_same(word, b"materialized")
+}
+
+/// Whether a kind may have an entry of this name.
+pub(crate) fn is_entry(kind: KindWord, name: &[u8]) -> bool
+    ensures { result ≡ is_entry kind name.now }
+{
+    match kind {
+        KindWord::Seed => is_same(name, b"path") || is_idle_word(name),
+        KindWord::Incremental => is_same(name, b"time_column") || is_idle_word(name),
+        KindWord::Full | KindWord::View => is_idle_word(name),
+    }
+}
+
+/// Whether the property's value is any tokens.
+pub(crate) fn is_free(name: &[u8]) -> bool
+    ensures { result ≡ is_free name.now }
+{
+    is_same(name, b"owner")
+        || is_same(name, b"description")
+        || is_same(name, b"tags")
+        || is_same(name, b"grain")
+        || is_same(name, b"grains")
+        || is_same(name, b"audits")
+        || is_same(name, b"dialect")
+        || is_same(name, b"references")
+        || is_same(name, b"column_descriptions")
+}
+
+fn is_read_word(name: &[u8]) -> bool
+    ensures { result ≡ is_one_of words_read name.now }
+{
+    is_same(name, b"name")
+        || is_same(name, b"kind")
+        || is_same(name, b"cron")
+        || is_same(name, b"interval_unit")
+        || is_same(name, b"start")
+        || is_same(name, b"columns")
+}
+
+pub(crate) fn is_property(name: &[u8]) -> bool
+    ensures { result ≡ is_property name.now }
+{
+    is_read_word(name) || is_free(name)
+}
