@@ -1,5 +1,3 @@
--- Types: the words of types.
-pub mod Types
 -- Views: what stands behind references.
 pub mod Views
 -- Answers: what a reader returned beside a definition.

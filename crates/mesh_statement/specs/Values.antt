@@ -22,7 +22,7 @@ use Rattle.mesh_tokens.specs.declared.tokens.Token.{Token}
 use Rattle.mesh_tokens.specs.declared.tokens.TokenKind.{TokenKind}
 use Rattle.mesh_tokens.specs.declared.tokens.TokenKind.TheVariants.{Ident, Text, Sign, Number, Macro}
 use Rattle.mesh_statement.specs.Faults.{bad, provided, is_sign}
-use Rattle.mesh_statement.specs.Types.{type_of}
+use Rattle.mesh_grammar.specs.Words.{type_of}
 
 -- the word or text of a token
 abbrev pub word_kind : TokenKind → Option (List ℕ)

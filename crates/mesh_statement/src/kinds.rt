@@ -10,12 +10,13 @@ ghost use Rattle.mesh_statement.specs.Views.{seen};
 
 use crate::brackets::value_len;
 use crate::faults::{bad, outside, unknown};
-use crate::look::{is_number, is_same, is_sign, is_word, text, word};
+use crate::look::{is_number, is_sign, is_word, text, word};
 use crate::values::behind;
 use crate::words::{is_entry, is_left_out, is_one_of, kind_named};
 use mesh_base::{Kind, Str, Strs};
 use mesh_list::{Duplicate, Memory, Seq};
 use mesh_tokens::{ReadFault, Token};
+use mesh_words::is_same;
 use std::alloc::Global;
 
 /// The word of a kind.

@@ -1,6 +1,5 @@
 // What a token is.
 ghost use Rattle.std.specs.Prelude.{◌≡◌, MatchOption};
-ghost use Rattle.std.specs.Str.{bytes_eq};
 ghost use Rattle.mesh_statement.specs.Faults.{is_sign, is_word};
 ghost use Rattle.mesh_statement.specs.Values.{word, text, said_kind};
 ghost use Rattle.mesh_statement.specs.Kinds.{is_number, is_one_of};
@@ -8,12 +7,7 @@ ghost use Rattle.mesh_statement.specs.Views.{seen};
 
 use mesh_base::Str;
 use mesh_tokens::{Token, TokenKind};
-
-pub(crate) fn is_same(a: &[u8], b: &[u8]) -> bool
-    ensures { result ≡ bytes_eq a.now b.now }
-{
-    a == b
-}
+use mesh_words::is_same;
 
 pub(crate) fn is_sign(token: &Token, sign: &[u8]) -> bool
     ensures { result ≡ is_sign sign.now token.now }

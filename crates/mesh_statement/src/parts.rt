@@ -5,12 +5,12 @@ ghost use Rattle.mesh_statement.specs.Statement.{no_parts, noted, put, put_name,
 
 use crate::faults::{bad, unknown};
 use crate::kinds::{KindText, kind_value};
-use crate::look::is_same;
 use crate::values::{columns_value, cron_value, name_of, start_of, unit_of};
 use crate::words::{is_one_of, is_property};
 use mesh_base::{Columns, Cron, Name, Strs, Unit};
 use mesh_list::{Duplicate, Memory, Seq};
 use mesh_tokens::{ReadFault, Token};
+use mesh_words::is_same;
 use std::alloc::Global;
 
 /// The properties of a statement, and the names of all that stand in it. A start is a day counted from 1970-01-01; no

@@ -1,12 +1,11 @@
 // The words of a statement.
 ghost use Rattle.std.specs.Prelude.{◌≡◌};
-ghost use Rattle.mesh_statement.specs.Types.{type_of};
 ghost use Rattle.mesh_statement.specs.Kinds.{is_left_out, kind_named, is_one_of, words_idle, is_entry};
 ghost use Rattle.mesh_statement.specs.Statement.{is_free, is_property, words_read};
 
 use crate::kinds::KindWord;
-use crate::look::is_same;
-use mesh_base::{ColType, Str};
+use mesh_base::Str;
+use mesh_words::is_same;
 
 pub(crate) fn is_one_of(words: &[Str], word: &[u8]) -> bool
     ensures { result ≡ is_one_of words.now word.now }
@@ -16,32 +15,6 @@ pub(crate) fn is_one_of(words: &[Str], word: &[u8]) -> bool
         found = found || is_same(word, other.as_slice());
     }
     found
-}
-
-/// The type that a word names.
-pub(crate) fn type_of(word: &[u8]) -> Option<ColType>
-    ensures { result ≡ type_of word.now }
-{
-    if is_same(word, b"int")
-        || is_same(word, b"integer")
-        || is_same(word, b"bigint")
-        || is_same(word, b"smallint")
-        || is_same(word, b"tinyint")
-    {
-        Some(ColType::Int)
-    } else if is_same(word, b"text")
-        || is_same(word, b"varchar")
-        || is_same(word, b"string")
-        || is_same(word, b"char")
-    {
-        Some(ColType::Text)
-    } else if is_same(word, b"date") {
-        Some(ColType::Date)
-    } else if is_same(word, b"bool") || is_same(word, b"boolean") {
-        Some(ColType::Bool)
-    } else {
-        None
-    }
 }
 
 /// Whether the word is that of a kind that the profile leaves out.
