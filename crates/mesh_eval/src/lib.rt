@@ -8,8 +8,11 @@ mod casts;
 mod cells;
 mod days;
 mod expressions;
-mod filing;
 mod frames;
+mod groups;
+mod joined;
+mod joins;
+mod lists;
 mod macros;
 #[cfg(test)]
 mod made;
@@ -17,6 +20,7 @@ mod queries;
 #[cfg(test)]
 mod query_tests;
 mod tables;
+mod ties;
 #[cfg(test)]
 mod value_tests;
 
