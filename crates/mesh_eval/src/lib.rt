@@ -10,6 +10,8 @@ mod days;
 mod expressions;
 mod frames;
 mod groups;
+#[cfg(test)]
+mod join_tests;
 mod joined;
 mod joins;
 mod lists;
