@@ -1,4 +1,6 @@
--- Filed: rows that lie under their keys.
-pub mod Filed
+-- Joined: rows of the items of a FROM, as the code keeps them.
+pub mod Joined
 -- Frames: what an expression sees, as a frame has it.
 pub mod Frames
+-- Ties: equal values that a condition asks for.
+pub mod Ties

@@ -1,10 +1,11 @@
 // The values of aggregates over a list of cells.
-ghost use Rattle.std.specs.Prelude.{◌≡◌, IfOk};
+ghost use Rattle.std.specs.Prelude.{◌≡◌, [], ◌∷◌, map, length, IfOk};
 ghost use Rattle.std.specs.List.{fold, list_any};
 ghost use Rattle.mesh_meaning.specs.Aggregates.{distinct, same_cell, known, is_number, addend, total, smaller, larger, agg_value};
 
 use crate::cells::is_null;
-use mesh_base::{AggKind, Cell, Row, cell_cmp};
+use mesh_base::{AggKind, Cell, Row, Rows, cell_cmp};
+use mesh_index::distinct_rows;
 use mesh_list::{Duplicate, Memory};
 
 pub(crate) fn aggregate(kind: AggKind, cells: &Row) -> Result<Cell, Memory>
@@ -12,7 +13,7 @@ pub(crate) fn aggregate(kind: AggKind, cells: &Row) -> Result<Cell, Memory>
 {
     match kind {
         AggKind::Count => Ok(Cell::Int(known_cells(cells)?.len() as i64)),
-        AggKind::Countd => Ok(Cell::Int(distinct_cells(&known_cells(cells)?)?.len() as i64)),
+        AggKind::Countd => Ok(Cell::Int(distinct_singles(&known_cells(cells)?)?.len() as i64)),
         AggKind::Sum => Ok(total_of(cells.as_slice())),
         AggKind::Min => smallest(cells),
         AggKind::Max => largest(cells),
@@ -31,22 +32,25 @@ fn known_cells(cells: &Row) -> Result<Row, Memory>
     Ok(made)
 }
 
-fn distinct_cells(cells: &Row) -> Result<Row, Memory>
-    ensures { IfOk result (λ made. made ≡ distinct same_cell cells.now) }
+/// Rows of one cell each.
+fn single_rows(cells: &Row) -> Result<Rows, Memory>
+    ensures { IfOk result (λ made. made ≡ map (λ c. c ∷ []) cells.now) }
 {
-    let mut made = Row::new(cells.alloc());
+    let mut made = Rows::new(cells.alloc());
     for c in cells.as_slice() {
-        if !stands_in(c, made.as_slice()) {
-            made.push(c.copy()?)?;
-        }
+        let mut row = Row::new(cells.alloc());
+        row.push(c.copy()?)?;
+        made.push(row)?;
     }
     Ok(made)
 }
 
-fn stands_in(c: &Cell, cells: &[Cell]) -> bool
-    ensures { result ≡ list_any (same_cell c.now) cells.now }
+/// The different cells, in rows of one each.
+#[tactic(auto, using(crate::proofs::Singles::length_distinct_singles))]
+fn distinct_singles(cells: &Row) -> Result<Rows, Memory>
+    ensures { IfOk result (λ made. length made ≡ length (distinct same_cell cells.now)) }
 {
-    cells.iter().any(|other| cell_cmp(other, c).is_eq())
+    distinct_rows(single_rows(cells)?)
 }
 
 fn is_number(c: &Cell) -> bool

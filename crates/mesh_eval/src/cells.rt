@@ -4,6 +4,7 @@ ghost use Rattle.std.specs.Char.{to_ascii_uppercase, to_ascii_lowercase};
 ghost use Rattle.std.specs.Ordering.{is_eq};
 ghost use Rattle.mesh_time.specs.Moments.{IsDayNumber};
 ghost use Rattle.mesh_meaning.specs.Dates.{is_day_number};
+ghost use Rattle.std.specs.List.{list_any};
 ghost use Rattle.mesh_meaning.specs.Cells.{compared, compared_by, is_null, is_true, number, day, plus, minus, product, quotient, remainder, joined, comparison, both, either, opposite, negative, op_value, between, starts_character, func_value, coalesce};
 
 use mesh_base::{Cell, Func, Op, Row, Str};
@@ -15,6 +16,13 @@ pub(crate) fn is_null(x: &Cell) -> bool
     ensures { result ≡ is_null x.now }
 {
     matches!(x, Cell::Null)
+}
+
+/// Whether one of them is NULL.
+pub(crate) fn has_null(cells: &[Cell]) -> bool
+    ensures { result ≡ list_any is_null cells.now }
+{
+    cells.iter().any(|c| is_null(c))
 }
 
 pub(crate) fn is_true(x: &Cell) -> bool

@@ -4,16 +4,17 @@ ghost use Rattle.std.specs.List.{fold};
 ghost use Rattle.mesh_meaning.specs.Cells.{chosen, one_of, func_value};
 ghost use Rattle.mesh_meaning.specs.Ev.{Ev, Ev_node, Ev_each, Ev_when, Ev_whens, at_row, seen, key_of, over_group};
 ghost use Rattle.mesh_meaning.specs.Aggregates.{agg_value, count_of};
-ghost use Rattle.mesh_eval.specs.Frames.{scope_of};
+ghost use Rattle.mesh_meaning.specs.Sel.{item_row, key_list};
+ghost use Rattle.mesh_eval.specs.Frames.{scope_of, members};
+ghost use Rattle.mesh_eval.specs.Joined.{shown};
 
 use crate::aggregates::aggregate;
 use crate::cells::{call, equal, is_null, is_true, lies_between, negate, not, operate, or};
-use crate::frames::{Frame, cell_at, column};
+use crate::frames::{Frame, Members, cell_at, column};
 use crate::macros::bound;
-use mesh_base::{AggKind, Bounds, Cell, Columns, Expr, Func, Row, When};
+use mesh_base::{AggKind, Bounds, Cell, Columns, Expr, Func, Item, Row, When};
 use mesh_casts::cast;
 use mesh_list::{Duplicate, Memory};
-use mesh_meaning::Joined;
 use std::alloc::Global;
 
 #[tactic(auto, using(mesh_meaning::proofs::Nodes::Ev_out))]
@@ -83,10 +84,10 @@ fn ev_call(alloc: Global, func: Func, args: &[Expr], f: &Frame) -> Result<Cell, 
 fn ev_agg(alloc: Global, kind: AggKind, value: &Expr, f: &Frame) -> Result<Cell, Memory>
     ensures { IfOk result (λ v. v ≡ over_group (λ rows. agg_value kind (map (λ row. Ev value.now (at_row f.now.bounds row)) rows)) (scope_of f.now).group) }
 {
-    match f.group {
+    match &f.group {
         None => Ok(Cell::Null),
-        Some(rows) => {
-            let cells = ev_rows(alloc, value, f.columns, rows, f.bounds)?;
+        Some(group) => {
+            let cells = ev_rows(alloc, value, f.columns, group, f.bounds)?;
             aggregate(kind, &cells)
         }
     }
@@ -95,9 +96,9 @@ fn ev_agg(alloc: Global, kind: AggKind, value: &Expr, f: &Frame) -> Result<Cell,
 fn count_group(f: &Frame) -> Cell
     ensures { result ≡ over_group count_of (scope_of f.now).group }
 {
-    match f.group {
+    match &f.group {
         None => Cell::Null,
-        Some(rows) => count_rows(rows),
+        Some(group) => count_rows(group),
     }
 }
 
@@ -150,10 +151,10 @@ fn ev_when(alloc: Global, w: &When, f: &Frame) -> Result<Option<Cell>, Memory>
     }
 }
 
-fn count_rows(rows: &[Joined]) -> Cell
-    ensures { result ≡ Cell.Int (pos (length rows.now)) }
+fn count_rows(group: &Members) -> Cell
+    ensures { result ≡ Cell.Int (pos (length (members group.now))) }
 {
-    Cell::Int(rows.len() as i64)
+    Cell::Int(group.places.len() as i64)
 }
 
 /// The values at each row of a group.
@@ -162,14 +163,14 @@ fn ev_rows(
     alloc: Global,
     value: &Expr,
     columns: &[Columns],
-    rows: &[Joined],
+    group: &Members,
     bounds: Bounds,
 ) -> Result<Row, Memory>
-    ensures { IfOk result (λ v. v ≡ map (λ row. Ev value.now (at_row bounds row)) (map (seen columns.now) rows.now)) }
+    ensures { IfOk result (λ v. v ≡ map (λ row. Ev value.now (at_row bounds row)) (map (seen columns.now) (members group.now))) }
 {
     let mut made = Row::new(alloc);
-    for row in rows {
-        let value_here = ev_row(alloc, value, columns, row.as_slice(), bounds)?;
+    for at in group.places {
+        let value_here = ev_row(alloc, value, columns, group.rows.get(*at), bounds)?;
         made.push(value_here)?;
     }
     Ok(made)
@@ -177,14 +178,14 @@ fn ev_rows(
 
 /// The value at a row by itself.
 #[cycle(ev)]
-pub(crate) fn ev_row<'x>(
+pub(crate) fn ev_row<'a, 'x>(
     alloc: Global,
     value: &Expr,
-    columns: &'x [Columns],
-    row: &'x [Row],
+    columns: &'a [Columns],
+    row: &'a [&'x [Cell]],
     bounds: Bounds,
 ) -> Result<Cell, Memory>
-    ensures { IfOk result (λ v. v ≡ Ev value.now (at_row bounds (seen columns.now row.now))) }
+    ensures { IfOk result (λ v. v ≡ Ev value.now (at_row bounds (seen columns.now (shown row.now)))) }
 {
     let f = Frame {
         columns,
@@ -195,4 +196,35 @@ pub(crate) fn ev_row<'x>(
         bounds,
     };
     ev(alloc, value, &f)
+}
+
+pub(crate) fn item_row(alloc: Global, items: &[Item], f: &Frame) -> Result<Row, Memory>
+    ensures { IfOk result (λ made. made ≡ item_row items.now (scope_of f.now)) }
+{
+    let mut made = Row::new(alloc);
+    for item in items {
+        made.push(ev(alloc, &item.expr, f)?)?;
+    }
+    Ok(made)
+}
+
+/// The values of keys at a row.
+pub(crate) fn key_list<'a, 'x>(
+    alloc: Global,
+    keys: &[Expr],
+    columns: &'a [Columns],
+    row: &'a [&'x [Cell]],
+    u: Bounds,
+) -> Result<Row, Memory>
+    ensures { IfOk result (λ made. made ≡ key_list u columns.now keys.now (shown row.now)) }
+{
+    let f = Frame {
+        columns,
+        row,
+        keys: &[],
+        key_values: &[],
+        group: None,
+        bounds: u,
+    };
+    ev_each(alloc, keys, &f)
 }

@@ -4,19 +4,27 @@ ghost use Rattle.std.specs.Option.{option_copied};
 ghost use Rattle.mesh_base.specs.Picked.{same_text, cell_of};
 ghost use Rattle.mesh_meaning.specs.Ev.{seen};
 ghost use Rattle.mesh_eval.specs.Frames.{cell_or_null};
+ghost use Rattle.mesh_eval.specs.Joined.{shown};
 
-use mesh_base::{Bounds, Cell, Column, Columns, Expr, Row, Str};
+use crate::joined::JoinedRows;
+use mesh_base::{Bounds, Cell, Column, Columns, Expr, Str};
 use mesh_list::{Duplicate, Memory};
-use mesh_meaning::Joined;
+
+/// The rows of a group, by their places among all.
+#[derive(Clone, Copy)]
+pub(crate) struct Members<'a, 'x> {
+    pub(crate) rows: &'a JoinedRows<'x>,
+    pub(crate) places: &'a [usize],
+}
 
 /// The columns and the row of each item of a FROM, the keys with their values, and the rows of the group.
 #[derive(Drop)]
-pub(crate) struct Frame<'a> {
+pub(crate) struct Frame<'a, 'x> {
     pub(crate) columns: &'a [Columns],
-    pub(crate) row: &'a [Row],
+    pub(crate) row: &'a [&'x [Cell]],
     pub(crate) keys: &'a [Expr],
     pub(crate) key_values: &'a [Cell],
-    pub(crate) group: Option<&'a [Joined]>,
+    pub(crate) group: Option<Members<'a, 'x>>,
     pub(crate) bounds: Bounds,
 }
 
@@ -63,11 +71,11 @@ fn columns_at<'a>(columns: &'a [Columns], item: u32) -> &'a [Column]
     }
 }
 
-fn cells_at<'a>(row: &'a [Row], item: u32) -> &'a [Cell]
-    ensures { result.now ≡ slice_index_or row.now item [] }
+fn cells_at<'a, 'x>(row: &'a [&'x [Cell]], item: u32) -> &'x [Cell]
+    ensures { result.now ≡ slice_index_or (shown row.now) item [] }
 {
     match row.get(item as usize) {
-        Some(found) => found.as_slice(),
+        Some(found) => *found,
         None => &[],
     }
 }
@@ -83,7 +91,7 @@ fn field(columns: &[Column], row: &[Cell], name: &Str) -> Result<Cell, Memory>
 
 /// The cell of a FROM item's column.
 pub(crate) fn column(f: &Frame, item: u32, name: &Str) -> Result<Cell, Memory>
-    ensures { IfOk result (λ v. v ≡ seen f.now.columns.now f.now.row.now item name.now) }
+    ensures { IfOk result (λ v. v ≡ seen f.now.columns.now (shown f.now.row.now) item name.now) }
 {
     field(columns_at(f.columns, item), cells_at(f.row, item), name)
 }

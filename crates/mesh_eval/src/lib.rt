@@ -6,8 +6,13 @@
 mod aggregates;
 mod cells;
 mod expressions;
-mod filing;
 mod frames;
+mod groups;
+#[cfg(test)]
+mod join_tests;
+mod joined;
+mod joins;
+mod lists;
 mod macros;
 #[cfg(test)]
 mod made;
@@ -15,6 +20,7 @@ mod queries;
 #[cfg(test)]
 mod query_tests;
 mod tables;
+mod ties;
 #[cfg(test)]
 mod value_tests;
 

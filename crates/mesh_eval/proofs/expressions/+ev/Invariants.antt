@@ -3,7 +3,7 @@ use Rattle.std.specs.List.{fold}
 use Rattle.std.specs.declared.option.Option.TheVariants.{None}
 use Rattle.mesh_meaning.specs.Cells.{one_of, chosen}
 use Rattle.mesh_meaning.specs.Ev.{Ev, Ev_each, Ev_whens, at_row, seen}
-use Rattle.mesh_eval.specs.Frames.{scope_of}
+use Rattle.mesh_eval.specs.Frames.{scope_of, picked}
 use Rattle.mesh_eval.proofs.expressions.+ev.Given as goal
 
 abbrev pub invariant-ev_each-loop-e : goal.invariant-ev_each-loop-e
@@ -15,5 +15,5 @@ invariant-ev_one_of-loop-e l = l.found ≡ one_of l.x (Ev_each (take l.e-index l
 abbrev pub invariant-ev_whens-loop-w : goal.invariant-ev_whens-loop-w
 invariant-ev_whens-loop-w l = l.found ≡ fold chosen None (Ev_whens (take l.w-index l.whens) (scope_of l.f))
 
-abbrev pub invariant-ev_rows-loop-row : goal.invariant-ev_rows-loop-row
-invariant-ev_rows-loop-row l = l.made ≡ map (λ row. Ev l.value (at_row l.bounds row)) (map (seen l.columns) (take l.row-index l.rows))
+abbrev pub invariant-ev_rows-loop-at : goal.invariant-ev_rows-loop-at
+invariant-ev_rows-loop-at l = l.made ≡ map (λ row. Ev l.value (at_row l.bounds row)) (map (seen l.columns) (picked l.group.rows.now.rows (take l.at-index l.at-items)))

@@ -1,0 +1,111 @@
+-- Rows at places.
+use Rattle.std.proofs.Common.{◌≡◌, ℕ, zero, suc, ◌+◌, ◌<◌, Bool, true, false, cond, not, List, [], ◌∷◌, ◌++◌, map, length, take, get_or, refl, sym, ap, ap₂, ◌∙◌, arith}
+use Rattle.std.specs.List.{filter, flat_map, list_any, range_with_len}
+use Rattle.std.proofs.lemmas.List.{append-nil, take_more, get_or_read}
+use Rattle.mesh_base.specs.declared.values.Cell.{Cell}
+use Rattle.mesh_meaning.specs.Aggregates.{distinct}
+use Rattle.mesh_base.specs.declared.times.Bounds.{Bounds}
+use Rattle.mesh_base.specs.declared.values.Column.{Column}
+use Rattle.mesh_base.specs.declared.queries.Select.{Select}
+use Rattle.mesh_meaning.specs.Sel.{Joined, same_row, key_list, group_of, group_row}
+use Rattle.mesh_index.specs.Places.{places, places_from}
+use Rattle.mesh_index.proofs.OneOfEach.{distinct-more, same_row-exact}
+
+turn : (k at : ℕ) → k + suc at ≡ suc k + at
+turn k at = omega arith
+
+turn_1 : (k at : ℕ) → k + (at + 1) ≡ suc k + at
+turn_1 k at = omega arith
+
+none : (at : ℕ) → at ≡ 0 + at
+none at = omega arith
+
+-- what stands at the places of what passes is what passes
+pub picked-places : {A B : Type 0} (f : A → B) (test : B → Bool) (d : A) (xs all : List A) (at : ℕ) → ((k : ℕ) → get_or all (k + at) d ≡ get_or xs k d)
+    → map (λ p. get_or all p d) (places_from test at (map f xs)) ≡ filter (λ x. test (f x)) xs
+picked-places f test d [] all at here = refl
+picked-places {A} f test d (x ∷ xs) all at here = by (test (f x)) (picked-places f test d xs all (suc at) (λ k. ap (λ n. get_or all n d) (turn k at) ∙ here (suc k)))
+  where
+    by : (b : Bool) → map (λ p. get_or all p d) (places_from test (suc at) (map f xs)) ≡ filter (λ x. test (f x)) xs
+        → map (λ p. get_or all p d) (cond b (at ∷ places_from test (suc at) (map f xs)) (places_from test (suc at) (map f xs))) ≡ cond b (x ∷ filter (λ x. test (f x)) xs) (filter (λ x. test (f x)) xs)
+    by true h = ap₂ (λ y l. y ∷ l) (ap (λ n. get_or all n d) (none at) ∙ here 0) h
+    by false h = h
+
+-- what stands at all places is all
+pub picked-all : {A : Type 0} (d : A) (xs all : List A) (at : ℕ) → ((k : ℕ) → get_or all (k + at) d ≡ get_or xs k d)
+    → map (λ p. get_or all p d) (range_with_len at (length xs)) ≡ xs
+picked-all d [] all at here = refl
+picked-all d (x ∷ xs) all at here = ap₂ (λ y l. y ∷ l) (ap (λ n. get_or all n d) (none at) ∙ here 0) (picked-all d xs all (at + 1) (λ k. ap (λ n. get_or all n d) (turn_1 k at) ∙ here (suc k)))
+
+-- one group more
+pub groups-more : {A B C : Type 0} (f : A → B) (rows : B → List C) (xs : List A) (x : A) → flat_map rows (map f (xs ++ x ∷ [])) ≡ flat_map rows (map f xs) ++ rows (f x)
+groups-more f rows [] x = append-nil (rows (f x))
+groups-more f rows (y ∷ xs) x = ap (λ l. rows (f y) ++ l) (groups-more f rows xs x) ∙ sym (assoc (rows (f y)) (flat_map rows (map f xs)) (rows (f x)))
+  where
+    assoc : {C : Type 0} (a b c : List C) → (a ++ b) ++ c ≡ a ++ (b ++ c)
+    assoc [] b c = refl
+    assoc (z ∷ a) b c = ap (λ l. z ∷ l) (assoc a b c)
+
+-- one key more
+pub distinct-take : (keys : List (List Cell)) (at : ℕ) (key : List Cell) → at < length keys → key ≡ get_or keys at []
+    → distinct same_row (take (at + 1) keys) ≡ cond (list_any (same_row key) (take at keys)) (distinct same_row (take at keys)) (distinct same_row (take at keys) ++ key ∷ [])
+distinct-take keys at key lt e =
+    ap (distinct same_row) (take_more keys at [] lt ∙ ap (λ k. take at keys ++ k ∷ []) (sym e))
+    ∙ distinct-more same_row same_row-exact (take at keys) key
+
+-- one more place
+pub range-more : (a n : ℕ) → range_with_len a (suc n) ≡ range_with_len a n ++ (a + n) ∷ []
+range-more a zero = ap (λ x. x ∷ []) (plus_0 a)
+  where
+    plus_0 : (a : ℕ) → a ≡ a + 0
+    plus_0 a = omega arith
+range-more a (suc n) = ap (λ l. a ∷ l) (range-more (a + 1) n ∙ ap (λ k. range_with_len (a + 1) n ++ k ∷ []) (later a n))
+  where
+    later : (a n : ℕ) → a + 1 + n ≡ a + suc n
+    later a n = omega arith
+
+pub plus_0 : (k : ℕ) → k + 0 ≡ k
+plus_0 k = omega arith
+
+-- a key that stands nowhere before has a group, of the rows at its places
+pub group-added : (u : Bounds) (cols : List (List Column)) (q : Select) (rows : List Joined) (keys all : List (List Cell)) (at : ℕ) (key : List Cell) (found : List ℕ) (made : List (List Cell))
+    → keys ≡ map (key_list u cols q.keys) rows → all ≡ keys → at < length keys → key ≡ get_or keys at key
+    → not (list_any (same_row (get_or all at [])) (take at all)) ≡ true → found ≡ places (same_row key) all
+    → made ≡ flat_map (group_row u cols q) (map (group_of u cols q.keys rows) (distinct same_row (take at (map (key_list u cols q.keys) rows))))
+    → made ++ group_row u cols q (record { key_values = key; rows = map (λ p. get_or rows p []) found }) ≡ flat_map (group_row u cols q) (map (group_of u cols q.keys rows) (distinct same_row (take (at + 1) (map (key_list u cols q.keys) rows))))
+group-added u cols q rows keys all at key found made e f lt k first g h =
+    let f_of = key_list u cols q.keys in
+    let here : key ≡ get_or keys at [] = get_or_read keys at key lt k [] in
+    let own : map (λ p. get_or rows p []) found ≡ filter (λ row. same_row key (f_of row)) rows =
+    ap (map (λ p. get_or rows p [])) (g ∙ ap (places (same_row key)) (f ∙ e)) ∙ picked-places f_of (same_row key) [] rows rows 0 (λ n. ap (λ m. get_or rows m []) (plus_0 n)) in
+    let none_before : list_any (same_row key) (take at keys) ≡ false =
+    turned (list_any (same_row key) (take at keys)) (ap₂ (λ l r. not (list_any (same_row r) (take at l))) (sym f) (here ∙ ap (λ l. get_or l at []) (sym f)) ∙ first) in
+    ap₂ (λ m r. m ++ group_row u cols q (record { key_values = key; rows = r })) h own
+    ∙ sym (groups-more (group_of u cols q.keys rows) (group_row u cols q) (distinct same_row (take at (map f_of rows))) key)
+    ∙ ap (λ l. flat_map (group_row u cols q) (map (group_of u cols q.keys rows) l))
+    (ap (λ l. distinct same_row (take at l) ++ key ∷ []) (sym e)
+    ∙ sym (distinct-take keys at key lt here ∙ ap (λ (b : Bool). cond b (distinct same_row (take at keys)) (distinct same_row (take at keys) ++ key ∷ [])) none_before)
+    ∙ ap (λ l. distinct same_row (take (at + 1) l)) e)
+  where
+    turned : (b : Bool) → not b ≡ true → b ≡ false
+    turned true e = absurd (cc)
+    turned false e = refl
+
+-- a key that stands before has no group of its own
+pub group-passed : (u : Bounds) (cols : List (List Column)) (q : Select) (rows : List Joined) (keys all : List (List Cell)) (at : ℕ) (made : List (List Cell))
+    → keys ≡ map (key_list u cols q.keys) rows → all ≡ keys → at < length keys
+    → not (list_any (same_row (get_or all at [])) (take at all)) ≡ false
+    → made ≡ flat_map (group_row u cols q) (map (group_of u cols q.keys rows) (distinct same_row (take at (map (key_list u cols q.keys) rows))))
+    → made ≡ flat_map (group_row u cols q) (map (group_of u cols q.keys rows) (distinct same_row (take (at + 1) (map (key_list u cols q.keys) rows))))
+group-passed u cols q rows keys all at made e f lt first h =
+    let f_of = key_list u cols q.keys in
+    let before : list_any (same_row (get_or keys at [])) (take at keys) ≡ true =
+    turned (list_any (same_row (get_or keys at [])) (take at keys)) (ap (λ l. not (list_any (same_row (get_or l at [])) (take at l))) (sym f) ∙ first) in
+    h ∙ ap (λ l. flat_map (group_row u cols q) (map (group_of u cols q.keys rows) l))
+    (ap (λ l. distinct same_row (take at l)) (sym e)
+    ∙ sym (distinct-take keys at (get_or keys at []) lt refl ∙ ap (λ (b : Bool). cond b (distinct same_row (take at keys)) (distinct same_row (take at keys) ++ get_or keys at [] ∷ [])) before)
+    ∙ ap (λ l. distinct same_row (take (at + 1) l)) e)
+  where
+    turned : (b : Bool) → not b ≡ false → b ≡ true
+    turned true e = refl
+    turned false e = absurd (cc)

@@ -1,0 +1,145 @@
+// Groups of rows, each as the places of its rows.
+ghost use Rattle.std.specs.Prelude.{◌≡◌, [], map, IfOk};
+ghost use Rattle.std.specs.List.{flat_map};
+ghost use Rattle.mesh_meaning.specs.Aggregates.{distinct};
+ghost use Rattle.mesh_eval.specs.Frames.{scope_of, picked, all_places};
+ghost use Rattle.mesh_meaning.specs.Sel.{holds, same_row, key_list, group_of, group_row, grouped_rows};
+
+use crate::cells::is_true;
+use crate::expressions::{ev, item_row, key_list};
+use crate::frames::{Frame, Members};
+use crate::joined::JoinedRows;
+use crate::lists::append;
+use mesh_base::{Bounds, Cell, Columns, Expr, Rows, Select};
+use mesh_index::Index;
+use mesh_list::Memory;
+use std::alloc::Global;
+
+fn holds(alloc: Global, condition: &Option<Expr>, f: &Frame) -> Result<bool, Memory>
+    ensures { IfOk result (λ b. b ≡ holds condition.now (scope_of f.now)) }
+{
+    match condition {
+        None => Ok(true),
+        Some(e) => {
+            let value = ev(alloc, e, f)?;
+            Ok(is_true(&value))
+        }
+    }
+}
+
+/// The keys of each row.
+fn key_lists(
+    alloc: Global,
+    keys: &[Expr],
+    columns: &[Columns],
+    rows: &JoinedRows,
+    u: Bounds,
+) -> Result<Rows, Memory>
+    ensures { IfOk result (λ made. made ≡ map (key_list u columns.now keys.now) rows.now.rows) }
+{
+    let mut made = Rows::new(alloc);
+    for at in 0..rows.len() {
+        made.push(key_list(alloc, keys, columns, rows.at(at), u)?)?;
+    }
+    Ok(made)
+}
+
+/// The row of a group, where HAVING is true.
+fn group_row<'a, 'x>(
+    alloc: Global,
+    q: &Select,
+    columns: &'a [Columns],
+    key_values: &'a [Cell],
+    rows: &'a JoinedRows<'x>,
+    places: &'a [usize],
+    u: Bounds,
+) -> Result<Rows, Memory>
+    ensures { IfOk result (λ made. made ≡ group_row u columns.now q.now (record { key_values = key_values.now; rows = picked rows.now.rows places.now })) }
+{
+    let f = Frame {
+        columns,
+        row: &[],
+        keys: q.keys.as_slice(),
+        key_values,
+        group: Some(Members { rows, places }),
+        bounds: u,
+    };
+    let mut made = Rows::new(alloc);
+    if holds(alloc, &q.having, &f)? {
+        made.push(item_row(alloc, q.items.as_slice(), &f)?)?;
+    }
+    Ok(made)
+}
+
+fn all_places(alloc: Global, count: usize) -> Result<Vec<usize>, Memory>
+    ensures { IfOk result (λ made. made.items ≡ all_places count) }
+{
+    let mut made = Vec::new(alloc);
+    for at in 0..count {
+        made.push(at)?;
+    }
+    Ok(made)
+}
+
+/// The row of the one group of all rows.
+fn row_of_all(
+    alloc: Global,
+    q: &Select,
+    columns: &[Columns],
+    rows: &JoinedRows,
+    u: Bounds,
+) -> Result<Rows, Memory>
+    ensures { IfOk result (λ made. made ≡ group_row u columns.now q.now (record { key_values = []; rows = rows.now.rows })) }
+{
+    let all = all_places(alloc, rows.len())?;
+    group_row(alloc, q, columns, &[], rows, all.as_slice(), u)
+}
+
+/// The rows of the groups of equal keys.
+fn rows_by_key(
+    alloc: Global,
+    q: &Select,
+    columns: &[Columns],
+    rows: &JoinedRows,
+    u: Bounds,
+) -> Result<Rows, Memory>
+    ensures { IfOk result (λ made. made ≡ flat_map (group_row u columns.now q.now) (map (group_of u columns.now q.now.keys rows.now.rows) (distinct same_row (map (key_list u columns.now q.now.keys) rows.now.rows)))) }
+{
+    let keys = key_lists(alloc, q.keys.as_slice(), columns, rows, u)?;
+    let index = Index::new(alloc, keys.as_slice())?;
+    let mut found = Vec::new(alloc);
+    let mut made = Rows::new(alloc);
+    for at in 0..keys.len() {
+        if index.is_first(at) {
+            let key = keys.at(at);
+            index.find(key, &mut found)?;
+            let own = group_row(
+                alloc,
+                q,
+                columns,
+                key.as_slice(),
+                &*rows,
+                found.as_slice(),
+                u,
+            )?;
+            append(&mut made, own)?;
+        }
+    }
+    Ok(made)
+}
+
+pub(crate) fn grouped_rows(
+    alloc: Global,
+    q: &Select,
+    columns: &[Columns],
+    rows: &JoinedRows,
+    u: Bounds,
+) -> Result<Rows, Memory>
+    ensures { IfOk result (λ made. made ≡ grouped_rows u columns.now q.now rows.now.rows) }
+{
+    if q.keys.is_empty() {
+        row_of_all(alloc, q, columns, rows, u)
+    } else {
+        rows_by_key(alloc, q, columns, rows, u)
+    }
+}
