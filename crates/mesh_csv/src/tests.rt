@@ -61,17 +61,23 @@ fn put_seed(alloc: Global, line: &mut Vec<u8>, seed: &Seed) -> Result<(), Fail> 
     Ok(())
 }
 
+fn put_count(alloc: Global, line: &mut Vec<u8>, count: u64) -> Result<(), Fail> {
+    let digits = format!(in alloc; "{count}")?;
+    line.extend_from_slice(digits.as_bytes())?;
+    Ok(())
+}
+
 // The record and the field at fault, or the word of a limit.
 fn put_fault(alloc: Global, line: &mut Vec<u8>, kind: &FaultKind) -> Result<(), Fail> {
     match kind {
         FaultKind::BadRow { row, field } => {
-            put_number(alloc, line, *row as i64)?;
+            put_count(alloc, line, *row)?;
             line.push(b'.')?;
-            put_number(alloc, line, *field as i64)
+            put_count(alloc, line, *field)
         }
         FaultKind::TooLarge { what, limit } => {
             line.extend_from_slice(what.as_slice())?;
-            put_number(alloc, line, *limit as i64)
+            put_count(alloc, line, *limit)
         }
         _ => Err("another fault")?,
     }

@@ -17,6 +17,11 @@ fn put_number(alloc: Global, line: &mut Vec<u8>, number: i64) -> Result<(), Fail
     put(line, digits.as_bytes())
 }
 
+fn put_count(alloc: Global, line: &mut Vec<u8>, count: u64) -> Result<(), Fail> {
+    let digits = format!(in alloc; "{count}")?;
+    put(line, digits.as_bytes())
+}
+
 fn put_kind(line: &mut Vec<u8>, kind: &Kind) -> Result<(), Fail> {
     match kind {
         Kind::Full => put(line, b"full"),
@@ -52,7 +57,7 @@ fn put_front(alloc: Global, line: &mut Vec<u8>, parts: &Parts) -> Result<(), Fai
         put_kind(line, &kind.kind)?;
         if let Some(path) = &kind.path {
             put(line, path.as_slice())?;
-            put_number(alloc, line, kind.path_at as i64)?;
+            put_count(alloc, line, kind.path_at)?;
         }
     }
     Ok(())
@@ -117,12 +122,12 @@ fn put_answer(alloc: Global, line: &mut Vec<u8>, text: &[u8]) -> Result<(), Fail
         Ok((parts, end, rest)) => {
             put_front(alloc, line, &parts)?;
             put_back(alloc, line, &parts)?;
-            put_number(alloc, line, end as i64)?;
-            put_number(alloc, line, rest.len() as i64)
+            put_count(alloc, line, end)?;
+            put_count(alloc, line, rest.len() as u64)
         }
         Err(ReadFault::Fault { at, kind }) => {
             put_fault(alloc, line, &kind)?;
-            put_number(alloc, line, at as i64)
+            put_count(alloc, line, at)
         }
         Err(ReadFault::Memory) => Err("no memory")?,
     }

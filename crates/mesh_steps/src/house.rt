@@ -1,7 +1,7 @@
 // What a house in memory answers.
 use crate::made::{load, make_table, name, point_view, replace_rows};
 use crate::trouble::Trouble;
-use crate::written::{put, put_body, put_columns, put_name, put_number, put_world};
+use crate::written::{put, put_body, put_columns, put_count, put_name, put_world};
 use mesh_base::Name;
 use mesh_house::{Changes, Fail, MemHouse, Warehouse, WhFail, make, make_all};
 use mesh_list::{Duplicate, Memory, Same, Seq};
@@ -51,8 +51,8 @@ fn put_view(alloc: Global, report: &mut Vec<u8>, house: &mut MemHouse) -> Result
 
 /// How many changes there were and how many failures, and whether copies are equal.
 fn put_counts(alloc: Global, report: &mut Vec<u8>, house: &mut MemHouse) -> Result<(), Trouble> {
-    put_number(alloc, report, house.calls() as i64)?;
-    put_number(alloc, report, house.faults() as i64)?;
+    put_count(alloc, report, house.calls())?;
+    put_count(alloc, report, house.faults())?;
     let copy = house.world().copy()?;
     put_word(report, copy.same(house.world()))?;
     let book = house.book(alloc)?;
@@ -100,8 +100,8 @@ fn put_failed(alloc: Global, report: &mut Vec<u8>, after: bool) -> Result<(), Tr
         _ => false,
     };
     put_word(report, failed)?;
-    put_number(alloc, report, house.calls() as i64)?;
-    put_number(alloc, report, house.faults() as i64)?;
+    put_count(alloc, report, house.calls())?;
+    put_count(alloc, report, house.faults())?;
     put_world(alloc, report, house.world())
 }
 

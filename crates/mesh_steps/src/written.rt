@@ -17,6 +17,11 @@ pub fn put_number(alloc: Global, line: &mut Vec<u8>, number: i64) -> Result<(), 
     put(line, digits.as_bytes())
 }
 
+pub fn put_count(alloc: Global, line: &mut Vec<u8>, count: u64) -> Result<(), Trouble> {
+    let digits = format!(in alloc; "{count}")?;
+    put(line, digits.as_bytes())
+}
+
 pub fn put_name(line: &mut Vec<u8>, name: &Name) -> Result<(), Trouble> {
     line.extend_from_slice(name.schema.as_slice())?;
     line.push(b'.')?;
