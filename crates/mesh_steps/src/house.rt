@@ -3,24 +3,33 @@ use crate::made::{load, make_table, name, point_view, replace_rows};
 use crate::trouble::Trouble;
 use crate::written::{put, put_body, put_columns, put_count, put_name, put_world};
 use mesh_base::Name;
-use mesh_house::{Changes, Fail, MemHouse, Warehouse, WhFail, make, make_all};
+use mesh_house::{Change, Changes, Fail, MemHouse, Warehouse, WhFail, make, make_all};
 use mesh_list::{Duplicate, Memory, Same, Seq};
 use std::alloc::Global;
 
 /// A table is made and filled, and a view points at it.
 fn list(alloc: Global) -> Result<Changes, Trouble> {
-    let mut list = Seq::new(alloc);
-    list.push(make_table(alloc, b"t")?)?;
-    list.push(replace_rows(alloc, b"t", &[7])?)?;
-    list.push(point_view(alloc)?)?;
-    Ok(list)
+    let list = with(Seq::new(alloc), make_table(alloc, b"t"))?;
+    let list = with(list, replace_rows(alloc, b"t", &[7]))?;
+    with(list, point_view(alloc))
+}
+
+/// The list with one more change.
+fn with(list: Changes, change: Result<Change, Trouble>) -> Result<Changes, Trouble> {
+    let mut more = list;
+    more.push(change?)?;
+    Ok(more)
+}
+
+fn filled(alloc: Global, changes: &Changes) -> Result<MemHouse, Trouble> {
+    let mut house = MemHouse::new(alloc);
+    make_all(&mut house, alloc, changes.as_slice())?;
+    Ok(house)
 }
 
 fn made(alloc: Global) -> Result<MemHouse, Trouble> {
     let changes = list(alloc)?;
-    let mut house = MemHouse::new(alloc);
-    make_all(&mut house, alloc, changes.as_slice())?;
-    Ok(house)
+    filled(alloc, &changes)
 }
 
 fn put_word(report: &mut Vec<u8>, truth: bool) -> Result<(), Trouble> {
@@ -49,35 +58,68 @@ fn put_view(alloc: Global, report: &mut Vec<u8>, house: &mut MemHouse) -> Result
     put_found(alloc, report, house, &target)
 }
 
+fn is_world_copied(house: &MemHouse) -> Result<bool, Trouble> {
+    Ok(house.world().copy()?.same(house.world()))
+}
+
+fn is_book_read(alloc: Global, house: &mut MemHouse) -> Result<bool, Trouble> {
+    let book = house.book(alloc)?;
+    Ok(book.same(&house.world().book))
+}
+
 /// How many changes there were and how many failures, and whether copies are equal.
 fn put_counts(alloc: Global, report: &mut Vec<u8>, house: &mut MemHouse) -> Result<(), Trouble> {
     put_count(alloc, report, house.calls())?;
     put_count(alloc, report, house.faults())?;
-    let copy = house.world().copy()?;
-    put_word(report, copy.same(house.world()))?;
-    let book = house.book(alloc)?;
-    put_word(report, book.same(&house.world().book))?;
+    put_word(report, is_world_copied(house)?)?;
+    put_word(report, is_book_read(alloc, house)?)?;
     report.push(b'\n')?;
     Ok(())
 }
 
-fn put_copies(alloc: Global, report: &mut Vec<u8>) -> Result<(), Trouble> {
+fn is_copied(change: &Change) -> Result<bool, Trouble> {
+    Ok(change.copy()?.same(change))
+}
+
+fn are_copied(changes: &Changes) -> Result<bool, Trouble> {
+    Ok(changes.copy()?.same(changes))
+}
+
+fn put_change_copy(alloc: Global, report: &mut Vec<u8>) -> Result<(), Trouble> {
     let change = load(alloc, b"raw", &[7], true)?;
-    let copy = change.copy()?;
-    put_word(report, copy.same(&change))?;
+    put_word(report, is_copied(&change)?)
+}
+
+fn put_list_copy(alloc: Global, report: &mut Vec<u8>) -> Result<(), Trouble> {
     let changes = list(alloc)?;
-    let copies = changes.copy()?;
-    put_word(report, copies.same(&changes))?;
+    put_word(report, are_copied(&changes)?)?;
     report.push(b'\n')?;
     Ok(())
+}
+
+fn loaded(alloc: Global, change: &Change) -> Result<MemHouse, Trouble> {
+    let mut house = MemHouse::new(alloc);
+    make(&mut house, alloc, change)?;
+    Ok(house)
+}
+
+fn with_source(alloc: Global) -> Result<MemHouse, Trouble> {
+    let change = load(alloc, b"raw", &[7], true)?;
+    loaded(alloc, &change)
 }
 
 fn put_source(alloc: Global, report: &mut Vec<u8>) -> Result<(), Trouble> {
-    let mut house = MemHouse::new(alloc);
-    let change = load(alloc, b"raw", &[7], true)?;
-    make(&mut house, alloc, &change)?;
+    let mut house = with_source(alloc)?;
+    put_rows_of_source(alloc, report, &mut house)
+}
+
+fn put_rows_of_source(
+    alloc: Global,
+    report: &mut Vec<u8>,
+    house: &mut MemHouse,
+) -> Result<(), Trouble> {
     let source = name(alloc, b"raw", b"r")?;
-    put_found(alloc, report, &mut house, &source)
+    put_found(alloc, report, house, &source)
 }
 
 fn fails(alloc: Global, after: bool) -> Result<Seq<Fail>, Memory> {
@@ -90,28 +132,56 @@ fn fails(alloc: Global, after: bool) -> Result<Seq<Fail>, Memory> {
     Ok(fails)
 }
 
-/// A house whose second change fails, and the world that it is left with.
-fn put_failed(alloc: Global, report: &mut Vec<u8>, after: bool) -> Result<(), Trouble> {
-    let changes = list(alloc)?;
-    let mut house = MemHouse::new(alloc);
-    house.set_fails(fails(alloc, after)?);
-    let failed = match make_all(&mut house, alloc, changes.as_slice()) {
+fn has_failed(house: &mut MemHouse, alloc: Global, changes: &Changes) -> bool {
+    match make_all(house, alloc, changes.as_slice()) {
         Err(WhFail::Failed) => true,
         _ => false,
-    };
+    }
+}
+
+fn put_failing(
+    alloc: Global,
+    report: &mut Vec<u8>,
+    changes: &Changes,
+    fails: Seq<Fail>,
+) -> Result<(), Trouble> {
+    let mut house = MemHouse::new(alloc);
+    house.set_fails(fails);
+    let failed = has_failed(&mut house, alloc, changes);
+    put_left(alloc, report, &house, failed)
+}
+
+/// The counts, and the world that a house is left with.
+fn put_left(
+    alloc: Global,
+    report: &mut Vec<u8>,
+    house: &MemHouse,
+    failed: bool,
+) -> Result<(), Trouble> {
     put_word(report, failed)?;
     put_count(alloc, report, house.calls())?;
     put_count(alloc, report, house.faults())?;
     put_world(alloc, report, house.world())
 }
 
+/// A house whose second change fails, before its effect or after it.
+fn put_failed(alloc: Global, report: &mut Vec<u8>, after: bool) -> Result<(), Trouble> {
+    let changes = list(alloc)?;
+    put_failing(alloc, report, &changes, fails(alloc, after)?)
+}
+
+fn put_made(alloc: Global, report: &mut Vec<u8>) -> Result<(), Trouble> {
+    let mut house = made(alloc)?;
+    put_view(alloc, report, &mut house)?;
+    put_counts(alloc, report, &mut house)
+}
+
 /// Adds what a house in memory answers.
 pub fn answers(alloc: Global, report: &mut Vec<u8>) -> Result<(), Trouble> {
     report.extend_from_slice(b"== a house in memory\n")?;
-    let mut house = made(alloc)?;
-    put_view(alloc, report, &mut house)?;
-    put_counts(alloc, report, &mut house)?;
-    put_copies(alloc, report)?;
+    put_made(alloc, report)?;
+    put_change_copy(alloc, report)?;
+    put_list_copy(alloc, report)?;
     put_source(alloc, report)?;
     put_failed(alloc, report, false)?;
     put_failed(alloc, report, true)

@@ -148,16 +148,26 @@ fn books(s: &mut Stage, a: Global) -> Result<(), Trouble> {
     environments_again(s, a)
 }
 
+/// All worlds, and then what a house answers.
 fn whole_report(alloc: Global) -> Result<Vec<u8>, Trouble> {
+    let mut report = worlds(alloc)?;
+    house::answers(alloc, &mut report)?;
+    Ok(report)
+}
+
+fn worlds(alloc: Global) -> Result<Vec<u8>, Trouble> {
     let mut stage = Stage {
         world: World::new(alloc),
         report: Vec::new(alloc),
     };
-    tables_and_views(&mut stage, alloc)?;
-    books(&mut stage, alloc)?;
-    let mut report = stage.report;
-    house::answers(alloc, &mut report)?;
+    all_worlds(&mut stage, alloc)?;
+    let Stage { world: _, report } = stage;
     Ok(report)
+}
+
+fn all_worlds(s: &mut Stage, a: Global) -> Result<(), Trouble> {
+    tables_and_views(s, a)?;
+    books(s, a)
 }
 
 fn main(rt: HostRuntime) -> ExitCode {
