@@ -1,27 +1,21 @@
-//! What the scripts of `bench/` measure. The words are numbers: of holes in recorded ranges, of moments, of tables (below 10,000) and of changes. The program records 19 of each 20 hours and counts the
+//! What `bench/time.py`, `bench/house.py` and `bench/canon.py` measure. The words are numbers: of holes in recorded
+//! ranges, of moments, of tables (below 10,000) and of changes. The program records 19 of each 20 hours and counts the
 //! units of the schedule that are missing, then adds up the last ticks of ten crons at that many moments from 1970 to
 //! 9999, then makes that many tables with their views and versions in a warehouse in memory and records hours of them by
 //! that many changes. It prints the count, the sum and the number of spans recorded. Or the words are `write` or `read`, a
 //! number of rows and a number of times: it writes, or reads, the canonical text of a seed of these rows so often, and
 //! prints the bytes of the text. Or they are `deep` and a number: it reads, copies, writes and drops expressions that nest
-//! so deep, one for each kind of node, and prints the bytes of their texts. Or they are `eval`, a query's name, a number of
-//! rows and a number of times: it evaluates the query over tables of so many rows so often, and prints the number of its
-//! rows and the sum of their numbers. Or they are `tokens` or `parse`, a number of bytes and a number of times: it scans a
-//! query of at most so many bytes so often, or reads its tokens; or `seed`, a number of rows and a number of times: it reads
-//! a seed of these rows so often; each time it prints the bytes of the text.
+//! so deep, one for each kind of node, and prints the bytes of their texts.
 #![tactic(auto)]
 
 mod canon;
-mod eval;
 mod house;
-mod text;
 
 use crate::house::recorded as recorded_by_changes;
 use mesh_base::{Schedule, Unit};
 use mesh_canon::CanonFault;
 use mesh_list::Memory;
 use mesh_time::{END_OF_SECONDS, Ranges, floor, read_cron};
-use mesh_tokens::ReadFault;
 use std::alloc::Global;
 use std::env::Env;
 use std::process::ExitCode;
@@ -48,18 +42,13 @@ fn number_at<R: Env>(rt: &R, at: usize) -> u32 {
     number
 }
 
-/// The first letter of a word, and 0 where it has none.
-fn letter_at<R: Env>(rt: &R, at: usize) -> u8 {
-    let mut buffer = [0u8; 16];
-    match rt.arg(at, &mut buffer) {
-        Ok(_) => buffer[0],
-        Err(_) => 0,
-    }
-}
-
 /// Whether the first word begins with this letter.
 fn begins_with<R: Env>(rt: &R, letter: u8) -> bool {
-    letter_at(rt, 1) == letter
+    let mut buffer = [0u8; 16];
+    match rt.arg(1, &mut buffer) {
+        Ok(_) => buffer[0] == letter,
+        Err(_) => false,
+    }
 }
 
 /// The first second of an hour since 1970.
@@ -144,47 +133,7 @@ fn timed_text(rt: HostRuntime) -> ExitCode {
     }
 }
 
-/// What the words `tokens`, `parse` and `seed` ask for.
-fn read_bytes<R: Env>(rt: &R, alloc: Global, what: u8) -> Result<usize, ReadFault> {
-    let size = number_at(rt, 2);
-    let times = number_at(rt, 3);
-    match what {
-        b't' => text::scanned(alloc, size, times),
-        b'p' => text::parsed(alloc, size, times),
-        _ => text::seeds(alloc, size, times),
-    }
-}
-
-fn timed_reading(rt: HostRuntime, what: u8) -> ExitCode {
-    let Ok(bytes) = read_bytes(&rt, rt.alloc(), what) else {
-        return ExitCode::from(4);
-    };
-    match println!(rt; "{bytes} bytes") {
-        Ok(()) => ExitCode::from(0),
-        Err(_) => ExitCode::from(6),
-    }
-}
-
-fn timed_query(rt: HostRuntime) -> ExitCode {
-    let what = letter_at(&rt, 2);
-    let Ok((rows, sum)) = eval::evaluated(rt.alloc(), what, number_at(&rt, 3), number_at(&rt, 4))
-    else {
-        return ExitCode::from(4);
-    };
-    match println!(rt; "{rows} rows, sum {sum}") {
-        Ok(()) => ExitCode::from(0),
-        Err(_) => ExitCode::from(6),
-    }
-}
-
 fn main(rt: HostRuntime) -> ExitCode {
-    if begins_with(&rt, b'e') {
-        return timed_query(rt);
-    }
-    if begins_with(&rt, b't') || begins_with(&rt, b'p') || begins_with(&rt, b's') {
-        let what = letter_at(&rt, 1);
-        return timed_reading(rt, what);
-    }
     if begins_with(&rt, b'w') || begins_with(&rt, b'r') || begins_with(&rt, b'd') {
         return timed_text(rt);
     }
