@@ -8,8 +8,6 @@ mod cells;
 mod expressions;
 mod frames;
 mod groups;
-#[cfg(test)]
-mod join_tests;
 mod joined;
 mod joins;
 mod lists;
