@@ -5,10 +5,13 @@
 //! that many changes. It prints the count, the sum and the number of spans recorded. Or the words are `write` or `read`, a
 //! number of rows and a number of times: it writes, or reads, the canonical text of a seed of these rows so often, and
 //! prints the bytes of the text. Or they are `deep` and a number: it reads, copies, writes and drops expressions that nest
-//! so deep, one for each kind of node, and prints the bytes of their texts.
+//! so deep, one for each kind of node, and prints the bytes of their texts. Or they are `eval`, a query's name, a number of
+//! rows and a number of times: it evaluates the query over tables of so many rows so often, and prints the number of its
+//! rows and the sum of their numbers.
 #![tactic(auto)]
 
 mod canon;
+mod eval;
 mod house;
 
 use crate::house::recorded as recorded_by_changes;
@@ -42,13 +45,18 @@ fn number_at<R: Env>(rt: &R, at: usize) -> u32 {
     number
 }
 
+/// The first letter of a word, and 0 where it has none.
+fn letter_at<R: Env>(rt: &R, at: usize) -> u8 {
+    let mut buffer = [0u8; 16];
+    match rt.arg(at, &mut buffer) {
+        Ok(_) => buffer[0],
+        Err(_) => 0,
+    }
+}
+
 /// Whether the first word begins with this letter.
 fn begins_with<R: Env>(rt: &R, letter: u8) -> bool {
-    let mut buffer = [0u8; 16];
-    match rt.arg(1, &mut buffer) {
-        Ok(_) => buffer[0] == letter,
-        Err(_) => false,
-    }
+    letter_at(rt, 1) == letter
 }
 
 /// The first second of an hour since 1970.
@@ -133,7 +141,22 @@ fn timed_text(rt: HostRuntime) -> ExitCode {
     }
 }
 
+fn timed_query(rt: HostRuntime) -> ExitCode {
+    let what = letter_at(&rt, 2);
+    let Ok((rows, sum)) = eval::evaluated(rt.alloc(), what, number_at(&rt, 3), number_at(&rt, 4))
+    else {
+        return ExitCode::from(4);
+    };
+    match println!(rt; "{rows} rows, sum {sum}") {
+        Ok(()) => ExitCode::from(0),
+        Err(_) => ExitCode::from(6),
+    }
+}
+
 fn main(rt: HostRuntime) -> ExitCode {
+    if begins_with(&rt, b'e') {
+        return timed_query(rt);
+    }
     if begins_with(&rt, b'w') || begins_with(&rt, b'r') || begins_with(&rt, b'd') {
         return timed_text(rt);
     }

@@ -2,10 +2,12 @@
 pub mod Parts
 -- Picked: rows at places
 pub mod Picked
--- Tied: an ON that asks for equal values needs the rows of equal keys alone
+-- Tied: conditions that ask for equal values
 pub mod Tied
 -- Singles: rows of one cell each
 pub mod Singles
 -- Steps: one more row, in the loops of joins
 pub mod Steps
 pub mod Rows
+-- Trimmed: rows that give no row of the query may be left out of a FROM
+pub mod Trimmed

@@ -4,3 +4,5 @@ pub mod Joined
 pub mod Frames
 -- Ties: equal values that a condition asks for.
 pub mod Ties
+-- Trimmed: rows of a FROM without some that give no row of the query.
+pub mod Trimmed
