@@ -5,16 +5,14 @@
 //! that many changes. It prints the count, the sum and the number of spans recorded. Or the words are `write` or `read`, a
 //! number of rows and a number of times: it writes, or reads, the canonical text of a seed of these rows so often, and
 //! prints the bytes of the text. Or they are `deep` and a number: it reads, copies, writes and drops expressions that nest
-//! so deep, one for each kind of node, and prints the bytes of their texts. Or they are `eval`, a query's name, a number of
-//! rows and a number of times: it evaluates the query over tables of so many rows so often, and prints the number of its
-//! rows and the sum of their numbers.
+//! so deep, one for each kind of node, and prints the bytes of their texts.
 #![tactic(auto)]
 
 mod canon;
-mod eval;
 mod house;
 
 use crate::house::recorded as recorded_by_changes;
+use mesh_args::{letter_at, number_at};
 use mesh_base::{Schedule, Unit};
 use mesh_canon::CanonFault;
 use mesh_list::Memory;
@@ -27,32 +25,6 @@ const HOUR: i64 = 3_600;
 
 /// The last second of 9999-12-31.
 const LAST_MOMENT: i64 = 253_402_300_799;
-
-/// The number that a word says, and 0 where it says none.
-fn number_at<R: Env>(rt: &R, at: usize) -> u32 {
-    let mut buffer = [0u8; 16];
-    let Ok(length) = rt.arg(at, &mut buffer) else {
-        return 0;
-    };
-    let mut number = 0u32;
-    for digit in buffer.iter().take(length) {
-        if *digit >= b'0' && *digit <= b'9' {
-            number = number
-                .saturating_mul(10)
-                .saturating_add(u32::from(*digit - b'0'));
-        }
-    }
-    number
-}
-
-/// The first letter of a word, and 0 where it has none.
-fn letter_at<R: Env>(rt: &R, at: usize) -> u8 {
-    let mut buffer = [0u8; 16];
-    match rt.arg(at, &mut buffer) {
-        Ok(_) => buffer[0],
-        Err(_) => 0,
-    }
-}
 
 /// Whether the first word begins with this letter.
 fn begins_with<R: Env>(rt: &R, letter: u8) -> bool {
@@ -141,22 +113,7 @@ fn timed_text(rt: HostRuntime) -> ExitCode {
     }
 }
 
-fn timed_query(rt: HostRuntime) -> ExitCode {
-    let what = letter_at(&rt, 2);
-    let Ok((rows, sum)) = eval::evaluated(rt.alloc(), what, number_at(&rt, 3), number_at(&rt, 4))
-    else {
-        return ExitCode::from(4);
-    };
-    match println!(rt; "{rows} rows, sum {sum}") {
-        Ok(()) => ExitCode::from(0),
-        Err(_) => ExitCode::from(6),
-    }
-}
-
 fn main(rt: HostRuntime) -> ExitCode {
-    if begins_with(&rt, b'e') {
-        return timed_query(rt);
-    }
     if begins_with(&rt, b'w') || begins_with(&rt, b'r') || begins_with(&rt, b'd') {
         return timed_text(rt);
     }
