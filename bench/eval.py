@@ -1,11 +1,11 @@
 #!/usr/bin/env python3
-"""Times `mesh_bench` on queries over tables of many rows, and the same queries in SQLite, in memory: a join, a left join
+"""Times `mesh_answers` on queries over tables of many rows, and the same queries in SQLite, in memory: a join, a left join
 of which half the rows have no partner, groups, DISTINCT, COUNT(DISTINCT), a filter and a CASE of ten branches, each over
 1,000,000, 100,000 and 50,000 rows. Prints seconds of processor of one evaluation, growth from 50,000 to 100,000 rows, and
 beside them SQLite's seconds for the same rows, all of which it hands over. Last it prints the most memory that a run took,
 and that of the tables alone.
 
-Usage: bench/eval.py [PROGRAM], where PROGRAM is crates/mesh_bench/out/mesh_bench if left out (`rt run` makes it)."""
+Usage: bench/eval.py [PROGRAM], where PROGRAM is crates/mesh_answers/out/mesh_answers if left out (`rt run` makes it)."""
 import os
 import resource
 import sqlite3
@@ -30,7 +30,7 @@ QUERIES = {
 
 def run(program, what, rows, times):
     """Seconds of processor, megabytes at the most, and what was printed."""
-    words = [program, "eval", what, str(rows), str(times)]
+    words = [program, what, str(rows), str(times)]
     child = subprocess.Popen(words, stdout=subprocess.PIPE, text=True)
     said = child.stdout.read()
     _, status, used = os.wait4(child.pid, 0)
@@ -65,7 +65,7 @@ def theirs(what, rows):
 
 
 def main():
-    program = sys.argv[1] if len(sys.argv) > 1 else f"{TOP}/crates/mesh_bench/out/mesh_bench"
+    program = sys.argv[1] if len(sys.argv) > 1 else f"{TOP}/crates/mesh_answers/out/mesh_answers"
     for what in QUERIES:
         taken = {}
         for rows in SIZES:
