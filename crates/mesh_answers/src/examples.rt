@@ -61,9 +61,13 @@ fn pairs(
     let mut made = select(alloc);
     add_from(alloc, &mut made, Join::First, left, None)?;
     add_from(alloc, &mut made, join, right, on)?;
-    show(alloc, &mut made, X_V)?;
-    show(alloc, &mut made, Y_V)?;
+    show_both(alloc, &mut made)?;
     Ok(made)
+}
+
+fn show_both(alloc: Global, made: &mut Select) -> Result<(), Memory> {
+    show(alloc, made, X_V)?;
+    show(alloc, made, Y_V)
 }
 
 fn show(alloc: Global, made: &mut Select, of: (u32, &[u8])) -> Result<(), Memory> {
@@ -166,14 +170,26 @@ pub fn all_lonely(alloc: Global) -> Result<Select, Memory> {
     pairs(alloc, b"s", Join::Left, b"e", Some(on))
 }
 
+/// With LEFT JOIN a.r AS z ON z.v = y.v.
+fn with_third(alloc: Global, made: &mut Select) -> Result<(), Memory> {
+    let on = equal(alloc, Z_V, Y_V)?;
+    add_from(alloc, made, Join::Left, b"r", Some(on))
+}
+
+fn three_joined(alloc: Global) -> Result<Select, Memory> {
+    let mut made = left_join(alloc)?;
+    with_third(alloc, &mut made)?;
+    Ok(made)
+}
+
+fn is_null(alloc: Global, of: (u32, &[u8])) -> Result<Expr, Memory> {
+    let of = column(alloc, of.0, of.1)?;
+    Ok(Expr::IsNull(Boxed::new(alloc, of)?))
+}
+
 /// a.s AS x LEFT JOIN a.r AS y ON x.k = y.k LEFT JOIN a.r AS z ON z.v = y.v WHERE z.v IS NULL
 pub fn a_third_item(alloc: Global) -> Result<Select, Memory> {
-    let mut made = left_join(alloc)?;
-    let on = equal(alloc, Z_V, Y_V)?;
-    add_from(alloc, &mut made, Join::Left, b"r", Some(on))?;
-    let third = Boxed::new(alloc, column(alloc, Z_V.0, Z_V.1)?)?;
-    made.filter = Some(Expr::IsNull(third));
-    Ok(made)
+    only(three_joined(alloc), is_null(alloc, Z_V))
 }
 
 /// FROM a.s AS x, a.r AS y WHERE x.k = y.k
@@ -207,13 +223,22 @@ pub fn where_behind_a_left_join(alloc: Global) -> Result<Select, Memory> {
     only(pairs, with(alloc, Op::Eq, key, or_number(alloc, Y_K, 2)))
 }
 
-/// FROM a.s AS x, a.r AS y, a.s AS z WHERE x.k = y.k AND z.v = y.v - 10, with z.v for y.v
-pub fn where_over_three(alloc: Global) -> Result<Select, Memory> {
-    let mut made = all_pairs(alloc)?;
-    add_from(alloc, &mut made, Join::Cross, b"s", None)?;
+/// With a.s AS z, where z.v is shown for y.v.
+fn with_third_shown(alloc: Global, made: &mut Select) -> Result<(), Memory> {
+    add_from(alloc, made, Join::Cross, b"s", None)?;
     let _ = made.items.pop();
-    show(alloc, &mut made, Z_V)?;
+    show(alloc, made, Z_V)
+}
+
+fn three_listed(alloc: Global) -> Result<Select, Memory> {
+    let mut made = all_pairs(alloc)?;
+    with_third_shown(alloc, &mut made)?;
+    Ok(made)
+}
+
+/// SELECT x.v, z.v FROM a.s AS x, a.r AS y, a.s AS z WHERE x.k = y.k AND z.v = y.v - 10
+pub fn where_over_three(alloc: Global) -> Result<Select, Memory> {
     let third = column(alloc, Z_V.0, Z_V.1);
     let last = with(alloc, Op::Eq, third, step(alloc, Y_V, Op::Sub, 10));
-    only(Ok(made), with(alloc, Op::And, equal(alloc, X_K, Y_K), last))
+    only(three_listed(alloc), with(alloc, Op::And, equal(alloc, X_K, Y_K), last))
 }
