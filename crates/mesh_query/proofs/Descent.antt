@@ -1,25 +1,34 @@
 -- How the functions of the descent end, and steps of more than one token.
-use Rattle.std.proofs.Common.{◌≡◌, ℕ, ℤ, ◌+◌, ◌<◌, ◌≤◌, List, [], ◌∷◌, codes, Bool, true, false, ◌&&◌, Option, Some, None, Result, Ok, Err, MatchResult, IsErr, IsErrAnd, length, drop, get_or, refl, ap, sym, ◌∙◌, subst, arith, inl, inr, ◌⊎◌}
+use Rattle.std.proofs.Common.{◌≡◌, ℕ, ℤ, ◌+◌, ◌<◌, ◌≤◌, List, [], ◌∷◌, ◌++◌, codes, Bool, true, false, ◌&&◌, ◌||◌, Option, Some, None, Result, Ok, Err, MatchResult, IsErr, IsErrAnd, length, drop, get_or, refl, ap, sym, ◌∙◌, subst, arith, inl, inr, ◌⊎◌}
 use Rattle.std.specs.Str.{bytes_eq}
-use Rattle.std.proofs.lemmas.List.{drop_more, drop_all}
-use Rattle.std.proofs.lemmas.Bool.{cases_lt, and_parts}
+use Rattle.std.proofs.lemmas.List.{drop_more, drop_all, drop-drop}
+use Rattle.std.proofs.lemmas.Bool.{cases_lt, cases_Bool, or_parts}
 use Rattle.mesh_tokens.specs.declared.tokens.Token.{Token}
 use Rattle.mesh_tokens.specs.declared.tokens.TokenKind.{TokenKind}
 use Rattle.mesh_tokens.specs.declared.tokens.TokenKind.TheVariants.{Ident, Number}
+use Rattle.mesh_base.specs.declared.values.ColType.{ColType}
+use Rattle.mesh_surface.specs.declared.signs.AddSign.{AddSign}
+use Rattle.mesh_surface.specs.declared.signs.MulSign.{MulSign}
+use Rattle.mesh_surface.specs.declared.expressions.AddStep.{AddStep, roll-AddStep}
+use Rattle.mesh_surface.specs.declared.expressions.MulExpr.{MulExpr}
+use Rattle.mesh_surface.specs.declared.expressions.MulStep.{MulStep, roll-MulStep}
+use Rattle.mesh_surface.specs.declared.expressions.Unary.{Unary}
+use Rattle.mesh_surface.specs.declared.expressions.Primary.{Primary}
 use Rattle.mesh_surface.specs.declared.signs.Function.{Function}
 use Rattle.mesh_surface.specs.declared.signs.Function.TheVariants as the_function
-use Rattle.mesh_grammar.specs.Signs.{place, Next, IsDay, IsName}
+use Rattle.mesh_grammar.specs.Signs.{place, Next, IsDay, IsName, IsSign, IsType, add_text, mul_text}
 use Rattle.mesh_grammar.specs.Words.{is_reserved}
-use Rattle.mesh_grammar.specs.Rules.{Rule, Tree, value, named, arguments}
-use Rattle.mesh_grammar.specs.Plans.{Plan, done, stuck, accept, peek, note, read, nest, day, star, plan, said, kind_is_word, is_word, is_text, is_name, is_number, is_macro, column_plan, named_plan, literal_plan}
+use Rattle.mesh_grammar.specs.Rules.{Rule, Tree, product, more_sums, signed, more_products, more_casts, value, named, arguments}
+use Rattle.mesh_grammar.specs.Plans.{Plan, done, stuck, accept, peek, note, read, nest, day, star, plan, said, kind_is_word, is_word, is_sign, is_text, is_name, call_plan, is_number, is_macro, is_any, negated, ends_items, begins_join, column_plan, named_plan, literal_plan}
 use Rattle.mesh_grammar.specs.Machine.{begins, begins_star, are_star, Runs, Reads, ends, reads, days, stars, Fails, Cause, syntax, nesting, fails_here, fails_deep, fails_day, fails_behind_day, fails_first, fails_then, fails_inside, fails_starred}
-use Rattle.mesh_grammar.proofs.Heads.{word_at}
+use Rattle.mesh_grammar.proofs.Heads.{name_at}
 use Rattle.mesh_grammar.proofs.Runs.{parts}
+use Rattle.mesh_grammar.proofs.Takes.{name_taken, sign_taken}
 use Rattle.mesh_words.specs.declared.fault.Fault.{Fault}
 use Rattle.mesh_words.specs.declared.fault.Fault.TheVariants as fault
 use Rattle.mesh_words.specs.Answers.{IsNot, Onward}
-use Rattle.mesh_words.proofs.Steps.{started, noted, past, without, missed, has_read, is_done}
-use Rattle.mesh_query.specs.Answers.{Failed, IsNoDay}
+use Rattle.mesh_words.proofs.Steps.{started, noted, past, past_sign, past_type, past_add, past_mul, without, missed, saw, has_read, is_done}
+use Rattle.mesh_query.specs.Answers.{Failed, IsNoDay, function_in, kind_calls}
 use Rattle.mesh_query.specs.Rests.{one_alone, word_plan}
 
 -- what is answered is handed on
@@ -110,7 +119,7 @@ alone the_function.Min a b c = noted started
 alone the_function.Max a b c = noted started
 
 -- an error that is passed on
-pub told : {A : Type 0} (P : A × ℕ → Type 0) (F : Fault → Type 0) (r : Result (A × ℕ) Fault) {e : Fault} → IsErr r × IsErrAnd r (λ x. x ≡ e) → F e → MatchResult r P F
+pub told : {A : Type 0} (P : A → Type 0) (F : Fault → Type 0) (r : Result A Fault) {e : Fault} → IsErr r × IsErrAnd r (λ x. x ≡ e) → F e → MatchResult r P F
 told P F (Ok x) h g = absurd h.1
 told P F (Err x) h g = subst F (sym h.1) g
 
@@ -138,3 +147,113 @@ unworded I a b c = without (without (without I a) b) c
 -- a token is taken of which the rest of the phrase has a part
 pub past_said : {n : ℕ} {r : Rule} {s w m : List Token} {A : Type 0} {test : Token → Bool} {says : Token → A} (F : A → Plan r) {q : Plan r} (a : A) (k : Token) → Onward n r s (accept test (λ k. F (says k)) q) w → w ≡ k ∷ m → test k ≡ true → says k ≡ a → Onward n r s (F a) m
 past_said {n = n} {r = r} {s = s} {m = m} F a k I h g e = subst (λ (z : _). Onward n r s (F z) m) e (past I k h g)
+
+-- the token that passes a test
+taken_at : (test : Token → Bool) (ts : List Token) (at : ℕ) → begins test (drop at ts) ≡ true → (k : Token) × (drop at ts ≡ k ∷ drop (at + 1) ts) × (test k ≡ true)
+taken_at test ts at h = within (cases_lt at (length ts))
+  where
+    d : Token
+    d = record { start = 0; end = 0; kind = Number 0 }
+    within : (at < length ts) ⊎ (length ts ≤ at) → (k : Token) × (drop at ts ≡ k ∷ drop (at + 1) ts) × (test k ≡ true)
+    within (inl g) = let e = drop_more ts at d g in (get_or ts at d, e, sym (ap (begins test) e) ∙ h)
+    within (inr g) = let f : false ≡ true = sym (ap (begins test) (drop_all at ts g)) ∙ h in absurd cc
+
+-- the name that stands at a place
+pub name_here : (ts : List Token) (at : ℕ) → begins is_name (drop at ts) ≡ true → (x : List ℕ) × IsName x (drop at ts) (drop (at + 1) ts)
+name_here ts at h =
+    let y = taken_at is_name ts at h in
+    (said y.0, subst (λ (z : List Token). IsName (said y.0) z (drop (at + 1) ts)) (sym y.1) (name_at y.0 y.2 (drop (at + 1) ts)))
+
+-- behind a name that a parenthesis makes a function's
+pub call_left : {n at : ℕ} {x : List ℕ} (ts : List Token) (from : ℕ) (o : Option Function) → o ≡ function_in (drop from ts) → IsName x (drop from ts) (drop (from + 1) ts) →
+    (begins (is_word (codes "date")) (drop from ts) && begins is_text (drop (from + 1) ts)) ≡ false → begins (is_sign (codes "(")) (drop (from + 1) ts) ≡ true → Onward n (named at x) (drop (from + 1) ts) (call_plan at x o) (drop (from + 1) ts)
+call_left {n = n} {at = at} {x = x} ts from o e g f p =
+    subst (λ (z : Option Function). Onward n (named at x) (drop (from + 1) ts) (call_plan at x z) (drop (from + 1) ts)) (sym (e ∙ ap function_in g.0.1 ∙ ap kind_calls g.0.2)) (saw (name_left ts from (from + 1) refl g f) p)
+
+-- what was read is the whole
+pub closed_by : {n : ℕ} {r o : Rule} {s m e : List Token} {f : Tree o → Plan r} (a : Tree o) → Onward n r s (read o f) m → Reads n o a m e → Onward n r s (f a) e
+closed_by a I d = has_read a I d
+
+-- one of two tests that a token passes
+pub one_of_two : (f g : Token → Bool) (s : List Token) → begins (λ k. f k || g k) s ≡ (begins f s || begins g s)
+one_of_two f g [] = refl
+one_of_two f g (k ∷ s) = refl
+
+pub sum_begun : {n at : ℕ} {x : MulExpr} {xs : List AddStep} {w m : List Token} (o : AddSign) → IsSign (add_text o) w m → Onward n (more_sums at x xs) w (read product (λ y. read (more_sums at x (xs ++ roll-AddStep (record { at = place w; sign = o; part = y }) ∷ [])) done)) m
+sum_begun {at = at} {x = x} {xs = xs} o h = past_add o (λ a z. read product (λ y. read (more_sums at x (xs ++ roll-AddStep (record { at = a; sign = z; part = y }) ∷ [])) done)) started h
+
+pub sum_on : {n at : ℕ} {x : MulExpr} {xs : List AddStep} {w m e : List Token} (o : AddSign) (y : MulExpr) → IsSign (add_text o) w m → Reads n product y m e → Onward n (more_sums at x xs) w (read (more_sums at x (xs ++ roll-AddStep (record { at = place w; sign = o; part = y }) ∷ [])) done) e
+sum_on o y h d = has_read y (sum_begun o h) d
+
+pub product_begun : {n at : ℕ} {x : Unary} {xs : List MulStep} {w m : List Token} (o : MulSign) → IsSign (mul_text o) w m → Onward n (more_products at x xs) w (read signed (λ y. read (more_products at x (xs ++ roll-MulStep (record { at = place w; sign = o; part = y }) ∷ [])) done)) m
+product_begun {at = at} {x = x} {xs = xs} o h = past_mul o (λ a z. read signed (λ y. read (more_products at x (xs ++ roll-MulStep (record { at = a; sign = z; part = y }) ∷ [])) done)) started h
+
+pub product_on : {n at : ℕ} {x : Unary} {xs : List MulStep} {w m e : List Token} (o : MulSign) (y : Unary) → IsSign (mul_text o) w m → Reads n signed y m e → Onward n (more_products at x xs) w (read (more_products at x (xs ++ roll-MulStep (record { at = place w; sign = o; part = y }) ∷ [])) done) e
+product_on o y h d = has_read y (product_begun o h) d
+
+pub cast_on : {n at : ℕ} {v : Primary} {ks : List ColType} {k : ColType} {w m e : List Token} → IsSign (codes "::") w m → IsType k m e → Onward n (more_casts at v ks) w (read (more_casts at v (ks ++ k ∷ [])) done) e
+cast_on {at = at} {v = v} {ks = ks} h g = past_type (λ k. read (more_casts at v (ks ++ k ∷ [])) done) (past_sign (codes "::") started h) g
+
+-- a token that is there is not at fault
+pub no_fault : (n : ℕ) (r : Rule) (s : List Token) (test : Token → Bool) (ts : List Token) (at : ℕ) (e : Fault) → IsNot test ts at e → (begins test (drop at ts) ≡ false → ⊥) → Failed n r s ts e
+no_fault n r s test ts at fault.Memory g h = tt
+no_fault n r s test ts at (fault.Syntax q) g h = absurd (h g.1)
+no_fault n r s test ts at fault.Nesting g h = absurd g
+
+-- a name, a dot and a star
+pub all_of : {n : ℕ} {r : Rule} {s w m i e : List Token} {x : List ℕ} (F : List ℕ → Plan r) {q : Plan r} → Onward n r s (star (λ k. F (said k)) q) w → IsName x w m → IsSign (codes ".") m i → IsSign (codes "*") i e → Onward n r s (F x) e
+all_of {n = n} {r = r} {s = s} {e = e} F I h g f =
+    let name = name_taken h in
+    let stars : are_star h.0.0 g.0 f.0 ≡ true = rw (name.0, sign_taken (codes ".") g.0 g.2, sign_taken (codes "*") f.0 f.2) refl in
+    let whole = h.0.1 ∙ ap (λ (z : List Token). h.0.0 ∷ z) (g.1 ∙ ap (λ (z : List Token). g.0 ∷ z) f.1) in
+    subst (λ (z : List ℕ). Onward n r s (F z) e) name.1 (has_star I h.0.0 g.0 f.0 whole stars)
+
+-- behind the comma behind the last item
+pub items_over : {n : ℕ} {r : Rule} {s m : List Token} {p q : Plan r} → Onward n r s (peek ends_items p (peek is_any q p)) m → (negated (begins is_any m) || begins ends_items m) ≡ true → Onward n r s p m
+items_over {n = n} {r = r} {s = s} {m = m} {p = p} I h = split (cases_Bool (begins ends_items m)) (cases_Bool (begins is_any m))
+  where
+    split : (begins ends_items m ≡ true) ⊎ (begins ends_items m ≡ false) → (begins is_any m ≡ true) ⊎ (begins is_any m ≡ false) → Onward n r s p m
+    split (inl g) _ = saw I g
+    split (inr g) (inr f) = missed (missed I g) f
+    split (inr g) (inl f) = let z : (negated true || false) ≡ true = subst (λ (b : Bool). (negated true || b) ≡ true) g (subst (λ (b : Bool). (negated b || begins ends_items m) ≡ true) f h) in absurd cc
+
+-- behind a comma that another item follows
+pub items_left : {n : ℕ} {r : Rule} {s m : List Token} {p q : Plan r} → Onward n r s (peek ends_items p (peek is_any q p)) m → (negated (begins is_any m) || begins ends_items m) ≡ false → Onward n r s q m
+items_left {m = m} I h =
+    let y = or_parts (negated (begins is_any m)) (begins ends_items m) h in
+    saw (missed I y.1) (any_there (begins is_any m) y.0)
+  where
+    any_there : (b : Bool) → negated b ≡ false → b ≡ true
+    any_there true h = refl
+    any_there false h = absurd cc
+
+-- the tests of the next token, one by one
+pub join_tests : (s : List Token) → begins begins_join s ≡ (begins (is_sign (codes ",")) s || begins (is_word (codes "cross")) s || begins (is_word (codes "inner")) s || begins (is_word (codes "join")) s || begins (is_word (codes "left")) s)
+join_tests [] = refl
+join_tests (k ∷ s) = refl
+
+pub item_tests : (s : List Token) → begins ends_items s ≡ (begins (is_word (codes "from")) s || begins (is_word (codes "where")) s || begins (is_word (codes "group")) s || begins (is_word (codes "having")) s || begins (is_word (codes "union")) s || begins (is_sign (codes ")")) s || begins (is_sign (codes ";")) s)
+item_tests [] = refl
+item_tests (k ∷ s) = refl
+
+pub any_at : (ts : List Token) (at : ℕ) → at < length ts → begins is_any (drop at ts) ≡ true
+any_at ts at h = ap (begins is_any) (drop_more ts at (record { start = 0; end = 0; kind = Number 0 }) h)
+
+pub any_past : (ts : List Token) (at : ℕ) → length ts ≤ at → begins is_any (drop at ts) ≡ false
+any_past ts at h = ap (begins is_any) (drop_all at ts h)
+
+-- a name, a dot and a star, one by one
+pub star_tests : (ts : List Token) (at : ℕ) → begins_star (drop at ts) ≡ (begins is_name (drop at ts) && begins (is_sign (codes ".")) (drop (at + 1) ts) && begins (is_sign (codes "*")) (drop (at + 2) ts))
+star_tests ts at = rw (← drop-drop 1 at ts, ← drop-drop 2 at ts) (of_list (drop at ts))
+  where
+    falls : (b : Bool) → (b && false) ≡ false
+    falls true = refl
+    falls false = refl
+    of_list : (s : List Token) → begins_star s ≡ (begins is_name s && begins (is_sign (codes ".")) (drop 1 s) && begins (is_sign (codes "*")) (drop 2 s))
+    of_list [] = refl
+    of_list (k ∷ []) = sym (falls (is_name k && false))
+    of_list (k ∷ d ∷ []) = sym (falls (is_name k && is_sign (codes ".") d))
+    of_list (k ∷ d ∷ m ∷ s) = refl
+
+pub both : {b : Bool} → b ≡ true → b ≡ false → ⊥
+both h g = let e : true ≡ false = sym h ∙ g in absurd cc

@@ -5,7 +5,7 @@ ghost use Rattle.mesh_surface.specs.declared.signs.Function.{Function as Functio
 ghost use Rattle.mesh_surface.specs.declared.signs.Function.TheVariants.{Count, Coalesce, Nullif};
 ghost use Rattle.mesh_grammar.specs.Signs.{place as place_of};
 ghost use Rattle.mesh_grammar.specs.Rules.{expr as an_expr, conjunction as a_conjunction, negation as a_negation, pred as a_pred, tested, ranged, cat as a_cat, sum as a_sum, product as a_product, signed, post as a_post, value, group as a_group, case as a_case, cast as a_cast, operand, arms as some_arms, arm as an_arm, otherwise, arguments, exprs as some_exprs};
-ghost use Rattle.mesh_grammar.specs.Plans.{is_word as is_the_word, is_sign as is_the_sign, is_name as is_a_name, is_text as is_a_text};
+ghost use Rattle.mesh_grammar.specs.Plans.{begins_range, is_word as is_the_word, is_sign as is_the_sign, is_name as is_a_name, is_text as is_a_text};
 ghost use Rattle.mesh_grammar.specs.Machine.{begins};
 ghost use Rattle.mesh_query.specs.Answers.{Answers, AnswersOn};
 ghost use Rattle.mesh_query.specs.Rests.{behind_is, behind_between, behind_in, unopened, one_alone};
@@ -138,7 +138,7 @@ fn test(
     if is_word(tokens, from, b"not") {
         return range_test(alloc, tokens, nodes, true, depth, from + 1);
     }
-    if is_word(tokens, from, b"between") || is_word(tokens, from, b"in") {
+    if is_range(tokens, from) {
         return range_test(alloc, tokens, nodes, false, depth, from);
     }
     match comparison(tokens, from) {
@@ -149,6 +149,14 @@ fn test(
         }
         None => Ok((Test::Nothing, from)),
     }
+}
+
+// Whether BETWEEN or IN stands here.
+#[tactic(auto, using(crate::proofs::Descent::one_of_two))]
+fn is_range(tokens: &[Token], at: usize) -> bool
+    ensures { result ≡ begins begins_range (drop at tokens.now) }
+{
+    is_word(tokens, at, b"between") || is_word(tokens, at, b"in")
 }
 
 // What stands behind IS.
@@ -382,14 +390,14 @@ fn primary(
     if is_date(tokens, from) {
         return date(tokens, nodes, from);
     }
-    if !is_name(tokens, from) {
-        return literal(tokens, nodes, from);
+    if is_name(tokens, from) {
+        nodes.meet();
+        if is_sign(tokens, from + 1, b"(") {
+            return call(alloc, tokens, nodes, depth, from);
+        }
+        return column(tokens, from);
     }
-    nodes.meet();
-    if is_sign(tokens, from + 1, b"(") {
-        return call(alloc, tokens, nodes, depth, from);
-    }
-    column(tokens, from)
+    literal(tokens, nodes, from)
 }
 
 // An expression in parentheses.

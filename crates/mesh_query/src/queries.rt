@@ -207,6 +207,7 @@ fn items(
 }
 
 // Whether what stands here comes behind the items of a SELECT.
+#[tactic(auto, using(crate::proofs::Descent::item_tests, crate::proofs::Descent::any_at, crate::proofs::Descent::any_past))]
 fn are_items_over(tokens: &[Token], at: usize) -> bool
     ensures { result ≡ (negated (begins is_any (drop at tokens.now)) || begins ends_items (drop at tokens.now)) }
 {
@@ -246,6 +247,7 @@ fn item(
 }
 
 // Whether a name, a dot and a star stand here.
+#[tactic(auto, using(crate::proofs::Descent::star_tests))]
 fn is_all_of(tokens: &[Token], at: usize) -> bool
     ensures { result ≡ begins_star (drop at tokens.now) }
 {

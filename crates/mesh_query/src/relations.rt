@@ -1,5 +1,5 @@
 // What a SELECT reads from.
-ghost use Rattle.std.specs.Prelude.{◌≡◌, ◌<◌, ◌≤◌, ℕ, List, drop, IfOk};
+ghost use Rattle.std.specs.Prelude.{◌≡◌, ◌<◌, ◌≤◌, ℕ, List, drop, length, IfOk, IsTrue};
 ghost use Rattle.mesh_tokens.specs.declared.tokens.Token.{Token as Tokens};
 ghost use Rattle.mesh_grammar.specs.Rules.{Rule, source as a_source, relations as some_relations, join as a_join, joined as a_joined, relation as a_relation, qualified as a_name};
 ghost use Rattle.mesh_grammar.specs.Plans.{Plan, accept, begins_join as opens_join, is_word as is_the_word};
@@ -58,8 +58,10 @@ fn relations(
     Ok((whole, at))
 }
 
+#[tactic(auto, using(crate::proofs::Descent::join_tests))]
 fn begins_join(tokens: &[Token], at: usize) -> bool
-    ensures { result ≡ begins opens_join (drop at tokens.now) }
+    ensures within { IsTrue result → (at < length tokens.now) }
+    ensures seen { result ≡ begins opens_join (drop at tokens.now) }
 {
     is_sign(tokens, at, b",")
         || is_word(tokens, at, b"cross")
