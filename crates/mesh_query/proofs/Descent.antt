@@ -1,11 +1,11 @@
 -- How the functions of the descent end, and steps of more than one token.
-use Rattle.std.proofs.Common.{◌≡◌, ℕ, ℤ, ◌+◌, ◌<◌, ◌≤◌, List, [], ◌∷◌, ◌++◌, codes, Bool, true, false, ◌&&◌, ◌||◌, Option, Some, None, Result, Ok, Err, MatchResult, IsErr, IsErrAnd, length, drop, get_or, refl, ap, sym, ◌∙◌, subst, arith, inl, inr, ◌⊎◌}
+use Rattle.std.proofs.Common.{◌≡◌, ℕ, ℤ, ◌+◌, ◌<◌, ◌≤◌, List, [], ◌∷◌, ◌++◌, codes, Bool, true, false, ◌&&◌, ◌||◌, Option, Result, Ok, Err, MatchResult, IsErr, IsErrAnd, length, drop, get_or, refl, ap, sym, ◌∙◌, subst, inl, inr, ◌⊎◌}
 use Rattle.std.specs.Str.{bytes_eq}
 use Rattle.std.proofs.lemmas.List.{drop_more, drop_all, drop-drop}
 use Rattle.std.proofs.lemmas.Bool.{cases_lt, cases_Bool, or_parts}
 use Rattle.mesh_tokens.specs.declared.tokens.Token.{Token}
 use Rattle.mesh_tokens.specs.declared.tokens.TokenKind.{TokenKind}
-use Rattle.mesh_tokens.specs.declared.tokens.TokenKind.TheVariants.{Ident, Number}
+use Rattle.mesh_tokens.specs.declared.tokens.TokenKind.TheVariants.{Number}
 use Rattle.mesh_base.specs.declared.values.ColType.{ColType}
 use Rattle.mesh_surface.specs.declared.signs.AddSign.{AddSign}
 use Rattle.mesh_surface.specs.declared.signs.MulSign.{MulSign}
@@ -19,7 +19,7 @@ use Rattle.mesh_surface.specs.declared.signs.Function.TheVariants as the_functio
 use Rattle.mesh_grammar.specs.Signs.{place, Next, IsDay, IsName, IsSign, IsType, add_text, mul_text}
 use Rattle.mesh_grammar.specs.Words.{is_reserved}
 use Rattle.mesh_grammar.specs.Rules.{Rule, Tree, product, more_sums, signed, more_products, more_casts, value, named, arguments}
-use Rattle.mesh_grammar.specs.Plans.{Plan, done, stuck, accept, peek, note, read, nest, day, star, plan, said, kind_is_word, is_word, is_sign, is_text, is_name, call_plan, is_number, is_macro, is_any, negated, ends_items, begins_join, column_plan, named_plan, literal_plan}
+use Rattle.mesh_grammar.specs.Plans.{Plan, done, stuck, accept, peek, read, nest, day, star, plan, said, kind_is_word, is_word, is_sign, is_text, is_name, call_plan, is_number, is_macro, is_any, negated, ends_items, begins_join, column_plan, named_plan, literal_plan}
 use Rattle.mesh_grammar.specs.Machine.{begins, begins_star, are_star, Runs, Reads, ends, reads, days, stars, Fails, Cause, syntax, nesting, fails_here, fails_deep, fails_day, fails_behind_day, fails_first, fails_then, fails_inside, fails_starred}
 use Rattle.mesh_grammar.proofs.Heads.{name_at}
 use Rattle.mesh_grammar.proofs.Runs.{parts}
@@ -154,6 +154,7 @@ taken_at test ts at h = within (cases_lt at (length ts))
   where
     d : Token
     d = record { start = 0; end = 0; kind = Number 0 }
+
     within : (at < length ts) ⊎ (length ts ≤ at) → (k : Token) × (drop at ts ≡ k ∷ drop (at + 1) ts) × (test k ≡ true)
     within (inl g) = let e = drop_more ts at d g in (get_or ts at d, e, sym (ap (begins test) e) ∙ h)
     within (inr g) = let f : false ≡ true = sym (ap (begins test) (drop_all at ts g)) ∙ h in absurd cc
@@ -249,6 +250,7 @@ star_tests ts at = rw (← drop-drop 1 at ts, ← drop-drop 2 at ts) (of_list (d
     falls : (b : Bool) → (b && false) ≡ false
     falls true = refl
     falls false = refl
+
     of_list : (s : List Token) → begins_star s ≡ (begins is_name s && begins (is_sign (codes ".")) (drop 1 s) && begins (is_sign (codes "*")) (drop 2 s))
     of_list [] = refl
     of_list (k ∷ []) = sym (falls (is_name k && false))

@@ -1,6 +1,6 @@
 -- From the answers of the descent to what is refused, and that what is read is the only tree.
-use Rattle.std.proofs.Common.{◌≡◌, ◌⊎◌, ℕ, ◌+◌, ◌<◌, ◌≤◌, [], ◌∷◌, ◌++◌, codes, inl, inr, List, Some, length, drop, take, get_or, refl, ap, sym, ◌∙◌, subst, append_assoc, arith}
-use Rattle.std.proofs.lemmas.List.{drop_more, take_more, take_all, take-append-drop, append_cancel_right}
+use Rattle.std.proofs.Common.{◌≡◌, ◌⊎◌, ℕ, ◌+◌, ◌<◌, [], ◌∷◌, ◌++◌, codes, inl, inr, List, length, drop, take, get_or, refl, ap, sym, ◌∙◌, append_assoc}
+use Rattle.std.proofs.lemmas.List.{drop_more, take_more, take-append-drop, append_cancel_right}
 use Rattle.mesh_tokens.specs.declared.tokens.Token.{Token}
 use Rattle.mesh_tokens.specs.declared.tokens.TokenKind.TheVariants.{Number}
 use Rattle.mesh_tokens.specs.declared.faults.FaultKind.TheVariants.{Syntax, TooLarge}

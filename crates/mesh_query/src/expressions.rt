@@ -19,8 +19,8 @@ use mesh_surface::{
 };
 use mesh_tokens::Token;
 use mesh_words::{
-    Fault, add_sign, column_type, comparison, is_date, is_name, is_sign, is_word, mul_sign,
-    nested, place, sign, word,
+    Fault, add_sign, column_type, comparison, is_date, is_name, is_sign, is_word, mul_sign, nested,
+    place, sign, word,
 };
 use std::alloc::Global;
 

@@ -118,7 +118,21 @@ pub fn column(tokens: &[Token], from: usize) -> Result<(Primary, usize), Fault>
     if is_sign(tokens, next, b".") {
         let (second, next) = name(tokens, next + 1)?;
         let item = Some(first);
-        return Ok((Primary::Column { at, item, name: second }, next));
+        return Ok((
+            Primary::Column {
+                at,
+                item,
+                name: second,
+            },
+            next,
+        ));
     }
-    Ok((Primary::Column { at, item: None, name: first }, next))
+    Ok((
+        Primary::Column {
+            at,
+            item: None,
+            name: first,
+        },
+        next,
+    ))
 }

@@ -94,11 +94,7 @@ fn last_end(tokens: &[Token], count: usize) -> u64
     requires { count ≤ length tokens.now }
     ensures { result ≡ end_of (take count tokens.now) }
 {
-    if count == 0 {
-        0
-    } else {
-        tokens[count - 1].end
-    }
+    if count == 0 { 0 } else { tokens[count - 1].end }
 }
 
 fn too_large(alloc: Global, what: &[u8], limit: u64) -> ReadFault

@@ -296,13 +296,25 @@ fn nesting_of_each_kind(rt: HostRuntime) -> Result<(), TestFail> {
     let alloc = rt.alloc();
     let kinds: [(&[u8], &[u8], &[u8]); 2] = [(b" not", b" a", b" )"), (b" -", b" 1", b" )")];
     for (words, last, behind) in kinds {
-        assert_eq!(rt; limit(alloc, repeated(alloc, words, 64, last)?.as_slice())?, 0);
-        assert_eq!(rt; limit(alloc, repeated(alloc, words, 65, last)?.as_slice())?, b'n');
-        assert_eq!(rt; limit(alloc, repeated(alloc, words, 65, behind)?.as_slice())?, b'n');
+        assert_eq!(rt;
+            limit(alloc, repeated(alloc, words, 64, last)?.as_slice())?,
+            0
+        );
+        assert_eq!(rt;
+            limit(alloc, repeated(alloc, words, 65, last)?.as_slice())?,
+            b'n'
+        );
+        assert_eq!(rt;
+            limit(alloc, repeated(alloc, words, 65, behind)?.as_slice())?,
+            b'n'
+        );
     }
     let case = repeated(alloc, b" case", 65, b" a")?;
     assert_eq!(rt; limit(alloc, case.as_slice())?, b'n');
-    assert_eq!(rt; place(alloc, repeated(alloc, b" case", 64, b" end")?.as_slice())?, 326);
+    assert_eq!(rt;
+        place(alloc, repeated(alloc, b" case", 64, b" end")?.as_slice())?,
+        326
+    );
     Ok(())
 }
 

@@ -1,4 +1,4 @@
-use Rattle.std.proofs.Common.{◌+◌, ◌*◌, ◌-◌, ◌≤◌, ◌≡◌, drop, length}
+use Rattle.std.proofs.Common.{◌+◌, ◌*◌, ◌-◌, ◌≤◌, drop, length}
 use Rattle.mesh_grammar.specs.Signs.{place}
 use Rattle.mesh_grammar.specs.Rules.{expr, more_ors, conjunction, more_ands, cat, more_cats, sum, more_sums, product, more_products, post, more_casts, arms, more_arms, exprs, more_exprs}
 use Rattle.mesh_grammar.specs.Plans.{done, read}

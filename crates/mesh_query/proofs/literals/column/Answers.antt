@@ -1,4 +1,4 @@
-use Rattle.std.proofs.Common.{◌≡◌, ◌+◌, ℕ, codes, false, Some, None, drop, arith, sym, subst, ◌∙◌}
+use Rattle.std.proofs.Common.{◌≡◌, ◌+◌, ℕ, codes, false, Some, drop, arith, sym, subst, ◌∙◌}
 use Rattle.mesh_surface.specs.declared.expressions.Primary.TheVariants as the_primary
 use Rattle.mesh_grammar.specs.Signs.{place}
 use Rattle.mesh_grammar.specs.Rules.{named}

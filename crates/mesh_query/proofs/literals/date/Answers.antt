@@ -1,4 +1,4 @@
-use Rattle.std.proofs.Common.{◌≡◌, ℕ, codes, true, drop, rules, arith, FitsSigned, w32, sym, subst}
+use Rattle.std.proofs.Common.{◌≡◌, ℕ, true, drop, rules, arith, FitsSigned, w32, sym, subst}
 use Rattle.std.proofs.lemmas.Int.{to_z-of_z}
 use Rattle.std.proofs.lemmas.Bool.{and_parts}
 use Rattle.mesh_grammar.specs.Signs.{place}

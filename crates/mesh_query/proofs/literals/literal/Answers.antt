@@ -1,4 +1,4 @@
-use Rattle.std.proofs.Common.{◌≡◌, ℕ, List, codes, arith, drop, ap, refl}
+use Rattle.std.proofs.Common.{codes, arith, drop, ap, refl}
 use Rattle.mesh_tokens.specs.declared.tokens.TokenKind.TheVariants as the_kind
 use Rattle.mesh_surface.specs.declared.expressions.Primary.TheVariants as the_primary
 use Rattle.mesh_grammar.specs.Signs.{place}

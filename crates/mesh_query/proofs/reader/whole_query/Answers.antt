@@ -1,4 +1,4 @@
-use Rattle.std.proofs.Common.{List, [], drop, subst}
+use Rattle.std.proofs.Common.{List, drop, subst}
 use Rattle.std.proofs.lemmas.List.{drop_all}
 use Rattle.mesh_tokens.specs.declared.tokens.Token.{Token}
 use Rattle.mesh_words.specs.Places.{deepest}
