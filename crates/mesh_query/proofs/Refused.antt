@@ -1,24 +1,69 @@
--- The two limits of a query are among its refusals, and what is read is the only tree.
-use Rattle.std.proofs.Common.{◌≡◌, ℕ, [], codes, inl, inr, List}
+-- From the answers of the descent to what is refused, and that what is read is the only tree.
+use Rattle.std.proofs.Common.{◌≡◌, ◌⊎◌, ℕ, ◌+◌, ◌<◌, [], ◌∷◌, ◌++◌, codes, inl, inr, List, length, drop, take, get_or, refl, ap, sym, ◌∙◌, append_assoc}
+use Rattle.std.proofs.lemmas.List.{drop_more, take_more, take-append-drop, append_cancel_right}
 use Rattle.mesh_tokens.specs.declared.tokens.Token.{Token}
-use Rattle.mesh_tokens.specs.declared.faults.FaultKind.TheVariants.{TooLarge}
+use Rattle.mesh_tokens.specs.declared.tokens.TokenKind.TheVariants.{Number}
+use Rattle.mesh_tokens.specs.declared.faults.FaultKind.TheVariants.{Syntax, TooLarge}
 use Rattle.mesh_tokens.specs.declared.faults.ReadFault.{ReadFault}
 use Rattle.mesh_tokens.specs.declared.faults.ReadFault.TheVariants.{Fault, Memory}
+use Rattle.mesh_words.specs.declared.fault.Fault.{Fault as TokenFault}
+use Rattle.mesh_words.specs.declared.fault.Fault.TheVariants as fault
+use Rattle.mesh_words.specs.Places.{deepest}
 use Rattle.mesh_surface.specs.declared.queries.Surface.{Surface}
 use Rattle.mesh_grammar.specs.Grammar.{query, Spells}
-use Rattle.mesh_grammar.specs.Beginnings.{IsQuery}
-use Rattle.mesh_grammar.proofs.Faults.{one_tree}
-use Rattle.mesh_query.specs.Refusals.{IsLimit, IsRefusal}
+use Rattle.mesh_grammar.specs.Rules.{query as the_query}
+use Rattle.mesh_grammar.specs.Machine.{next, Reads}
+use Rattle.mesh_grammar.proofs.Faults.{failed, too_deep, left_over}
+use Rattle.mesh_query.specs.Answers.{Failed}
+use Rattle.mesh_query.specs.Refusals.{end_of, IsTooDeep, IsLimit, IsAmiss, IsRefusal, IsShort}
 
-pub nesting_refused : (ts : List Token) (f : ReadFault) → IsLimit (codes "nesting") 64 f → IsRefusal ts f
-nesting_refused ts Memory h = tt
-nesting_refused ts (Fault at (TooLarge what limit)) h = (h.0, inl (h.1, h.2))
-nesting_refused ts (Fault at _) h = absurd h
+pub nesting_refused : (before s : List Token) (f : ReadFault) → IsLimit (codes "nesting") 64 f → IsTooDeep s → IsRefusal before s f
+nesting_refused before s Memory h d = tt
+nesting_refused before s (Fault at (TooLarge what limit)) h d = (h.0, inl (h.1, h.2, d))
+nesting_refused before s (Fault at _) h d = absurd h
 
-pub expression_refused : (ts : List Token) (f : ReadFault) → IsLimit (codes "expression") 4096 f → IsRefusal ts f
-expression_refused ts Memory h = tt
-expression_refused ts (Fault at (TooLarge what limit)) h = (h.0, inr (h.1, h.2))
-expression_refused ts (Fault at _) h = absurd h
+pub expression_refused : (before s : List Token) (f : ReadFault) → IsLimit (codes "expression") 4096 f → IsRefusal before s f
+expression_refused before s Memory h = tt
+expression_refused before s (Fault at (TooLarge what limit)) h = (h.0, inr (h.1, h.2))
+expression_refused before s (Fault at _) h = absurd h
 
-pub only_tree : (n : ℕ) (tree other : Surface) (ts : List Token) → Spells n (query tree) ts [] → IsQuery other ts → tree ≡ other
-only_tree n tree other ts d g = one_tree d g.1
+-- where the descent fails
+pub amiss : (ts s : List Token) (e : TokenFault) → Failed deepest the_query s ts e → IsAmiss ts s e
+amiss ts s fault.Memory d = tt
+amiss ts s (fault.Syntax q) d = failed d
+amiss ts s fault.Nesting d = too_deep d.1
+
+-- where something stands behind a query
+pub amiss_behind : (ts s : List Token) (tree : Surface) (q : ℕ) → q < length ts → Reads deepest the_query tree s (drop q ts) → IsAmiss ts s (fault.Syntax q)
+amiss_behind ts s tree q h d =
+    let k : Token = record { start = 0; end = 0; kind = Number 0 } in
+    left_over (get_or ts q k) (ap next (drop_more ts q k h)) d
+
+-- the tokens up to the one at fault
+up_to : (ts front : List Token) (from q : ℕ) → drop from ts ≡ front ++ drop q ts → take from ts ++ front ≡ take q ts
+up_to ts front from q h =
+    append_cancel_right (take from ts ++ front) (take q ts) (drop q ts)
+    (append_assoc (take from ts) front (drop q ts) ∙ ap (λ (z : List Token). take from ts ++ z) (sym h) ∙ take-append-drop from ts ∙ sym (take-append-drop q ts))
+
+pub syntax_refused : (ts : List Token) (from q at : ℕ) → IsAmiss ts (drop from ts) (fault.Syntax q) → at ≡ end_of (take q ts) → IsRefusal (take from ts) (drop from ts) (Fault at Syntax)
+syntax_refused ts from q at d h = (d.0, d.2, h ∙ ap end_of (sym (up_to ts d.0 from q d.1)), d.3)
+
+last_of : (s : List Token) (k : Token) → end_of (s ++ k ∷ []) ≡ k.end
+last_of [] k = refl
+last_of (j ∷ []) k = refl
+last_of (j ∷ i ∷ s) k = last_of (i ∷ s) k
+
+-- the end of the token before a place
+pub end_before : (ts : List Token) (at : ℕ) (d : Token) → at < length ts → end_of (take (at + 1) ts) ≡ (get_or ts at d).end
+end_before ts at d h = ap end_of (take_more ts at d h) ∙ last_of (take at ts) (get_or ts at d)
+
+-- what is a query of the depth that is allowed is refused for its size alone
+pub short : (before s : List Token) (f : ReadFault) (tree : Surface) → IsRefusal before s f → Spells deepest (query tree) s [] → IsShort f
+short before s Memory tree h d = tt
+short before s (Fault at Syntax) tree h d = absurd (h.3 tree (deepest, d))
+short before s (Fault at (TooLarge what limit)) tree h d = either h.1
+  where
+    either : ((what ≡ codes "nesting") × (limit ≡ deepest) × IsTooDeep s) ⊎ ((what ≡ codes "expression") × (limit ≡ 4096)) → IsShort (Fault at (TooLarge what limit))
+    either (inl g) = absurd (g.2 tree d)
+    either (inr g) = (h.0, g.0, g.1)
+short before s (Fault at _) tree h d = absurd h

@@ -1,2 +1,6 @@
 -- Refusals: why tokens are refused.
 pub mod Refusals
+-- Answers: what a function of the descent answers.
+pub mod Answers
+-- Rests: what is left of some rules when their beginnings have been read.
+pub mod Rests

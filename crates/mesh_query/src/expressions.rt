@@ -1,13 +1,16 @@
 // Expressions, level by level. Each function reads its form from a token on, and answers it with the place behind it.
 // `depth` is how many parentheses, CASEs, NOTs and minus signs may still be opened.
-ghost use Rattle.std.specs.Prelude.{◌≡◌, ℕ, codes, true, IfOk};
+ghost use Rattle.std.specs.Prelude.{◌≡◌, ◌+◌, ◌<◌, ◌&&◌, ℕ, codes, drop, true, false, IfOk};
 ghost use Rattle.mesh_surface.specs.declared.signs.Function.{Function as Functions};
-ghost use Rattle.mesh_surface.specs.declared.signs.Function.TheVariants.{Count};
-ghost use Rattle.mesh_grammar.specs.Signs.{IsWord};
-ghost use Rattle.mesh_grammar.specs.Grammar.{expr as an_expr, conjunction as a_conjunction, negation as a_negation, pred as a_pred, tested, ranged, cat as a_cat, sum as a_sum, product as a_product, signed, post as a_post, value, operand, arms as some_arms, arm as an_arm, otherwise, arguments, exprs as some_exprs, takes_one};
-ghost use Rattle.mesh_words.specs.Places.{Reads, ReadsBehind, ReadsOn};
+ghost use Rattle.mesh_surface.specs.declared.signs.Function.TheVariants.{Count, Coalesce, Nullif};
+ghost use Rattle.mesh_grammar.specs.Signs.{place as place_of};
+ghost use Rattle.mesh_grammar.specs.Rules.{expr as an_expr, conjunction as a_conjunction, negation as a_negation, pred as a_pred, tested, ranged, cat as a_cat, sum as a_sum, product as a_product, signed, post as a_post, value, group as a_group, case as a_case, cast as a_cast, operand, arms as some_arms, arm as an_arm, otherwise, arguments, exprs as some_exprs};
+ghost use Rattle.mesh_grammar.specs.Plans.{begins_range, is_word as is_the_word, is_sign as is_the_sign, is_name as is_a_name, is_text as is_a_text};
+ghost use Rattle.mesh_grammar.specs.Machine.{begins};
+ghost use Rattle.mesh_query.specs.Answers.{Answers, AnswersOn};
+ghost use Rattle.mesh_query.specs.Rests.{behind_is, behind_between, behind_in, unopened, one_alone};
 
-use crate::literals::{column, literal};
+use crate::literals::{column, date, function_at, literal};
 use crate::nodes::Nodes;
 use mesh_list::{Boxed, Seq};
 use mesh_surface::{
@@ -16,8 +19,8 @@ use mesh_surface::{
 };
 use mesh_tokens::Token;
 use mesh_words::{
-    Fault, add_sign, called, column_type, comparison, is_date, is_name, is_sign, is_word, mul_sign,
-    nested, place, sign, word,
+    Fault, add_sign, column_type, comparison, is_date, is_name, is_sign, is_word, mul_sign, nested,
+    place, sign, word,
 };
 use std::alloc::Global;
 
@@ -30,7 +33,7 @@ pub fn expr(
     depth: u32,
     from: usize,
 ) -> Result<(OrExpr, usize), Fault>
-    ensures { IfOk result (Reads depth an_expr tokens.now from) }
+    ensures { Answers depth an_expr tokens.now from result }
 {
     let (first, mut at) = conjunction(alloc, tokens, nodes, depth, from)?;
     let mut parts = Seq::new(alloc);
@@ -57,7 +60,7 @@ fn conjunction(
     depth: u32,
     from: usize,
 ) -> Result<(AndExpr, usize), Fault>
-    ensures { IfOk result (Reads depth a_conjunction tokens.now from) }
+    ensures { Answers depth a_conjunction tokens.now from result }
 {
     let (first, mut at) = negation(alloc, tokens, nodes, depth, from)?;
     let mut parts = Seq::new(alloc);
@@ -83,7 +86,7 @@ fn negation(
     depth: u32,
     from: usize,
 ) -> Result<(NotExpr, usize), Fault>
-    ensures { IfOk result (Reads depth a_negation tokens.now from) }
+    ensures { Answers depth a_negation tokens.now from result }
 {
     let at = place(tokens, from);
     if is_word(tokens, from, b"not") {
@@ -106,7 +109,7 @@ fn pred(
     depth: u32,
     from: usize,
 ) -> Result<(Pred, usize), Fault>
-    ensures { IfOk result (Reads depth a_pred tokens.now from) }
+    ensures { Answers depth a_pred tokens.now from result }
 {
     let (left, at) = cat(alloc, tokens, nodes, depth, from)?;
     let (test, next) = test(alloc, tokens, nodes, depth, at)?;
@@ -126,7 +129,7 @@ fn test(
     depth: u32,
     from: usize,
 ) -> Result<(Test, usize), Fault>
-    ensures { IfOk result (Reads depth tested tokens.now from) }
+    ensures { Answers depth tested tokens.now from result }
 {
     if is_word(tokens, from, b"is") {
         nodes.meet();
@@ -135,7 +138,7 @@ fn test(
     if is_word(tokens, from, b"not") {
         return range_test(alloc, tokens, nodes, true, depth, from + 1);
     }
-    if is_word(tokens, from, b"between") || is_word(tokens, from, b"in") {
+    if is_range(tokens, from) {
         return range_test(alloc, tokens, nodes, false, depth, from);
     }
     match comparison(tokens, from) {
@@ -148,9 +151,17 @@ fn test(
     }
 }
 
+// Whether BETWEEN or IN stands here.
+#[tactic(auto, using(crate::proofs::Descent::one_of_two))]
+fn is_range(tokens: &[Token], at: usize) -> bool
+    ensures { result ≡ begins begins_range (drop at tokens.now) }
+{
+    is_word(tokens, at, b"between") || is_word(tokens, at, b"in")
+}
+
 // What stands behind IS.
 fn null_test(tokens: &[Token], from: usize) -> Result<(Test, usize), Fault>
-    ensures { IfOk result (λ p. (n : ℕ) → ReadsBehind (IsWord (codes "is")) n tested tokens.now from p) }
+    ensures { (n : ℕ) → AnswersOn n tested behind_is tokens.now from result }
 {
     if is_word(tokens, from, b"not") {
         let at = word(tokens, from + 1, b"null")?;
@@ -170,7 +181,7 @@ fn range_test(
     depth: u32,
     from: usize,
 ) -> Result<(Test, usize), Fault>
-    ensures { IfOk result (Reads depth (ranged negated) tokens.now from) }
+    ensures { Answers depth (ranged negated) tokens.now from result }
 {
     if is_word(tokens, from, b"between") {
         nodes.meet();
@@ -191,7 +202,7 @@ fn between(
     depth: u32,
     from: usize,
 ) -> Result<(Test, usize), Fault>
-    ensures { IfOk result (ReadsBehind (IsWord (codes "between")) depth (ranged negated) tokens.now from) }
+    ensures { AnswersOn depth (ranged negated) (behind_between negated) tokens.now from result }
 {
     let (low, at) = cat(alloc, tokens, nodes, depth, from)?;
     let at = word(tokens, at, b"and")?;
@@ -210,7 +221,7 @@ fn one_of(
     depth: u32,
     from: usize,
 ) -> Result<(Test, usize), Fault>
-    ensures { IfOk result (ReadsBehind (IsWord (codes "in")) depth (ranged negated) tokens.now from) }
+    ensures { AnswersOn depth (ranged negated) (behind_in negated) tokens.now from result }
 {
     let at = sign(tokens, from, b"(")?;
     let deeper = nested(depth)?;
@@ -228,7 +239,7 @@ fn cat(
     depth: u32,
     from: usize,
 ) -> Result<(CatExpr, usize), Fault>
-    ensures { IfOk result (Reads depth a_cat tokens.now from) }
+    ensures { Answers depth a_cat tokens.now from result }
 {
     let (first, mut at) = sum(alloc, tokens, nodes, depth, from)?;
     let mut parts = Seq::new(alloc);
@@ -255,7 +266,7 @@ fn sum(
     depth: u32,
     from: usize,
 ) -> Result<(AddExpr, usize), Fault>
-    ensures { IfOk result (Reads depth a_sum tokens.now from) }
+    ensures { Answers depth a_sum tokens.now from result }
 {
     let (first, mut at) = product(alloc, tokens, nodes, depth, from)?;
     let mut rest = Seq::new(alloc);
@@ -286,7 +297,7 @@ fn product(
     depth: u32,
     from: usize,
 ) -> Result<(MulExpr, usize), Fault>
-    ensures { IfOk result (Reads depth a_product tokens.now from) }
+    ensures { Answers depth a_product tokens.now from result }
 {
     let (first, mut at) = unary(alloc, tokens, nodes, depth, from)?;
     let mut rest = Seq::new(alloc);
@@ -316,7 +327,7 @@ fn unary(
     depth: u32,
     from: usize,
 ) -> Result<(Unary, usize), Fault>
-    ensures { IfOk result (Reads depth signed tokens.now from) }
+    ensures { Answers depth signed tokens.now from result }
 {
     let at = place(tokens, from);
     if is_sign(tokens, from, b"-") {
@@ -339,7 +350,7 @@ fn post(
     depth: u32,
     from: usize,
 ) -> Result<(Post, usize), Fault>
-    ensures { IfOk result (Reads depth a_post tokens.now from) }
+    ensures { Answers depth a_post tokens.now from result }
 {
     let (value, mut at) = primary(alloc, tokens, nodes, depth, from)?;
     let mut casts = Seq::new(alloc);
@@ -365,7 +376,7 @@ fn primary(
     depth: u32,
     from: usize,
 ) -> Result<(Primary, usize), Fault>
-    ensures { IfOk result (Reads depth value tokens.now from) }
+    ensures { Answers depth value tokens.now from result }
 {
     if is_sign(tokens, from, b"(") {
         return group(alloc, tokens, nodes, depth, from);
@@ -376,14 +387,17 @@ fn primary(
     if is_word(tokens, from, b"cast") {
         return cast(alloc, tokens, nodes, depth, from);
     }
-    if is_date(tokens, from) || !is_name(tokens, from) {
-        return literal(tokens, nodes, from);
+    if is_date(tokens, from) {
+        return date(tokens, nodes, from);
     }
-    nodes.meet();
-    if is_sign(tokens, from + 1, b"(") {
-        return call(alloc, tokens, nodes, depth, from);
+    if is_name(tokens, from) {
+        nodes.meet();
+        if is_sign(tokens, from + 1, b"(") {
+            return call(alloc, tokens, nodes, depth, from);
+        }
+        return column(tokens, from);
     }
-    column(tokens, from)
+    literal(tokens, nodes, from)
 }
 
 // An expression in parentheses.
@@ -395,7 +409,7 @@ fn group(
     depth: u32,
     from: usize,
 ) -> Result<(Primary, usize), Fault>
-    ensures { IfOk result (Reads depth value tokens.now from) }
+    ensures { Answers depth a_group tokens.now from result }
 {
     let at = place(tokens, from);
     let next = sign(tokens, from, b"(")?;
@@ -414,7 +428,7 @@ fn cast(
     depth: u32,
     from: usize,
 ) -> Result<(Primary, usize), Fault>
-    ensures { IfOk result (Reads depth value tokens.now from) }
+    ensures { Answers depth a_cast tokens.now from result }
 {
     let at = place(tokens, from);
     let next = word(tokens, from, b"cast")?;
@@ -437,7 +451,7 @@ fn case(
     depth: u32,
     from: usize,
 ) -> Result<(Primary, usize), Fault>
-    ensures { IfOk result (Reads depth value tokens.now from) }
+    ensures { Answers depth a_case tokens.now from result }
 {
     let at = place(tokens, from);
     let next = word(tokens, from, b"case")?;
@@ -465,7 +479,7 @@ fn case_operand(
     depth: u32,
     from: usize,
 ) -> Result<(Option<Boxed<OrExpr>>, usize), Fault>
-    ensures { IfOk result (Reads depth operand tokens.now from) }
+    ensures { Answers depth operand tokens.now from result }
 {
     if is_word(tokens, from, b"when") {
         return Ok((None, from));
@@ -484,7 +498,7 @@ fn arms(
     depth: u32,
     from: usize,
 ) -> Result<(Seq<Arm>, usize), Fault>
-    ensures { IfOk result (Reads depth some_arms tokens.now from) }
+    ensures { Answers depth some_arms tokens.now from result }
 {
     let (first, mut at) = arm(alloc, tokens, nodes, depth, from)?;
     let mut arms = Seq::new(alloc);
@@ -505,7 +519,8 @@ fn arm(
     depth: u32,
     from: usize,
 ) -> Result<(Arm, usize), Fault>
-    ensures { IfOk result (ReadsOn depth an_arm tokens.now from) }
+    ensures answers { Answers depth an_arm tokens.now from result }
+    ensures on { IfOk result (λ p. from < p.1) }
 {
     let next = word(tokens, from, b"when")?;
     let (test, next) = expr(alloc, tokens, nodes, depth, next)?;
@@ -527,7 +542,7 @@ fn case_else(
     depth: u32,
     from: usize,
 ) -> Result<(Option<Boxed<OrExpr>>, usize), Fault>
-    ensures { IfOk result (Reads depth otherwise tokens.now from) }
+    ensures { Answers depth otherwise tokens.now from result }
 {
     if is_word(tokens, from, b"else") {
         let (otherwise, next) = expr(alloc, tokens, nodes, depth, from + 1)?;
@@ -537,7 +552,8 @@ fn case_else(
     Ok((None, from))
 }
 
-// A function's name and its arguments.
+// A function's name and its arguments. Where the name is no function's the fault is at the parenthesis, since the name
+// alone might have been a column's.
 #[cycle(parser)]
 fn call(
     alloc: Global,
@@ -546,15 +562,22 @@ fn call(
     depth: u32,
     from: usize,
 ) -> Result<(Primary, usize), Fault>
-    ensures { IfOk result (Reads depth value tokens.now from) }
+    requires name { begins is_a_name (drop from tokens.now) ≡ true }
+    requires undated { (begins (is_the_word (codes "date")) (drop from tokens.now) && begins is_a_text (drop (from + 1) tokens.now)) ≡ false }
+    requires opened { begins (is_the_sign (codes "(")) (drop (from + 1) tokens.now) ≡ true }
+    ensures { AnswersOn depth value (unopened (place_of (drop from tokens.now))) tokens.now from result }
 {
     let at = place(tokens, from);
-    let (function, next) = called(tokens, from)?;
-    let next = sign(tokens, next, b"(")?;
-    let deeper = nested(depth)?;
-    let (args, next) = args(alloc, tokens, nodes, function, deeper, next)?;
-    let next = sign(tokens, next, b")")?;
-    Ok((Primary::Call { at, function, args }, next))
+    match function_at(tokens, from) {
+        Some(function) => {
+            let next = sign(tokens, from + 1, b"(")?;
+            let deeper = nested(depth)?;
+            let (args, next) = args(alloc, tokens, nodes, function, deeper, next)?;
+            let next = sign(tokens, next, b")")?;
+            Ok((Primary::Call { at, function, args }, next))
+        }
+        None => Err(Fault::Syntax { token: from + 1 }),
+    }
 }
 
 // The arguments of a function, as many as it takes.
@@ -567,26 +590,51 @@ fn args(
     depth: u32,
     from: usize,
 ) -> Result<(Args, usize), Fault>
-    ensures { IfOk result (Reads depth (arguments function) tokens.now from) }
+    ensures { Answers depth (arguments function) tokens.now from result }
 {
-    let at = place(tokens, from);
     match function {
         Function::Count => count_args(alloc, tokens, nodes, depth, from),
-        Function::Coalesce => {
-            let (values, next) = exprs(alloc, tokens, nodes, depth, from)?;
-            Ok((Args::List { at, values }, next))
-        }
-        Function::Nullif => {
-            let (first, next) = expr(alloc, tokens, nodes, depth, from)?;
-            let next = sign(tokens, next, b",")?;
-            let (second, next) = expr(alloc, tokens, nodes, depth, next)?;
-            let mut values = Seq::new(alloc);
-            values.push(first)?;
-            values.push(second)?;
-            Ok((Args::List { at, values }, next))
-        }
+        Function::Coalesce => coalesce_args(alloc, tokens, nodes, depth, from),
+        Function::Nullif => nullif_args(alloc, tokens, nodes, depth, from),
         _ => one_arg(alloc, tokens, nodes, depth, from),
     }
+}
+
+// What COALESCE takes: one value or more.
+#[cycle(parser)]
+fn coalesce_args(
+    alloc: Global,
+    tokens: &[Token],
+    nodes: &mut Nodes,
+    depth: u32,
+    from: usize,
+) -> Result<(Args, usize), Fault>
+    ensures { Answers depth (arguments Coalesce) tokens.now from result }
+{
+    let at = place(tokens, from);
+    let (values, next) = exprs(alloc, tokens, nodes, depth, from)?;
+    Ok((Args::List { at, values }, next))
+}
+
+// What NULLIF takes: two values.
+#[cycle(parser)]
+fn nullif_args(
+    alloc: Global,
+    tokens: &[Token],
+    nodes: &mut Nodes,
+    depth: u32,
+    from: usize,
+) -> Result<(Args, usize), Fault>
+    ensures { Answers depth (arguments Nullif) tokens.now from result }
+{
+    let at = place(tokens, from);
+    let (first, next) = expr(alloc, tokens, nodes, depth, from)?;
+    let next = sign(tokens, next, b",")?;
+    let (second, next) = expr(alloc, tokens, nodes, depth, next)?;
+    let mut values = Seq::new(alloc);
+    values.push(first)?;
+    values.push(second)?;
+    Ok((Args::List { at, values }, next))
 }
 
 // What COUNT takes: `*`, a value, or the different ones of a value.
@@ -598,7 +646,7 @@ fn count_args(
     depth: u32,
     from: usize,
 ) -> Result<(Args, usize), Fault>
-    ensures { IfOk result (Reads depth (arguments Count) tokens.now from) }
+    ensures { Answers depth (arguments Count) tokens.now from result }
 {
     let at = place(tokens, from);
     if is_sign(tokens, from, b"*") {
@@ -620,7 +668,7 @@ fn one_arg(
     depth: u32,
     from: usize,
 ) -> Result<(Args, usize), Fault>
-    ensures { IfOk result (λ p. (f : Functions) → takes_one f ≡ true → Reads depth (arguments f) tokens.now from p) }
+    ensures { (f : Functions) → AnswersOn depth (arguments f) (one_alone f (place_of (drop from tokens.now))) tokens.now from result }
 {
     let at = place(tokens, from);
     let (value, next) = expr(alloc, tokens, nodes, depth, from)?;
@@ -638,7 +686,7 @@ fn exprs(
     depth: u32,
     from: usize,
 ) -> Result<(Seq<OrExpr>, usize), Fault>
-    ensures { IfOk result (Reads depth some_exprs tokens.now from) }
+    ensures { Answers depth some_exprs tokens.now from result }
 {
     let (first, mut at) = expr(alloc, tokens, nodes, depth, from)?;
     let mut list = Seq::new(alloc);

@@ -1,19 +1,23 @@
 // Values that one token or two spell.
-ghost use Rattle.std.specs.Prelude.{ℕ, IfOk};
-ghost use Rattle.mesh_grammar.specs.Signs.{IsDay};
-ghost use Rattle.mesh_grammar.specs.Grammar.{value};
-ghost use Rattle.mesh_words.specs.Places.{Takes, Reads};
+ghost use Rattle.std.specs.Prelude.{◌≡◌, ◌+◌, ◌&&◌, ℕ, codes, drop, true, false, MatchResult};
+ghost use Rattle.mesh_grammar.specs.Signs.{place as place_of, IsDay};
+ghost use Rattle.mesh_grammar.specs.Rules.{value};
+ghost use Rattle.mesh_grammar.specs.Plans.{literal_plan, is_word as is_the_word, is_sign as is_the_sign, is_name as is_a_name, is_text as is_a_text};
+ghost use Rattle.mesh_grammar.specs.Machine.{begins};
+ghost use Rattle.mesh_words.specs.Places.{Takes};
+ghost use Rattle.mesh_query.specs.Answers.{AnswersOn, IsNoDay, function_in};
+ghost use Rattle.mesh_query.specs.Rests.{unopened, word_plan};
 
 use crate::nodes::Nodes;
 use mesh_list::Duplicate;
-use mesh_surface::Primary;
+use mesh_surface::{Function, Primary};
 use mesh_time::day_of;
 use mesh_tokens::{Token, TokenKind};
-use mesh_words::{Fault, is_word, place, qualified};
+use mesh_words::{Fault, function_of, is_sign, is_word, name, place, word};
 
-/// A number, a text, a macro, or what a word spells.
+/// A number, a text, a macro, or what TRUE, FALSE or NULL spells.
 pub fn literal(tokens: &[Token], nodes: &mut Nodes, from: usize) -> Result<(Primary, usize), Fault>
-    ensures { IfOk result (λ p. (n : ℕ) → Reads n value tokens.now from p) }
+    ensures { (n : ℕ) → AnswersOn n value (literal_plan (place_of (drop from tokens.now))) tokens.now from result }
 {
     if from >= tokens.len() {
         return Err(Fault::Syntax { token: from });
@@ -39,9 +43,9 @@ pub fn literal(tokens: &[Token], nodes: &mut Nodes, from: usize) -> Result<(Prim
     }
 }
 
-// TRUE, FALSE, NULL or a date.
+// TRUE, FALSE or NULL.
 fn word_literal(tokens: &[Token], nodes: &mut Nodes, from: usize) -> Result<(Primary, usize), Fault>
-    ensures { IfOk result (λ p. (n : ℕ) → Reads n value tokens.now from p) }
+    ensures { (n : ℕ) → AnswersOn n value (word_plan (place_of (drop from tokens.now))) tokens.now from result }
 {
     let at = place(tokens, from);
     if is_word(tokens, from, b"true") {
@@ -53,18 +57,26 @@ fn word_literal(tokens: &[Token], nodes: &mut Nodes, from: usize) -> Result<(Pri
     } else if is_word(tokens, from, b"null") {
         nodes.meet();
         Ok((Primary::Null { at }, from + 1))
-    } else if is_word(tokens, from, b"date") {
-        nodes.meet();
-        let (day, next) = day(tokens, from + 1)?;
-        Ok((Primary::Date { at, day }, next))
     } else {
         Err(Fault::Syntax { token: from })
     }
 }
 
+/// A date: the word `date` and a text that is a real day.
+pub fn date(tokens: &[Token], nodes: &mut Nodes, from: usize) -> Result<(Primary, usize), Fault>
+    requires dated { (begins (is_the_word (codes "date")) (drop from tokens.now) && begins is_a_text (drop (from + 1) tokens.now)) ≡ true }
+    ensures { (n : ℕ) → AnswersOn n value (unopened (place_of (drop from tokens.now))) tokens.now from result }
+{
+    let at = place(tokens, from);
+    nodes.meet();
+    let next = word(tokens, from, b"date")?;
+    let (day, next) = day(tokens, next)?;
+    Ok((Primary::Date { at, day }, next))
+}
+
 // The day of a text that has to stand here, and the place behind it.
 fn day(tokens: &[Token], at: usize) -> Result<(i32, usize), Fault>
-    ensures { IfOk result (λ p. Takes (IsDay p.0) tokens.now at p.1) }
+    ensures { MatchResult result (λ p. Takes (IsDay p.0) tokens.now at p.1) (IsNoDay tokens.now at) }
 {
     if at < tokens.len() {
         match &tokens[at].kind {
@@ -79,11 +91,48 @@ fn day(tokens: &[Token], at: usize) -> Result<(i32, usize), Fault>
     }
 }
 
+/// The function that the next token names.
+#[tactic(auto, using(mesh_words::proofs::NextToken::begins_at))]
+pub fn function_at(tokens: &[Token], at: usize) -> Option<Function>
+    ensures { result ≡ function_in (drop at tokens.now) }
+{
+    if at < tokens.len() {
+        match &tokens[at].kind {
+            TokenKind::Ident(found) => function_of(found.as_slice()),
+            _ => None,
+        }
+    } else {
+        None
+    }
+}
+
 /// A column, by its own name or behind the name of what it is of.
 pub fn column(tokens: &[Token], from: usize) -> Result<(Primary, usize), Fault>
-    ensures { IfOk result (λ p. (n : ℕ) → Reads n value tokens.now from p) }
+    requires name { begins is_a_name (drop from tokens.now) ≡ true }
+    requires undated { (begins (is_the_word (codes "date")) (drop from tokens.now) && begins is_a_text (drop (from + 1) tokens.now)) ≡ false }
+    requires alone { begins (is_the_sign (codes "(")) (drop (from + 1) tokens.now) ≡ false }
+    ensures { (n : ℕ) → AnswersOn n value (unopened (place_of (drop from tokens.now))) tokens.now from result }
 {
     let at = place(tokens, from);
-    let ((item, name), next) = qualified(tokens, from)?;
-    Ok((Primary::Column { at, item, name }, next))
+    let (first, next) = name(tokens, from)?;
+    if is_sign(tokens, next, b".") {
+        let (second, next) = name(tokens, next + 1)?;
+        let item = Some(first);
+        return Ok((
+            Primary::Column {
+                at,
+                item,
+                name: second,
+            },
+            next,
+        ));
+    }
+    Ok((
+        Primary::Column {
+            at,
+            item: None,
+            name: first,
+        },
+        next,
+    ))
 }

@@ -1,8 +1,11 @@
 // Whole queries. Each function reads its form from a token on, and answers it with the place behind it.
-ghost use Rattle.std.specs.Prelude.{codes, IfOk};
-ghost use Rattle.mesh_grammar.specs.Signs.{IsAlias, IsFlag, IsOptionalSign};
-ghost use Rattle.mesh_grammar.specs.Grammar.{Spells, query as a_query, ctes as some_ctes, cte_list as a_cte_list, exprs as some_exprs, cte as a_cte, union as a_union, select as a_select, items as some_items, item as an_item, condition, keys as some_keys};
-ghost use Rattle.mesh_words.specs.Places.{Reads, Reaches, ReachesBy};
+ghost use Rattle.std.specs.Prelude.{◌≡◌, ◌≤◌, ◌||◌, ℕ, Bool, true, false, List, codes, drop};
+ghost use Rattle.mesh_tokens.specs.declared.tokens.Token.{Token as Tokens};
+ghost use Rattle.mesh_grammar.specs.Rules.{Rule, query as a_query, ctes as some_ctes, cte_list as a_cte_list, exprs as some_exprs, cte as a_cte, union as a_union, select as a_select, selected as the_selected, items as some_items, item as an_item, alias as an_alias, condition, keys as some_keys};
+ghost use Rattle.mesh_grammar.specs.Plans.{Plan, accept, ends_items, is_any, negated, is_word as is_the_word};
+ghost use Rattle.mesh_grammar.specs.Machine.{begins, begins_star};
+ghost use Rattle.mesh_words.specs.Answers.{Onward};
+ghost use Rattle.mesh_query.specs.Answers.{Answers};
 
 use crate::expressions::expr;
 use crate::nodes::Nodes;
@@ -22,7 +25,7 @@ pub fn query(
     depth: u32,
     from: usize,
 ) -> Result<(Surface, usize), Fault>
-    ensures { IfOk result (Reads depth a_query tokens.now from) }
+    ensures { Answers depth a_query tokens.now from result }
 {
     let (ctes, at) = ctes(alloc, tokens, nodes, depth, from)?;
     let (body, at) = union(alloc, tokens, nodes, depth, at)?;
@@ -45,7 +48,7 @@ fn ctes(
     depth: u32,
     from: usize,
 ) -> Result<(Seq<SurfaceCte>, usize), Fault>
-    ensures { IfOk result (Reads depth some_ctes tokens.now from) }
+    ensures { Answers depth some_ctes tokens.now from result }
 {
     if is_word(tokens, from, b"with") {
         return cte_list(alloc, tokens, nodes, depth, from + 1);
@@ -62,7 +65,7 @@ fn cte_list(
     depth: u32,
     from: usize,
 ) -> Result<(Seq<SurfaceCte>, usize), Fault>
-    ensures { IfOk result (Reads depth a_cte_list tokens.now from) }
+    ensures { Answers depth a_cte_list tokens.now from result }
 {
     let (first, mut at) = cte(alloc, tokens, nodes, depth, from)?;
     let mut list = Seq::new(alloc);
@@ -82,7 +85,7 @@ fn cte(
     depth: u32,
     from: usize,
 ) -> Result<(SurfaceCte, usize), Fault>
-    ensures { IfOk result (Reads depth a_cte tokens.now from) }
+    ensures { Answers depth a_cte tokens.now from result }
 {
     let (name, next) = name(tokens, from)?;
     let next = word(tokens, next, b"as")?;
@@ -106,7 +109,7 @@ fn union(
     depth: u32,
     from: usize,
 ) -> Result<(SurfaceUnion, usize), Fault>
-    ensures { IfOk result (Reads depth a_union tokens.now from) }
+    ensures { Answers depth a_union tokens.now from result }
 {
     let (first, mut at) = select(alloc, tokens, nodes, depth, from)?;
     let mut selects = Seq::new(alloc);
@@ -131,12 +134,27 @@ fn select(
     depth: u32,
     from: usize,
 ) -> Result<(SurfaceSelect, usize), Fault>
-    ensures { IfOk result (Reads depth a_select tokens.now from) }
+    ensures { Answers depth a_select tokens.now from result }
 {
     let at = place(tokens, from);
     let next = word(tokens, from, b"select")?;
     let (distinct, next) = distinct(tokens, next);
-    let (items, next) = items(alloc, tokens, nodes, depth, next)?;
+    selected(alloc, tokens, nodes, depth, at, distinct, next)
+}
+
+// What stands behind SELECT or SELECT DISTINCT.
+fn selected(
+    alloc: Global,
+    tokens: &[Token],
+    nodes: &mut Nodes,
+    depth: u32,
+    at: u64,
+    distinct: bool,
+    from: usize,
+) -> Result<(SurfaceSelect, usize), Fault>
+    ensures { Answers depth (the_selected at distinct) tokens.now from result }
+{
+    let (items, next) = items(alloc, tokens, nodes, depth, from)?;
     let (from, next) = source(alloc, tokens, nodes, depth, next)?;
     let (filter, next) = filter(alloc, tokens, nodes, depth, next)?;
     let (keys, next) = keys(alloc, tokens, nodes, depth, next)?;
@@ -154,7 +172,8 @@ fn select(
 }
 
 fn distinct(tokens: &[Token], from: usize) -> (bool, usize)
-    ensures { Reaches (IsFlag (codes "distinct") result.0) tokens.now from result.1 }
+    ensures on { from ≤ result.1 }
+    ensures left { (n : ℕ) (r : Rule) (s : List Tokens) (f : Bool → Plan r) → Onward n r s (accept (is_the_word (codes "distinct")) (λ _. f true) (f false)) (drop from tokens.now) → Onward n r s (f result.0) (drop result.1 tokens.now) }
 {
     if is_word(tokens, from, b"distinct") {
         (true, from + 1)
@@ -171,7 +190,7 @@ fn items(
     depth: u32,
     from: usize,
 ) -> Result<(Seq<SurfaceItem>, usize), Fault>
-    ensures { IfOk result (λ p. ReachesBy (Spells depth (some_items p.0)) (IsOptionalSign (codes ",")) tokens.now from p.1) }
+    ensures { Answers depth some_items tokens.now from result }
 {
     let (first, mut at) = item(alloc, tokens, nodes, depth, from)?;
     let mut list = Seq::new(alloc);
@@ -188,7 +207,10 @@ fn items(
 }
 
 // Whether what stands here comes behind the items of a SELECT.
-fn are_items_over(tokens: &[Token], at: usize) -> bool {
+#[tactic(auto, using(crate::proofs::Descent::item_tests, crate::proofs::Descent::any_at, crate::proofs::Descent::any_past))]
+fn are_items_over(tokens: &[Token], at: usize) -> bool
+    ensures { result ≡ (negated (begins is_any (drop at tokens.now)) || begins ends_items (drop at tokens.now)) }
+{
     at >= tokens.len()
         || is_word(tokens, at, b"from")
         || is_word(tokens, at, b"where")
@@ -206,7 +228,7 @@ fn item(
     depth: u32,
     from: usize,
 ) -> Result<(SurfaceItem, usize), Fault>
-    ensures { IfOk result (Reads depth an_item tokens.now from) }
+    ensures { Answers depth an_item tokens.now from result }
 {
     let at = place(tokens, from);
     if is_sign(tokens, from, b"*") {
@@ -225,13 +247,16 @@ fn item(
 }
 
 // Whether a name, a dot and a star stand here.
-fn is_all_of(tokens: &[Token], at: usize) -> bool {
+#[tactic(auto, using(crate::proofs::Descent::star_tests))]
+fn is_all_of(tokens: &[Token], at: usize) -> bool
+    ensures { result ≡ begins_star (drop at tokens.now) }
+{
     is_name(tokens, at) && is_sign(tokens, at + 1, b".") && is_sign(tokens, at + 2, b"*")
 }
 
 /// Another name for what stands before it, if there is one.
 pub fn alias(tokens: &[Token], from: usize) -> Result<(Option<Str>, usize), Fault>
-    ensures { IfOk result (λ p. Reaches (IsAlias p.0) tokens.now from p.1) }
+    ensures { (n : ℕ) → Answers n an_alias tokens.now from result }
 {
     if is_word(tokens, from, b"as") {
         let (alias, next) = name(tokens, from + 1)?;
@@ -251,7 +276,7 @@ fn filter(
     depth: u32,
     from: usize,
 ) -> Result<(Option<OrExpr>, usize), Fault>
-    ensures { IfOk result (Reads depth (condition (codes "where")) tokens.now from) }
+    ensures { Answers depth (condition (codes "where")) tokens.now from result }
 {
     if is_word(tokens, from, b"where") {
         nodes.begin();
@@ -268,7 +293,7 @@ fn having(
     depth: u32,
     from: usize,
 ) -> Result<(Option<OrExpr>, usize), Fault>
-    ensures { IfOk result (Reads depth (condition (codes "having")) tokens.now from) }
+    ensures { Answers depth (condition (codes "having")) tokens.now from result }
 {
     if is_word(tokens, from, b"having") {
         nodes.begin();
@@ -286,7 +311,7 @@ fn keys(
     depth: u32,
     from: usize,
 ) -> Result<(Seq<OrExpr>, usize), Fault>
-    ensures { IfOk result (Reads depth some_keys tokens.now from) }
+    ensures { Answers depth some_keys tokens.now from result }
 {
     if is_word(tokens, from, b"group") {
         let next = word(tokens, from + 1, b"by")?;
@@ -304,7 +329,7 @@ fn key_list(
     depth: u32,
     from: usize,
 ) -> Result<(Seq<OrExpr>, usize), Fault>
-    ensures { IfOk result (Reads depth some_exprs tokens.now from) }
+    ensures { Answers depth some_exprs tokens.now from result }
 {
     nodes.begin();
     let (first, mut at) = expr(alloc, tokens, nodes, depth, from)?;

@@ -1,7 +1,9 @@
 // From the tokens to the tree, or to the fault that is printed.
-ghost use Rattle.std.specs.Prelude.{◌≡◌, drop, [], IfOk, IfErr};
+ghost use Rattle.std.specs.Prelude.{◌≡◌, ◌≤◌, ℕ, drop, take, length, [], IfOk, IfErr, MatchResult};
 ghost use Rattle.mesh_surface.specs.declared.queries.Surface.{Surface};
-ghost use Rattle.mesh_query.specs.Refusals.{IsEnd, IsLimit, IsRefusal};
+ghost use Rattle.mesh_query.specs.Refusals.{end_of, IsLimit, IsAmiss, IsRefusal, IsShort};
+ghost use Rattle.mesh_grammar.specs.Rules.{query as the_query};
+ghost use Rattle.mesh_grammar.specs.Machine.{Reads};
 ghost use Rattle.mesh_grammar.specs.Grammar.{Spells, query as a_query};
 ghost use Rattle.mesh_grammar.specs.Beginnings.{IsQuery};
 ghost use Rattle.mesh_words.specs.Places.{deepest};
@@ -20,14 +22,15 @@ const NESTING: u32 = 64;
 
 /// Reads one query from token `from`, counted from 0, to the end of the tokens. A fault of syntax is at the end of the
 /// last token that the beginning of a query has, or at 0 where there is none; the two limits have place 0.
-#[tactic(auto, using(crate::proofs::Refused::nesting_refused, crate::proofs::Refused::expression_refused))]
 pub fn parse(tokens: &Tokens, from: u32) -> Result<Surface, ReadFault>
     // What is read is spelled by the tokens.
     ensures found { IfOk result (λ tree. Spells deepest (a_query tree) (drop from tokens.now) []) }
     // No other tree has the same tokens.
     ensures only { IfOk result (λ tree. (other : Surface) → IsQuery other (drop from tokens.now) → tree ≡ other) }
-    // What is refused breaks the grammar or a limit, or memory is out.
-    ensures refused { IfErr result (IsRefusal tokens.now) }
+    // What is spelled is read, unless an expression has too many nodes or memory is out.
+    ensures read { (tree : Surface) → Spells deepest (a_query tree) (drop from tokens.now) [] → MatchResult result (λ found. found ≡ tree) IsShort }
+    // What is refused breaks the grammar, at the end of its longest beginning, or a limit; or memory is out.
+    ensures refused { IfErr result (IsRefusal (take from tokens.now) (drop from tokens.now)) }
 {
     let alloc = tokens.alloc();
     let tokens = tokens.as_slice();
@@ -38,12 +41,22 @@ pub fn parse(tokens: &Tokens, from: u32) -> Result<Surface, ReadFault>
     }
     match found {
         Ok(surface) => Ok(surface),
-        Err(Fault::Memory) => Err(ReadFault::Memory),
-        Err(Fault::Nesting) => Err(too_large(alloc, b"nesting", DEEPEST_NESTING)),
-        Err(Fault::Syntax { token }) => Err(ReadFault::Fault {
+        Err(fault) => Err(refusal(alloc, tokens, fault)),
+    }
+}
+
+// The fault as it is printed.
+#[tactic(auto, using(crate::proofs::Refused::nesting_refused, crate::proofs::Refused::syntax_refused))]
+fn refusal(alloc: Global, tokens: &[Token], fault: Fault) -> ReadFault
+    ensures { (from : ℕ) → IsAmiss tokens.now (drop from tokens.now) fault → IsRefusal (take from tokens.now) (drop from tokens.now) result }
+{
+    match fault {
+        Fault::Memory => ReadFault::Memory,
+        Fault::Nesting => too_large(alloc, b"nesting", DEEPEST_NESTING),
+        Fault::Syntax { token } => ReadFault::Fault {
             at: end_before(tokens, token),
             kind: FaultKind::Syntax,
-        }),
+        },
     }
 }
 
@@ -54,7 +67,7 @@ fn whole_query(
     nodes: &mut Nodes,
     from: usize,
 ) -> Result<Surface, Fault>
-    ensures { IfOk result (λ tree. Spells deepest (a_query tree) (drop from tokens.now) []) }
+    ensures { MatchResult result (λ tree. Reads deepest the_query tree (drop from tokens.now) []) (IsAmiss tokens.now (drop from tokens.now)) }
 {
     let (surface, at) = query(alloc, tokens, nodes, NESTING, from)?;
     if at < tokens.len() {
@@ -66,25 +79,22 @@ fn whole_query(
 
 // The end of the token before this one, or 0 where there is none.
 fn end_before(tokens: &[Token], token: usize) -> u64
-    ensures { IsEnd tokens.now result }
+    ensures { result ≡ end_of (take token tokens.now) }
 {
-    if token == 0 {
-        return 0;
-    }
-    match tokens.get(token - 1) {
-        Some(last) => last.end,
-        None => end_of_all(tokens),
+    if token > tokens.len() {
+        last_end(tokens, tokens.len())
+    } else {
+        last_end(tokens, token)
     }
 }
 
-// The end of the last token, or 0 where there is none.
-fn end_of_all(tokens: &[Token]) -> u64
-    ensures { IsEnd tokens.now result }
+// The end of the last of so many tokens, or 0 where there is none.
+#[tactic(auto, using(crate::proofs::Refused::end_before))]
+fn last_end(tokens: &[Token], count: usize) -> u64
+    requires { count ≤ length tokens.now }
+    ensures { result ≡ end_of (take count tokens.now) }
 {
-    match tokens.last() {
-        Some(last) => last.end,
-        None => 0,
-    }
+    if count == 0 { 0 } else { tokens[count - 1].end }
 }
 
 fn too_large(alloc: Global, what: &[u8], limit: u64) -> ReadFault

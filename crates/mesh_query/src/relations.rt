@@ -1,16 +1,20 @@
 // What a SELECT reads from.
-ghost use Rattle.std.specs.Prelude.{◌<◌, ◌≤◌, drop, length, IsTrue, IfOk};
-ghost use Rattle.mesh_grammar.specs.Signs.{IsRelation};
-ghost use Rattle.mesh_grammar.specs.Grammar.{source as a_source, relations as some_relations, join as a_join, IsRelationOn};
-ghost use Rattle.mesh_words.specs.Places.{Reads, ReadsOn, Reaches};
+ghost use Rattle.std.specs.Prelude.{◌≡◌, ◌<◌, ◌≤◌, ℕ, List, drop, length, IfOk, IsTrue};
+ghost use Rattle.mesh_tokens.specs.declared.tokens.Token.{Token as Tokens};
+ghost use Rattle.mesh_grammar.specs.Rules.{Rule, source as a_source, relations as some_relations, join as a_join, joined as a_joined, relation as a_relation, qualified as a_name};
+ghost use Rattle.mesh_grammar.specs.Plans.{Plan, accept, begins_join as opens_join, is_word as is_the_word};
+ghost use Rattle.mesh_grammar.specs.Machine.{begins};
+ghost use Rattle.mesh_words.specs.Answers.{Onward};
+ghost use Rattle.mesh_query.specs.Answers.{Answers};
 
 use crate::expressions::expr;
 use crate::nodes::Nodes;
 use crate::queries::alias;
+use mesh_base::Str;
 use mesh_list::Seq;
 use mesh_surface::{OrExpr, SurfaceFrom, SurfaceJoin, SurfaceRel};
 use mesh_tokens::Token;
-use mesh_words::{Fault, is_sign, is_word, optional, place, qualified, word};
+use mesh_words::{Fault, is_sign, is_word, name, place, word};
 use std::alloc::Global;
 
 /// FROM and its relations, or none.
@@ -21,7 +25,7 @@ pub fn source(
     depth: u32,
     from: usize,
 ) -> Result<(Option<SurfaceFrom>, usize), Fault>
-    ensures { IfOk result (Reads depth a_source tokens.now from) }
+    ensures { Answers depth a_source tokens.now from result }
 {
     if is_word(tokens, from, b"from") {
         let (source, next) = relations(alloc, tokens, nodes, depth, from + 1)?;
@@ -37,7 +41,7 @@ fn relations(
     depth: u32,
     from: usize,
 ) -> Result<(SurfaceFrom, usize), Fault>
-    ensures { IfOk result (Reads depth some_relations tokens.now from) }
+    ensures { Answers depth some_relations tokens.now from result }
 {
     let (first, mut at) = relation(tokens, from)?;
     let mut joins = Seq::new(alloc);
@@ -54,8 +58,10 @@ fn relations(
     Ok((whole, at))
 }
 
+#[tactic(auto, using(crate::proofs::Descent::join_tests))]
 fn begins_join(tokens: &[Token], at: usize) -> bool
-    ensures { IsTrue result → (at < length tokens.now) }
+    ensures within { IsTrue result → (at < length tokens.now) }
+    ensures seen { result ≡ begins opens_join (drop at tokens.now) }
 {
     is_sign(tokens, at, b",")
         || is_word(tokens, at, b"cross")
@@ -71,7 +77,8 @@ fn join(
     depth: u32,
     from: usize,
 ) -> Result<(SurfaceJoin, usize), Fault>
-    ensures { IfOk result (ReadsOn depth a_join tokens.now from) }
+    ensures answers { Answers depth a_join tokens.now from result }
+    ensures on { IfOk result (λ p. from < p.1) }
 {
     let at = place(tokens, from);
     if is_sign(tokens, from, b",") {
@@ -84,15 +91,27 @@ fn join(
         return Ok((SurfaceJoin::Cross { at, rel }, next));
     }
     if is_word(tokens, from, b"left") {
-        let next = optional(tokens, from + 1, b"outer");
+        let next = past(tokens, from + 1, b"outer");
         let next = word(tokens, next, b"join")?;
-        let (rel, on, next) = joined(alloc, tokens, nodes, depth, next)?;
+        let ((rel, on), next) = joined(alloc, tokens, nodes, depth, next)?;
         return Ok((SurfaceJoin::Left { at, rel, on }, next));
     }
-    let next = optional(tokens, from, b"inner");
+    let next = past(tokens, from, b"inner");
     let next = word(tokens, next, b"join")?;
-    let (rel, on, next) = joined(alloc, tokens, nodes, depth, next)?;
+    let ((rel, on), next) = joined(alloc, tokens, nodes, depth, next)?;
     Ok((SurfaceJoin::Inner { at, rel, on }, next))
+}
+
+// The place behind a word, if it stands here. What is left of a rule goes on there.
+fn past(tokens: &[Token], at: usize, word: &[u8]) -> usize
+    ensures on { at ≤ result }
+    ensures left { (n : ℕ) (r : Rule) (s : List Tokens) (q : Plan r) → Onward n r s (accept (is_the_word word.now) (λ _. q) q) (drop at tokens.now) → Onward n r s q (drop result tokens.now) }
+{
+    if is_word(tokens, at, word) {
+        at + 1
+    } else {
+        at
+    }
 }
 
 // A relation and the condition behind ON.
@@ -102,19 +121,19 @@ fn joined(
     nodes: &mut Nodes,
     depth: u32,
     from: usize,
-) -> Result<(SurfaceRel, OrExpr, usize), Fault>
-    ensures { IfOk result (λ r. (from ≤ r.2) × IsRelationOn depth r.0 r.1 (drop from tokens.now) (drop r.2 tokens.now)) }
+) -> Result<((SurfaceRel, OrExpr), usize), Fault>
+    ensures { Answers depth a_joined tokens.now from result }
 {
     let (rel, next) = relation(tokens, from)?;
     let next = word(tokens, next, b"on")?;
     nodes.begin();
     let (on, next) = expr(alloc, tokens, nodes, depth, next)?;
-    Ok((rel, on, next))
+    Ok(((rel, on), next))
 }
 
 // A name of one part or two, and another name for it if there is one.
 fn relation(tokens: &[Token], from: usize) -> Result<(SurfaceRel, usize), Fault>
-    ensures { IfOk result (λ p. Reaches (IsRelation p.0) tokens.now from p.1) }
+    ensures { (n : ℕ) → Answers n a_relation tokens.now from result }
 {
     let ((schema, name), next) = qualified(tokens, from)?;
     let (alias, next) = alias(tokens, next)?;
@@ -125,4 +144,16 @@ fn relation(tokens: &[Token], from: usize) -> Result<(SurfaceRel, usize), Fault>
         alias,
     };
     Ok((whole, next))
+}
+
+// A name of one part or two that has to stand here.
+fn qualified(tokens: &[Token], from: usize) -> Result<((Option<Str>, Str), usize), Fault>
+    ensures { (n : ℕ) → Answers n a_name tokens.now from result }
+{
+    let (first, next) = name(tokens, from)?;
+    if is_sign(tokens, next, b".") {
+        let (second, next) = name(tokens, next + 1)?;
+        return Ok(((Some(first), second), next));
+    }
+    Ok(((None, first), next))
 }

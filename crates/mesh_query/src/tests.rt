@@ -59,7 +59,9 @@ fn tree(alloc: Global, written: &[u8]) -> Result<Vec<u8>, TestFail> {
 
 #[test]
 fn trees_of_expressions(rt: HostRuntime) -> Result<(), TestFail> {
-    let cases: [(&[u8], &[u8]); 21] = [
+    let cases: [(&[u8], &[u8]); 23] = [
+        (b"select a = b || c", b"< a = (cat b c)>"),
+        (b"select not a is null", b"< (not a none)>"),
         (b"select a or b and c", b"< (or a (and b c))>"),
         (b"select a and b or c", b"< (or (and a b) c)>"),
         (b"select not a and b", b"< (and (not a) b)>"),
@@ -237,6 +239,82 @@ fn places_of_faults(rt: HostRuntime) -> Result<(), TestFail> {
     for (written, at) in cases {
         assert_eq!(rt; place(rt.alloc(), written)?, at);
     }
+    Ok(())
+}
+
+#[test]
+fn places_of_faults_inside_forms(rt: HostRuntime) -> Result<(), TestFail> {
+    let cases: [(&[u8], u64); 28] = [
+        (b"select ( a", 10),
+        (b"select a in b", 11),
+        (b"select a in ( )", 13),
+        (b"select a between 1 or 2", 18),
+        (b"select case a end", 13),
+        (b"select cast a", 11),
+        (b"select a from", 13),
+        (b"select a from t join u", 22),
+        (b"select a from t left u", 20),
+        (b"select a group b", 14),
+        (b"with a as select 1", 9),
+        (b"with select as", 4),
+        (b"select count ( distinct )", 23),
+        (b"select date 1", 11),
+        (b"select a :: int :: 1", 18),
+        (b"select nullif ( a , )", 19),
+        (b"select case when a else b end", 18),
+        (b"select not", 10),
+        (b"select a or", 11),
+        (b"select t . a . b", 12),
+        (b"select a from s . t . u", 19),
+        (b"select a ; ;", 10),
+        (b"select distinct", 15),
+        (b"select a b , c d e", 16),
+        (b"select a having b where c", 17),
+        (b"select - -", 10),
+        (b"select a from t order by b", 15),
+        (b"select left ( a )", 6),
+    ];
+    for (written, at) in cases {
+        assert_eq!(rt; place(rt.alloc(), written)?, at);
+    }
+    Ok(())
+}
+
+// The query `SELECT` with these words so many times, then others.
+fn repeated(alloc: Global, words: &[u8], times: usize, last: &[u8]) -> Result<Vec<u8>, TestFail> {
+    let mut written = Vec::from_slice(alloc, b"select")?;
+    for _ in 0..times {
+        written.extend_from_slice(words)?;
+    }
+    written.extend_from_slice(last)?;
+    Ok(written)
+}
+
+// NOT, unary minus and CASE count like parentheses.
+#[test]
+fn nesting_of_each_kind(rt: HostRuntime) -> Result<(), TestFail> {
+    let alloc = rt.alloc();
+    let kinds: [(&[u8], &[u8], &[u8]); 2] = [(b" not", b" a", b" )"), (b" -", b" 1", b" )")];
+    for (words, last, behind) in kinds {
+        assert_eq!(rt;
+            limit(alloc, repeated(alloc, words, 64, last)?.as_slice())?,
+            0
+        );
+        assert_eq!(rt;
+            limit(alloc, repeated(alloc, words, 65, last)?.as_slice())?,
+            b'n'
+        );
+        assert_eq!(rt;
+            limit(alloc, repeated(alloc, words, 65, behind)?.as_slice())?,
+            b'n'
+        );
+    }
+    let case = repeated(alloc, b" case", 65, b" a")?;
+    assert_eq!(rt; limit(alloc, case.as_slice())?, b'n');
+    assert_eq!(rt;
+        place(alloc, repeated(alloc, b" case", 64, b" end")?.as_slice())?,
+        326
+    );
     Ok(())
 }
 

@@ -1,5 +1,8 @@
 use Rattle.std.proofs.Common.{◌+◌, ◌*◌, ◌-◌, ◌≤◌, drop, length}
-use Rattle.mesh_grammar.specs.Grammar.{Spells, or_parts, and_parts, cat_parts, sum_steps, product_steps, casts, arms, exprs}
+use Rattle.mesh_grammar.specs.Signs.{place}
+use Rattle.mesh_grammar.specs.Rules.{expr, more_ors, conjunction, more_ands, cat, more_cats, sum, more_sums, product, more_products, post, more_casts, arms, more_arms, exprs, more_exprs}
+use Rattle.mesh_grammar.specs.Plans.{done, read}
+use Rattle.mesh_words.specs.Answers.{Onward}
 use Rattle.mesh_query.proofs.expressions.+parser.Given as goal
 
 abbrev pub decreases-call : goal.decreases-call
@@ -80,50 +83,56 @@ decreases-count_args l = 20 * l.depth + 19
 abbrev pub decreases-args : goal.decreases-args
 decreases-args l = 20 * l.depth + 20
 
+abbrev pub decreases-coalesce_args : goal.decreases-coalesce_args
+decreases-coalesce_args l = 20 * l.depth + 19
+
+abbrev pub decreases-nullif_args : goal.decreases-nullif_args
+decreases-nullif_args l = 20 * l.depth + 19
+
 abbrev pub invariant-expr-ors : goal.invariant-expr-ors
-invariant-expr-ors l = (l.from ≤ l.at) × Spells l.depth (or_parts l.parts) (drop l.from l.tokens) (drop l.at l.tokens)
+invariant-expr-ors l = (l.from ≤ l.at) × Onward l.depth expr (drop l.from l.tokens) (read (more_ors (place (drop l.from l.tokens)) l.parts) done) (drop l.at l.tokens)
 
 abbrev pub decreases-expr-ors : goal.decreases-expr-ors
 decreases-expr-ors l = length l.initial.tokens - l.at
 
 abbrev pub invariant-conjunction-ands : goal.invariant-conjunction-ands
-invariant-conjunction-ands l = (l.from ≤ l.at) × Spells l.depth (and_parts l.parts) (drop l.from l.tokens) (drop l.at l.tokens)
+invariant-conjunction-ands l = (l.from ≤ l.at) × Onward l.depth conjunction (drop l.from l.tokens) (read (more_ands (place (drop l.from l.tokens)) l.parts) done) (drop l.at l.tokens)
 
 abbrev pub decreases-conjunction-ands : goal.decreases-conjunction-ands
 decreases-conjunction-ands l = length l.initial.tokens - l.at
 
 abbrev pub invariant-cat-cats : goal.invariant-cat-cats
-invariant-cat-cats l = (l.from ≤ l.at) × Spells l.depth (cat_parts l.parts) (drop l.from l.tokens) (drop l.at l.tokens)
+invariant-cat-cats l = (l.from ≤ l.at) × Onward l.depth cat (drop l.from l.tokens) (read (more_cats (place (drop l.from l.tokens)) l.parts) done) (drop l.at l.tokens)
 
 abbrev pub decreases-cat-cats : goal.decreases-cat-cats
 decreases-cat-cats l = length l.initial.tokens - l.at
 
 abbrev pub invariant-sum-sums : goal.invariant-sum-sums
-invariant-sum-sums l = (l.from ≤ l.at) × Spells l.depth (sum_steps l.first l.rest) (drop l.from l.tokens) (drop l.at l.tokens)
+invariant-sum-sums l = (l.from ≤ l.at) × Onward l.depth sum (drop l.from l.tokens) (read (more_sums (place (drop l.from l.tokens)) l.first l.rest) done) (drop l.at l.tokens)
 
 abbrev pub decreases-sum-sums : goal.decreases-sum-sums
 decreases-sum-sums l = length l.initial.tokens - l.at
 
 abbrev pub invariant-product-products : goal.invariant-product-products
-invariant-product-products l = (l.from ≤ l.at) × Spells l.depth (product_steps l.first l.rest) (drop l.from l.tokens) (drop l.at l.tokens)
+invariant-product-products l = (l.from ≤ l.at) × Onward l.depth product (drop l.from l.tokens) (read (more_products (place (drop l.from l.tokens)) l.first l.rest) done) (drop l.at l.tokens)
 
 abbrev pub decreases-product-products : goal.decreases-product-products
 decreases-product-products l = length l.initial.tokens - l.at
 
 abbrev pub invariant-post-casts : goal.invariant-post-casts
-invariant-post-casts l = (l.from ≤ l.at) × Spells l.depth (casts l.value l.casts) (drop l.from l.tokens) (drop l.at l.tokens)
+invariant-post-casts l = (l.from ≤ l.at) × Onward l.depth post (drop l.from l.tokens) (read (more_casts (place (drop l.from l.tokens)) l.value l.casts) done) (drop l.at l.tokens)
 
 abbrev pub decreases-post-casts : goal.decreases-post-casts
 decreases-post-casts l = length l.initial.tokens - l.at
 
 abbrev pub invariant-arms-whens : goal.invariant-arms-whens
-invariant-arms-whens l = (l.from ≤ l.at) × Spells l.depth (arms l.arms) (drop l.from l.tokens) (drop l.at l.tokens)
+invariant-arms-whens l = (l.from ≤ l.at) × Onward l.depth arms (drop l.from l.tokens) (read (more_arms l.arms) done) (drop l.at l.tokens)
 
 abbrev pub decreases-arms-whens : goal.decreases-arms-whens
 decreases-arms-whens l = length l.initial.tokens - l.at
 
 abbrev pub invariant-exprs-commas : goal.invariant-exprs-commas
-invariant-exprs-commas l = (l.from ≤ l.at) × Spells l.depth (exprs l.list) (drop l.from l.tokens) (drop l.at l.tokens)
+invariant-exprs-commas l = (l.from ≤ l.at) × Onward l.depth exprs (drop l.from l.tokens) (read (more_exprs l.list) done) (drop l.at l.tokens)
 
 abbrev pub decreases-exprs-commas : goal.decreases-exprs-commas
 decreases-exprs-commas l = length l.initial.tokens - l.at

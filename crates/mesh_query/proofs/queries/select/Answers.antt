@@ -1,15 +1,19 @@
-use Rattle.std.proofs.Common.{arith}
-use Rattle.mesh_grammar.specs.Grammar as gram
+use Rattle.std.proofs.Common.{codes, drop, arith, sym, subst}
+use Rattle.std.proofs.Common.{ℕ}
+use Rattle.mesh_grammar.specs.Signs.{place}
+use Rattle.mesh_grammar.specs.Rules.{select, selected}
+use Rattle.mesh_grammar.specs.Plans.{read, done}
+use Rattle.mesh_words.specs.Answers.{Onward}
+use Rattle.mesh_words.proofs.Steps.{started, noted, past_word, is_done}
+use Rattle.mesh_query.proofs.Descent.{handed, told, lacks, fails_in, closed_by}
 use Rattle.mesh_query.proofs.queries.select.Goals as goal
+
+pub returns-in_err-next : goal.returns-in_err-next
+returns-in_err-next c = told _ _ c.from_residual.result c.from_residual.ensures (lacks c.args.tokens.now c.args.from _ (noted started) c.in_err-next.ensures)
 
 pub returns : goal.returns
 returns c =
     let word = c.in_ok-next.ensures in
-    let flag = c.distinct-distinct.ensures in
-    let items = c.in_ok-items.ensures in
-    let from = c.in_ok-from.ensures in
-    let filter = c.in_ok-filter.ensures in
-    let keys = c.in_ok-keys.ensures in
-    let having = c.in_ok-having.ensures in
-    rw c.place-at.ensures
-    (omega (arith, word.0, flag.0, items.0, from.0, filter.0, keys.0, having.0), gram.selected word.2 flag.1 items.1.1 items.1.2 from.1 filter.1 keys.1 having.1)
+    let I = c.distinct-distinct.ensures.left c.args.depth select (drop c.args.from c.args.tokens.now) (λ d. read (selected (place (drop c.args.from c.args.tokens.now)) d) done) (past_word (codes "select") (noted started) word.2) in
+    let J = subst (λ (z : ℕ). Onward c.args.depth select (drop c.args.from c.args.tokens.now) (read (selected z c.distinct-distinct.result.0) done) (drop c.distinct-distinct.result.1 c.args.tokens.now)) (sym c.place-at.ensures) I in
+    handed _ _ _ _ c.selected.result (λ x h. (omega (arith, word.0, c.distinct-distinct.ensures.on, h.0), is_done (closed_by x.0 J h.1))) (λ e h. fails_in c.args.tokens.now e J h) c.selected.ensures
