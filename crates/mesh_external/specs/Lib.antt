@@ -1,0 +1,2 @@
+-- Externals: what the file that declares the sources says.
+pub mod Externals
