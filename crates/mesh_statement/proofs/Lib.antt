@@ -3,3 +3,5 @@ pub mod Steps
 pub mod EntrySteps
 pub mod ColumnSteps
 pub mod PropertySteps
+pub mod Folders
+pub mod PathSteps

@@ -8,6 +8,8 @@ pub mod Faults
 pub mod Brackets
 -- Values: what the value of each property means.
 pub mod Values
+-- Paths: where the file lies that a path names.
+pub mod Paths
 -- Kinds: what the value of `kind` means, with its entries.
 pub mod Kinds
 -- Statement: the properties of a MODEL statement, one after the other.

@@ -118,7 +118,7 @@ fn put_fault(alloc: Global, line: &mut Vec<u8>, kind: &FaultKind) -> Result<(), 
 
 fn put_answer(alloc: Global, line: &mut Vec<u8>, text: &[u8]) -> Result<(), Fail> {
     let tokens = tokens_of(alloc, text)?;
-    match read_statement(alloc, tokens.as_slice()) {
+    match read_statement(alloc, b"models/m/a.sql", tokens.as_slice()) {
         Ok((parts, end, rest)) => {
             put_front(alloc, line, &parts)?;
             put_back(alloc, line, &parts)?;
