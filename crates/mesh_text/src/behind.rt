@@ -1,5 +1,5 @@
 // The statement, and the query behind it.
-ghost use Rattle.std.specs.Prelude.{◌≡◌, ◌-◌, length, Result};
+ghost use Rattle.std.specs.Prelude.{◌≡◌, ◌-◌, length, true, Result};
 ghost use Rattle.mesh_surface.specs.declared.queries.Surface.{Surface as Tree};
 ghost use Rattle.mesh_tokens.specs.Gives.{Gives};
 ghost use Rattle.mesh_tokens.specs.declared.faults.ReadFault.{ReadFault as Fault};
@@ -68,7 +68,7 @@ fn body(
 }
 
 /// The statement that the tokens of a file begin with, and the query behind it.
-pub(crate) fn whole(file: &[u8], tokens: &Tokens) -> Result<Whole, ReadFault>
+pub(crate) fn read_whole(file: &[u8], tokens: &Tokens) -> Result<Whole, ReadFault>
     ensures { (q : Result Tree Fault) × IsQueryRead tokens.now (query_at file.now tokens.now) q × Gives result (whole file.now tokens.now q) }
 {
     let (parts, before, rest) = read_statement(tokens.alloc(), file, tokens.as_slice())?;

@@ -46,7 +46,7 @@ fn in_front(alloc: Global, bytes: &[u8], at: u64) -> Result<Tokens, Memory>
     }
 }
 
-pub(crate) fn lexed(alloc: Global, bytes: &[u8]) -> Result<Lexed, Memory>
+pub(crate) fn read_tokens(alloc: Global, bytes: &[u8]) -> Result<Lexed, Memory>
     ensures { IfOk result (λ found. found ≡ record { tokens = file_tokens bytes.now; fault = file_fault bytes.now }) }
 {
     match tokens_of(alloc, bytes) {

@@ -4,9 +4,9 @@ ghost use Rattle.mesh_tokens.specs.Gives.{Gives};
 ghost use Rattle.mesh_text.specs.ModelTexts.{is_want, earlier, with_tokens};
 ghost use Rattle.mesh_text.specs.Reads.{IsModelRead};
 
-use crate::behind::whole;
+use crate::behind::read_whole;
 use crate::finished::finished;
-use crate::lexed::lexed;
+use crate::lexed::{Lexed, read_tokens};
 use crate::model::{ModelText, Whole};
 use mesh_base::Str;
 use mesh_statement::end_of;
@@ -59,8 +59,8 @@ pub fn read_model(file: &Str, bytes: &[u8]) -> Result<ModelText, ReadFault>
     ensures { IsModelRead file.now bytes.now result }
 {
     let alloc = file.alloc();
-    let lexed = lexed(alloc, bytes)?;
-    let whole = whole(file.as_slice(), &lexed.tokens);
-    let whole = with_tokens(lexed.tokens.as_slice(), lexed.fault, whole)?;
+    let Lexed { tokens, fault } = read_tokens(alloc, bytes)?;
+    let whole = read_whole(file.as_slice(), &tokens);
+    let whole = with_tokens(tokens.as_slice(), fault, whole)?;
     finished(alloc, file, whole)
 }
