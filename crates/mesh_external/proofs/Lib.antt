@@ -1,1 +1,2 @@
 pub mod DeclareSteps
+pub mod Sound

@@ -5,3 +5,6 @@ pub mod ColumnSteps
 pub mod PropertySteps
 pub mod Folders
 pub mod PathSteps
+pub mod Kept
+pub mod Schemas
+pub mod Stated

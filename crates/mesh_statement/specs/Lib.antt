@@ -12,5 +12,7 @@ pub mod Values
 pub mod Paths
 -- Kinds: what the value of `kind` means, with its entries.
 pub mod Kinds
+-- Named: how the names of models are.
+pub mod Named
 -- Statement: the properties of a MODEL statement, one after the other.
 pub mod Statement

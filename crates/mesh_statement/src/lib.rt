@@ -6,6 +6,7 @@
 mod brackets;
 mod faults;
 mod kinds;
+mod laws;
 mod look;
 mod parts;
 mod paths;
@@ -16,5 +17,6 @@ mod values;
 mod words;
 
 pub use kinds::KindText;
+pub use laws::{names_have_schemas, the_rest_stands_behind};
 pub use parts::Parts;
 pub use properties::{end_of, read_statement};

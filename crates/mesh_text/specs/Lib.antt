@@ -4,3 +4,5 @@ pub mod Lexed
 pub mod ModelTexts
 -- Reads: what reading a model's file answers.
 pub mod Reads
+-- Complete: what every model's text keeps.
+pub mod Complete

@@ -6,11 +6,13 @@
 
 mod behind;
 mod finished;
+mod laws;
 mod lexed;
 mod model;
 mod read;
 #[cfg(test)]
 mod tests;
 
+pub use laws::models_are_complete;
 pub use model::ModelText;
 pub use read::read_model;
