@@ -17,7 +17,7 @@ use Rattle.mesh_statement.specs.Faults.{broken, bad, unknown, provided, is_sign}
 use Rattle.mesh_statement.specs.Kinds.{kind_value, first_at, is_one_of}
 use Rattle.mesh_statement.specs.Named.{has_schema}
 use Rattle.mesh_statement.specs.Statement.{Read, no_parts, noted, is_free, is_property, put_name, put_kind, put_cron, put_unit, put_start, put_columns, put, admitted, end_of, some_tokens, property, statement}
-use Rattle.mesh_statement.specs.Values.{name_of, unit_of, start_of, cron_value, columns_value}
+use Rattle.mesh_statement.specs.Values.{word, name_of, unit_of, start_of, cron_value, columns_value}
 use Rattle.mesh_statement.proofs.Kept.{bound, stated}
 use Rattle.mesh_statement.proofs.Schemas.{schema_read}
 
@@ -32,11 +32,15 @@ pub record Steps (file : List ℕ) (p : Parts) (k : Token) (ks : List Token) (r 
 
 steps : (file : List ℕ) (p : Parts) (before : ℕ) (k : Token) (ks : List Token) (r : Read) → property file p before (k ∷ ks) ≡ Ok r → Steps file p k ks r
 steps file p before k ks r e =
-    let name = bound _ _ r e in
-    let known = bound _ _ r name.2 in
-    let n = bound _ _ r known.2 in
-    let some = bound _ _ r n.2 in
-    let more = bound _ _ r some.2 in
+    let last : ℕ → Parts → Result Read ReadFault = λ n more. Ok (record { parts = more; before = end_of k.end (take n ks); rest = drop n ks }) in
+    let value : List ℕ → Parts → ℕ → Result Read ReadFault = λ name known n. put file known (first_at ks) name (take n ks) >>= λ more. last n more in
+    let some_value : List ℕ → Parts → ℕ → Result Read ReadFault = λ name known n. some_tokens k.end n >>= λ n. value name known n in
+    let behind : List ℕ → Parts → Result Read ReadFault = λ name known. value_len (is_free name) k.end [] ks >>= λ n. some_value name known n in
+    let name = bound (or_fault (broken before) (word k)) (λ name. admitted p k.start name >>= λ known. behind name known) r e in
+    let known = bound (admitted p k.start name.0) (λ known. behind name.0 known) r name.2 in
+    let n = bound (value_len (is_free name.0) k.end [] ks) (λ n. some_value name.0 known.0 n) r known.2 in
+    let some = bound (some_tokens k.end n.0) (λ n. value name.0 known.0 n) r n.2 in
+    let more = bound (put file known.0 (first_at ks) name.0 (take some.0 ks)) (λ more. last some.0 more) r some.2 in
     let same : (record { parts = more.0; before = end_of k.end (take some.0 ks); rest = drop some.0 ks }) ≡ r = cc more.2 in
     record {
       name = name.0;
