@@ -140,7 +140,8 @@ declared_keeps r ds more name column type role h e =
     let same : with_source named.0 ds made.0 ≡ more = cc made.2 in
     subst Kept same (
       placed_proper made.0 (without name_cmp decl_name named.0 ds) (grown_proper r (declared named.0 ds) made.0 column type role (found_proper named.0 ds h.0) made.1) (without_proper named.0 ds h.0),
-      ascends-placed name_cmp names_total decl_name made.0 (without name_cmp decl_name named.0 ds) (ascends-without name_cmp names_total decl_name named.0 ds h.1))
+      ascends-placed name_cmp names_total decl_name made.0 (without name_cmp decl_name named.0 ds) (ascends-without name_cmp names_total decl_name named.0 ds h.1),
+    )
 
 declare_keeps : (r : ℕ) (ds more : List Decl) (fields : Record) → Kept ds → declare r ds fields ≡ Ok more → Kept more
 declare_keeps r ds more fields h e = by (length fields == 4) e

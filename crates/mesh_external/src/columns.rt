@@ -22,12 +22,7 @@ fn has_column(columns: &[Column], name: &Str) -> bool
 }
 
 // The column in field 2, in lower case.
-fn column_name(
-    alloc: Global,
-    row: u64,
-    columns: &[Column],
-    field: &[u8],
-) -> Result<Str, ReadFault>
+fn column_name(alloc: Global, row: u64, columns: &[Column], field: &[u8]) -> Result<Str, ReadFault>
     ensures { Gives result (column_name row columns.now field.now) }
 {
     if !is_identifier(field) {

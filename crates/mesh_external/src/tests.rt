@@ -174,7 +174,13 @@ fn columns_at_fault(rt: HostRuntime) -> Result<(), Fail> {
 fn roles_at_fault(rt: HostRuntime) -> Result<(), Fail> {
     let a = rt.alloc();
     assert!(rt; under(a, b"s.a,x,int,TIME\n", "2.4")?);
-    assert!(rt; under(a, b"s.a,x,int,time\ns.b,x,int,time\ns.a,y,int,time\n", "4.4")?);
+    assert!(rt;
+        under(
+            a,
+            b"s.a,x,int,time\ns.b,x,int,time\ns.a,y,int,time\n",
+            "4.4"
+        )?
+    );
     assert!(rt; under(a, b"s.a,\xFF,int,\n", "2.2")?);
     Ok(())
 }

@@ -34,7 +34,13 @@ fn earlier(
 {
     match whole {
         Ok(_) => Err(token),
-        Err(fault) => { if is_want(tokens, &fault) { Err(token) } else { Err(fault) } }
+        Err(fault) => {
+            if is_want(tokens, &fault) {
+                Err(token)
+            } else {
+                Err(fault)
+            }
+        }
     }
 }
 

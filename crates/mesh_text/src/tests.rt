@@ -63,7 +63,14 @@ fn put_front(alloc: Global, line: &mut Vec<u8>, model: &ModelText) -> Result<(),
 // The hours of the cron as a number, a bit for each.
 fn put_back(alloc: Global, line: &mut Vec<u8>, model: &ModelText) -> Result<(), Fail> {
     put_number(alloc, line, i64::from(model.cron.hour))?;
-    put(line, if model.unit == Unit::Hour { b"hour" } else { b"day" })?;
+    put(
+        line,
+        if model.unit == Unit::Hour {
+            b"hour"
+        } else {
+            b"day"
+        },
+    )?;
     if let Some(start) = model.start {
         put_number(alloc, line, i64::from(start))?;
     }
@@ -186,7 +193,13 @@ fn what_stands_behind(rt: HostRuntime) -> Result<(), Fail> {
     let a = rt.alloc();
     assert!(rt; says(a, b"MODEL (name a.b);", "M1 17 ")?);
     assert!(rt; says(a, b"MODEL (name a.b); ;", "M1 17 ")?);
-    assert!(rt; says(a, b"MODEL (name a.s, kind SEED (path 's')); SELECT 1", "M1 39 ")?);
+    assert!(rt;
+        says(
+            a,
+            b"MODEL (name a.s, kind SEED (path 's')); SELECT 1",
+            "M1 39 "
+        )?
+    );
     assert!(rt; says(a, b"MODEL (kind FULL); SELECT", "M1 25 ")?);
     Ok(())
 }
@@ -208,7 +221,13 @@ fn faults_before_faulty_tokens(rt: HostRuntime) -> Result<(), Fail> {
     assert!(rt; says(a, b"MODEL (what 1); $", "M3 what 7 ")?);
     assert!(rt; says(a, b"MODEL (what '\xFF'); SELECT 1", "M3 what 7 ")?);
     assert!(rt; says(a, b"MODEL (name a.b); SELECT FROM x $", "M1 24 ")?);
-    assert!(rt; says(a, b"MODEL (name a.s, kind SEED (path '/')); '", "M4 path 33 ")?);
+    assert!(rt;
+        says(
+            a,
+            b"MODEL (name a.s, kind SEED (path '/')); '",
+            "M4 path 33 "
+        )?
+    );
     Ok(())
 }
 
@@ -237,11 +256,21 @@ fn large_files(rt: HostRuntime) -> Result<(), Fail> {
     Ok(())
 }
 
-// The place of the fault of a text that is cut at each byte, in turn, or a line where it has none.
-fn cuts_say(alloc: Global, text: &[u8], expected: &str) -> Result<bool, Fail> {
+// The places of the faults of a text that is cut behind `from` bytes, one more and so on up to `to`, and a line where it
+// has none.
+fn cuts_say(
+    alloc: Global,
+    text: &[u8],
+    from: usize,
+    to: usize,
+    expected: &str,
+) -> Result<bool, Fail> {
     let file: Str = u8::copy_items(alloc, b"models/a.sql")?;
     let mut line = Vec::new(alloc);
-    for length in 0..text.len() {
+    for length in from..to {
+        if length > text.len() {
+            return Ok(false);
+        }
         put_place(alloc, &mut line, &read_model(&file, &text[..length]))?;
     }
     Ok(line.as_slice() == expected.as_bytes())
@@ -260,20 +289,94 @@ fn put_place(
 }
 
 #[test]
-fn cut_files(rt: HostRuntime) -> Result<(), Fail> {
+fn a_seed_that_is_cut(rt: HostRuntime) -> Result<(), Fail> {
     let a = rt.alloc();
     assert!(rt;
         cuts_say(
             a,
             b"MODEL (name a.s, kind SEED (path '../s.csv'));",
+            0,
+            46,
             "0 0 0 0 0 5 5 7 7 7 7 11 11 13 14 15 16 16 17 17 17 21 21 23 24 25 26 26 28 29 30 31 32 32 33 33 33 33 33 33 33 33 33 43 44 45 "
         )?
     );
+    Ok(())
+}
+
+#[test]
+fn a_query_that_is_cut(rt: HostRuntime) -> Result<(), Fail> {
+    let a = rt.alloc();
     assert!(rt;
         cuts_say(
             a,
             b"MODEL (name a.b, kind FULL); SELECT x, FROM a.s",
-            "0 0 0 0 0 5 5 7 7 7 7 11 11 13 14 15 16 16 17 17 17 21 21 23 24 25 26 27 28 28 28 28 28 28 28 35 35 - - - - - - 43 43 - 46 "
+            26,
+            47,
+            "26 27 28 28 28 28 28 28 28 35 35 - - - - - - 43 43 - 46 "
+        )?
+    );
+    Ok(())
+}
+
+// A model with an audit, a trailing comma in its statement and one in its query.
+const LONG: &[u8] =
+    b"MODEL (name sqlmesh_example.full_model, kind FULL, cron '@daily', grain item_id,\n  audits (assert_positive_order_ids),);\nSELECT item_id, COUNT(DISTINCT id) AS num_orders,\nFROM sqlmesh_example.incremental_model\nGROUP BY item_id";
+
+#[test]
+fn the_name_and_kind_of_a_long_one_cut(rt: HostRuntime) -> Result<(), Fail> {
+    let a = rt.alloc();
+    assert!(rt;
+        cuts_say(
+            a,
+            LONG,
+            0,
+            60,
+            "0 0 0 0 0 5 5 7 7 7 7 11 11 13 14 15 16 17 18 19 20 21 22 23 24 25 26 27 28 29 30 31 32 33 34 35 36 37 38 39 39 40 40 40 44 44 46 47 48 49 50 50 51 51 51 55 55 56 56 56 "
+        )?
+    );
+    Ok(())
+}
+
+#[test]
+fn other_properties_of_it_cut(rt: HostRuntime) -> Result<(), Fail> {
+    let a = rt.alloc();
+    assert!(rt;
+        cuts_say(
+            a,
+            LONG,
+            60,
+            128,
+            "56 56 56 56 64 65 65 66 66 66 66 71 71 73 74 75 76 77 78 79 80 80 80 80 83 83 83 83 83 89 89 91 92 93 94 95 96 97 98 99 100 101 102 103 104 105 106 107 108 109 110 111 112 113 114 115 116 117 118 119 120 120 120 120 120 120 120 127 "
+        )?
+    );
+    Ok(())
+}
+
+#[test]
+fn its_items_cut(rt: HostRuntime) -> Result<(), Fail> {
+    let a = rt.alloc();
+    assert!(rt;
+        cuts_say(
+            a,
+            LONG,
+            128,
+            180,
+            "127 - - - - - - - - - - - - - - 143 144 145 146 147 148 149 150 151 151 153 154 - - - 158 158 - - - - - - - - - - - - - - - 175 175 - - - "
+        )?
+    );
+    Ok(())
+}
+
+#[test]
+fn its_relation_and_keys_cut(rt: HostRuntime) -> Result<(), Fail> {
+    let a = rt.alloc();
+    assert!(rt;
+        cuts_say(
+            a,
+            LONG,
+            180,
+            226,
+            "- - - - - - - - - - - - 192 - 192 - - - - - - - - - - - - - - - - - - - - 215 215 215 218 218 - - - - - - "
         )?
     );
     Ok(())
