@@ -1,5 +1,5 @@
 -- The entries of a kind, and the properties of a statement, one after the other.
-use Rattle.std.proofs.Common.{◌≡◌, ℕ, zero, suc, ◌+◌, ◌-◌, ◌<◌, ◌≤◌, ◌==◌, Bool, true, false, cond, List, [], ◌∷◌, length, Result, Ok, Err, refl, sym, ◌∙◌, ap, subst, arith}
+use Rattle.std.proofs.Common.{◌≡◌, ℕ, zero, suc, ◌+◌, ◌-◌, ◌<◌, ◌≤◌, ◌==◌, true, false, List, [], ◌∷◌, length, Result, Ok, Err, refl, sym, ◌∙◌, ap, arith}
 use borrow.Author.Tests.{eqb-true}
 use Rattle.mesh_tokens.specs.Gives.{◌>>=◌, Refuses}
 use Rattle.mesh_tokens.specs.declared.faults.ReadFault.{ReadFault}

@@ -19,6 +19,7 @@ schema_read (s ∷ p ∷ m ∷ []) name e = by (word s) (word m) e
     one true true schema model is f = let same : (record { schema = schema; model = model }) ≡ name = cc f in subst (λ (n : Name). is_schema n.schema ≡ true) same is
     one true false schema model is f = cc f
     one false b schema model is f = cc f
+
     by : (a b : Option (List ℕ)) → (a >>= λ schema. b >>= λ model. cond (is_sign (codes ".") p && is_schema schema) (Some (record { schema = schema; model = model })) None) ≡ Some name → is_schema name.schema ≡ true
     by None b f = cc f
     by (Some a) None f = cc f

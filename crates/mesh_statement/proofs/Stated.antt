@@ -1,22 +1,20 @@
 -- What is left of a file's tokens, and the name that was read.
-use Rattle.std.proofs.Common.{◌≡◌, ℕ, ◌+◌, ◌-◌, Bool, true, false, cond, ◌&&◌, not, List, [], ◌∷◌, ◌++◌, codes, length, take, drop, Result, Ok, Err, ℤ, refl, sym, ◌∙◌, ap, subst, arith}
+use Rattle.std.proofs.Common.{◌≡◌, ℕ, ◌-◌, Bool, true, false, cond, not, List, [], ◌∷◌, ◌++◌, codes, length, take, drop, Result, Ok, Err, refl, sym, ◌∙◌, ap, subst, arith}
 use Rattle.std.proofs.Math.Seq.{drop-append_seam}
 use Rattle.std.proofs.lemmas.List.{append_assoc, take-append-drop, length-append}
 use Rattle.std.specs.Str.{bytes_eq}
 use Rattle.std.specs.declared.option.Option.{Option}
 use Rattle.std.specs.declared.option.Option.TheVariants.{None, Some}
-use Rattle.mesh_list.proofs.Ascends.{and_right}
-use Rattle.mesh_base.specs.Names.{is_schema}
 use Rattle.mesh_base.specs.declared.values.Name.{Name}
 use Rattle.mesh_tokens.specs.Gives.{◌>>=◌}
 use Rattle.mesh_tokens.specs.declared.faults.ReadFault.{ReadFault}
 use Rattle.mesh_tokens.specs.declared.tokens.Token.{Token}
 use Rattle.mesh_statement.specs.declared.parts.Parts.{Parts}
 use Rattle.mesh_statement.specs.Brackets.{or_fault, value_len}
-use Rattle.mesh_statement.specs.Faults.{broken, bad, unknown, provided, is_sign}
+use Rattle.mesh_statement.specs.Faults.{broken, bad, unknown, provided}
 use Rattle.mesh_statement.specs.Kinds.{kind_value, first_at, is_one_of}
 use Rattle.mesh_statement.specs.Named.{has_schema}
-use Rattle.mesh_statement.specs.Statement.{Read, no_parts, noted, is_free, is_property, put_name, put_kind, put_cron, put_unit, put_start, put_columns, put, admitted, end_of, some_tokens, property, statement}
+use Rattle.mesh_statement.specs.Statement.{Read, noted, is_free, is_property, put_name, put, admitted, end_of, some_tokens, property, statement}
 use Rattle.mesh_statement.specs.Values.{word, name_of, unit_of, start_of, cron_value, columns_value}
 use Rattle.mesh_statement.proofs.Kept.{bound, stated}
 use Rattle.mesh_statement.proofs.Schemas.{schema_read}
@@ -59,9 +57,10 @@ left_by_property : (ts : List Token) (file : List ℕ) (p : Parts) (before : ℕ
 unfolding Left
 left_by_property ts file p before [] r e h = cc e
 left_by_property ts file p before (k ∷ ks) r e h =
-    let s = steps file p before k ks r e in
-    (h.0 ++ k ∷ take s.n ks,
-    h.1 ∙ ap (λ l. h.0 ++ k ∷ l) (sym (take-append-drop s.n ks)) ∙ sym (append_assoc h.0 (k ∷ take s.n ks) (drop s.n ks)) ∙ ap (λ l. (h.0 ++ k ∷ take s.n ks) ++ l) s.rests)
+    let s = steps file p before k ks r e in (
+      h.0 ++ k ∷ take s.n ks,
+      h.1 ∙ ap (λ l. h.0 ++ k ∷ l) (sym (take-append-drop s.n ks)) ∙ sym (append_assoc h.0 (k ∷ take s.n ks) (drop s.n ks)) ∙ ap (λ l. (h.0 ++ k ∷ take s.n ks) ++ l) s.rests,
+    )
 
 left_by_sign : (ts : List Token) (p : Parts) (k : Token) (ks : List Token) → Left ts p (k ∷ ks) → Left ts p ks
 unfolding Left

@@ -153,7 +153,13 @@ fn names_and_kinds(rt: HostRuntime) -> Result<(), Fail> {
     assert!(rt; says(a, b"model (NAME A.b, ); select 1", "a.b 19 2 ")?);
     assert!(rt; with(a, b"kind FULL", "a.b full 26 0 ")?);
     assert!(rt; with(a, b"kind view", "a.b view 26 0 ")?);
-    assert!(rt; with(a, b"kind Seed (path 'x.csv')", "a.b seed models/m/x.csv 31 41 0 ")?);
+    assert!(rt;
+        with(
+            a,
+            b"kind Seed (path 'x.csv')",
+            "a.b seed models/m/x.csv 31 41 0 "
+        )?
+    );
     assert!(rt;
         with(
             a,
