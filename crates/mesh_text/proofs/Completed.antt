@@ -1,5 +1,5 @@
 -- What was read is complete.
-use Rattle.std.proofs.Common.{◌≡◌, ℕ, Bool, true, false, cond, ◌&&◌, not, List, [], ◌∷◌, codes, Result, Ok, Err, ℤ, refl, sym, ◌∙◌, ap, subst}
+use Rattle.std.proofs.Common.{◌≡◌, ℕ, Bool, true, false, cond, ◌&&◌, not, List, codes, Result, Ok, Err, ℤ, refl, subst}
 use Rattle.std.specs.Option.{is_some, unwrap_or}
 use Rattle.std.specs.declared.option.Option.{Option}
 use Rattle.std.specs.declared.option.Option.TheVariants.{None, Some}
@@ -22,8 +22,8 @@ use Rattle.mesh_statement.proofs.Kept.{bound}
 use Rattle.mesh_statement.proofs.Stated.{name_is_proper}
 use Rattle.mesh_text.specs.declared.model.ModelText.{ModelText}
 use Rattle.mesh_text.specs.declared.model.Whole.{Whole as Text}
-use Rattle.mesh_text.specs.Complete.{has_its_query, has_its_start, is_complete}
-use Rattle.mesh_text.specs.ModelTexts.{kind_of, is_seed_kind, is_seed_text, body, whole, is_want, earlier, with_tokens, is_timed, no_start, started, cron_or_daily, unit_of, finished, model_of}
+use Rattle.mesh_text.specs.Complete.{is_complete}
+use Rattle.mesh_text.specs.ModelTexts.{kind_of, is_seed_kind, is_seed_text, body, whole, is_want, with_tokens, is_timed, no_start, started, cron_or_daily, unit_of, finished, model_of}
 
 -- without a faulty token
 unhurt : (ts : List Token) (token : Option ReadFault) (r : Result Text ReadFault) (w : Text) → with_tokens ts token r ≡ Ok w → r ≡ Ok w

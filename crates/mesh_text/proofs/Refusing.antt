@@ -1,5 +1,5 @@
 -- A step that refuses ends the reading.
-use Rattle.std.proofs.Common.{◌≡◌, Result, Ok, Err, ap}
+use Rattle.std.proofs.Common.{Result, ap}
 use Rattle.mesh_tokens.specs.Gives.{◌>>=◌, Refuses}
 use Rattle.mesh_tokens.specs.declared.faults.ReadFault.{ReadFault}
 use Rattle.mesh_tokens.specs.declared.faults.ReadFault.TheVariants as faults

@@ -1,16 +1,14 @@
 -- What a model's file says, or its first fault. Where the file has a faulty token, reading goes as far as the tokens in front
 -- of it.
-use Rattle.std.specs.Prelude.{ℕ, ℤ, ◌-◌, Bool, true, false, ◌&&◌, not, ◌==◌, List, [], ◌∷◌, codes, length, Result, Ok, Err, if◌then◌else◌}
+use Rattle.std.specs.Prelude.{ℕ, ℤ, ◌-◌, Bool, true, false, ◌&&◌, not, ◌==◌, List, codes, length, Result, Ok, Err, if◌then◌else◌}
 use Rattle.std.specs.Option.{is_some, unwrap_or}
 use Rattle.std.specs.declared.option.Option.{Option}
 use Rattle.std.specs.declared.option.Option.TheVariants.{None, Some}
 use Rattle.mesh_base.specs.Crons.{CronSets, is_single}
-use Rattle.mesh_base.specs.declared.crons.CronFault.{CronFault}
 use Rattle.mesh_base.specs.declared.definitions.Kind.{Kind}
 use Rattle.mesh_base.specs.declared.definitions.Kind.TheVariants as kind
 use Rattle.mesh_base.specs.declared.times.Unit.{Unit as TimeUnit}
 use Rattle.mesh_base.specs.declared.times.Unit.TheVariants.{Hour, Day}
-use Rattle.mesh_base.specs.declared.values.Name.{Name}
 use Rattle.mesh_time.specs.CronText.{cron_of}
 use Rattle.mesh_tokens.specs.Gives.{◌>>=◌}
 use Rattle.mesh_tokens.specs.declared.faults.FaultKind.TheVariants.{Syntax, NoStart}
@@ -19,7 +17,6 @@ use Rattle.mesh_tokens.specs.declared.faults.ReadFault.TheVariants.{Fault}
 use Rattle.mesh_tokens.specs.declared.tokens.Token.{Token}
 use Rattle.mesh_surface.specs.declared.queries.Surface.{Surface}
 use Rattle.mesh_statement.specs.declared.kinds.KindText.{KindText}
-use Rattle.mesh_statement.specs.declared.parts.Parts.{Parts}
 use Rattle.mesh_statement.specs.Brackets.{or_fault}
 use Rattle.mesh_statement.specs.Faults.{bad, broken, provided}
 use Rattle.mesh_statement.specs.Kinds.{plain, is_empty}
