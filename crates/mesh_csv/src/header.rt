@@ -11,7 +11,7 @@ use mesh_tokens::{FaultKind, ReadFault};
 use std::alloc::Global;
 
 /// Field `field` of record `row`, both from 1, breaks a rule, or the record's shape does where `field` is 0.
-pub(crate) fn bad_row(row: u64, field: u64) -> ReadFault
+pub fn bad_row(row: u64, field: u64) -> ReadFault
     ensures { result ≡ bad_row row field }
 {
     ReadFault::Fault {
@@ -20,7 +20,8 @@ pub(crate) fn bad_row(row: u64, field: u64) -> ReadFault
     }
 }
 
-fn long_name(alloc: Global) -> Result<ReadFault, Memory>
+/// An identifier has more than 128 bytes.
+pub fn long_name(alloc: Global) -> Result<ReadFault, Memory>
     ensures { IfOk result (λ fault. fault ≡ long_name) }
 {
     let what = u8::copy_items(alloc, b"name")?;
@@ -33,7 +34,8 @@ fn long_name(alloc: Global) -> Result<ReadFault, Memory>
     })
 }
 
-fn many_columns(alloc: Global) -> Result<ReadFault, Memory>
+/// There are more than 1,024 columns.
+pub fn many_columns(alloc: Global) -> Result<ReadFault, Memory>
     ensures { IfOk result (λ fault. fault ≡ many_columns) }
 {
     let what = u8::copy_items(alloc, b"columns")?;
@@ -83,7 +85,7 @@ fn name_fault(
 }
 
 /// The first fault of the header's names.
-pub(crate) fn header_fault(alloc: Global, header: &Record) -> Result<Option<ReadFault>, Memory>
+pub fn header_fault(alloc: Global, header: &Record) -> Result<Option<ReadFault>, Memory>
     ensures { IfOk result (λ fault. fault ≡ header_fault header.now) }
 {
     let mut before: Strs = Seq::new(alloc);
@@ -100,7 +102,7 @@ pub(crate) fn header_fault(alloc: Global, header: &Record) -> Result<Option<Read
 }
 
 /// The names, in lower case.
-pub(crate) fn header_names(alloc: Global, header: &Record) -> Result<Strs, Memory>
+pub fn header_names(alloc: Global, header: &Record) -> Result<Strs, Memory>
     ensures { IfOk result (λ names. names ≡ header_names header.now) }
 {
     let mut names: Strs = Seq::new(alloc);

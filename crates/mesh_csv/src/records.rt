@@ -11,7 +11,7 @@ use std::marker::Model;
 
 /// A record, which contracts see as the list of its fields.
 #[derive(Debug, Drop)]
-pub(crate) struct Record {
+pub struct Record {
     fields: ByteRecord,
 }
 
@@ -34,20 +34,22 @@ impl Record {
         Record { fields }
     }
 
-    pub(crate) fn len(&self) -> usize
+    /// How many fields the record has.
+    pub fn len(&self) -> usize
         ensures { result ≡ length self.now }
     {
         self.fields.len()
     }
 
-    pub(crate) fn get(&self, at: usize) -> Option<&[u8]>
+    /// The field at a place from 0.
+    pub fn get(&self, at: usize) -> Option<&[u8]>
         ensures { option_map (λ f. f.now) result ≡ slice_get self.now at }
     {
         self.fields.get(at)
     }
 
     /// The field at a place from 0, and an empty one where there is none.
-    pub(crate) fn field(&self, at: usize) -> &[u8]
+    pub fn field(&self, at: usize) -> &[u8]
         ensures { result.now ≡ field at self.now }
     {
         match self.get(at) {
@@ -57,10 +59,10 @@ impl Record {
     }
 }
 
-pub(crate) type Records = Seq<Record>;
+pub type Records = Seq<Record>;
 
 /// Every record of a text, the header among them, without a byte order mark.
-pub(crate) fn records_of(alloc: Global, text: &[u8]) -> Result<Records, Memory>
+pub fn records_of(alloc: Global, text: &[u8]) -> Result<Records, Memory>
     ensures { IfOk result (λ found. found ≡ records default_config (strip_bom text.now)) }
 {
     let reader = ReaderBuilder::new()

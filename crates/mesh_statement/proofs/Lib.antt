@@ -3,3 +3,8 @@ pub mod Steps
 pub mod EntrySteps
 pub mod ColumnSteps
 pub mod PropertySteps
+pub mod Folders
+pub mod PathSteps
+pub mod Kept
+pub mod Schemas
+pub mod Stated

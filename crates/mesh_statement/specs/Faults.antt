@@ -6,7 +6,7 @@ use Rattle.mesh_tokens.specs.declared.faults.ReadFault.{ReadFault}
 use Rattle.mesh_tokens.specs.declared.faults.ReadFault.TheVariants.{Fault}
 use Rattle.mesh_tokens.specs.declared.tokens.Token.{Token}
 use Rattle.mesh_tokens.specs.declared.tokens.TokenKind.{TokenKind}
-use Rattle.mesh_tokens.specs.declared.tokens.TokenKind.TheVariants.{Ident, Text, Sign, Number, Macro}
+use Rattle.mesh_tokens.specs.declared.tokens.TokenKind.TheVariants.{Ident, Sign}
 
 -- no model file goes on so behind the token that ends here
 abbrev pub broken : ℕ → ReadFault

@@ -18,6 +18,7 @@ use Rattle.mesh_base.specs.declared.definitions.Kind.{Kind}
 use Rattle.mesh_base.specs.declared.definitions.Kind.TheVariants as base_kind
 use Rattle.mesh_statement.specs.Faults.{bad, unknown, outside, provided, is_sign, is_word}
 use Rattle.mesh_statement.specs.Brackets.{or_fault, value_len}
+use Rattle.mesh_statement.specs.Paths.{file_at}
 use Rattle.mesh_statement.specs.Values.{word, text, behind}
 
 abbrev pub words_left_out : List (List ℕ)
@@ -90,16 +91,21 @@ is_entry kind name = is_one_of words_idle name
 abbrev pub noted : Entries → List ℕ → Entries
 noted e name = record e { seen = e.seen ++ name ∷ [] }
 
-abbrev pub with_path : Entries → List ℕ → List Token → Result Entries ReadFault
-with_path e name value = or_fault (bad (first_at value) name) (path_text value) >>= λ path. Ok (record e { path = Some path; path_at = first_at value })
+-- the file of the project that a path in a model's file names
+abbrev pub file_named : List ℕ → Option (List ℕ) → Option (List ℕ)
+file_named file None = None
+file_named file (Some path) = file_at file path
+
+abbrev pub with_path : List ℕ → Entries → List ℕ → List Token → Result Entries ReadFault
+with_path file e name value = or_fault (bad (first_at value) name) (file_named file (path_text value)) >>= λ path. Ok (record e { path = Some path; path_at = first_at value })
 
 abbrev pub with_time : Entries → List ℕ → List Token → Result Entries ReadFault
 with_time e name value = or_fault (bad (first_at value) name) (time_word value) >>= λ time. Ok (record e { time = Some time })
 
 -- an entry's value; it is M20 where the entry means nothing and has another value
-abbrev pub entry_value : Entries → ℕ → List ℕ → List Token → Result Entries ReadFault
-entry_value e at name value =
-    if bytes_eq name (codes "path") then with_path e name value
+abbrev pub entry_value : List ℕ → Entries → ℕ → List ℕ → List Token → Result Entries ReadFault
+entry_value file e at name value =
+    if bytes_eq name (codes "path") then with_path file e name value
     else if bytes_eq name (codes "time_column") then with_time e name value
     else provided (is_idle name value) e (outside at name)
 
@@ -108,36 +114,36 @@ is_empty [] = true
 is_empty (k ∷ ks) = false
 
 -- an entry of a kind, with its name at this place
-abbrev pub entry : KindWord → Entries → ℕ → List ℕ → List Token → Result Entries ReadFault
-entry kind e at name value =
+abbrev pub entry : List ℕ → KindWord → Entries → ℕ → List ℕ → List Token → Result Entries ReadFault
+entry file kind e at name value =
     if not (is_entry kind name) then Err (unknown at name)
     else if is_one_of e.seen name || is_empty value then Err (bad at name)
-    else entry_value (noted e name) at name value
+    else entry_value file (noted e name) at name value
 
 -- one entry behind those that are known, and what stands behind it
-abbrev pub one_entry : ReadFault → KindWord → Entries → List Token → Result (Entries × List Token) ReadFault
-one_entry fault kind e [] = Err fault
-one_entry fault kind e (k ∷ ks) = do
+abbrev pub one_entry : List ℕ → ReadFault → KindWord → Entries → List Token → Result (Entries × List Token) ReadFault
+one_entry file fault kind e [] = Err fault
+one_entry file fault kind e (k ∷ ks) = do
   name ← or_fault fault (word k)
   n ← value_len true k.end [] ks
-  more ← entry kind e k.start name (take n ks)
+  more ← entry file kind e k.start name (take n ks)
   rest ← or_fault fault (behind (drop n ks))
   Ok (more, rest)
 
 -- all entries; so many tokens are left at most
-unfoldable pub entries_from : ℕ → ReadFault → KindWord → Entries → List Token → Result Entries ReadFault
-entries_from most fault kind e [] = Ok e
-entries_from zero fault kind e (k ∷ ks) = Err fault
-entries_from (suc most) fault kind e (k ∷ ks) = one_entry fault kind e (k ∷ ks) >>= λ r. entries_from most fault kind r.0 r.1
+unfoldable pub entries_from : List ℕ → ℕ → ReadFault → KindWord → Entries → List Token → Result Entries ReadFault
+entries_from file most fault kind e [] = Ok e
+entries_from file zero fault kind e (k ∷ ks) = Err fault
+entries_from file (suc most) fault kind e (k ∷ ks) = one_entry file fault kind e (k ∷ ks) >>= λ r. entries_from file most fault kind r.0 r.1
 
 abbrev pub no_entries : Entries
 no_entries = record { seen = []; path = None; path_at = 0; time = None }
 
 -- the entries in parentheses, if there are any
-abbrev pub entries_in : ReadFault → KindWord → List Token → Result Entries ReadFault
-entries_in fault kind [] = Ok no_entries
-entries_in fault kind (p ∷ []) = Err fault
-entries_in fault kind (p ∷ q ∷ ks) = if is_sign (codes "(") p then entries_from (length (q ∷ ks)) fault kind no_entries (q ∷ ks) else Err fault
+abbrev pub entries_in : List ℕ → ReadFault → KindWord → List Token → Result Entries ReadFault
+entries_in file fault kind [] = Ok no_entries
+entries_in file fault kind (p ∷ []) = Err fault
+entries_in file fault kind (p ∷ q ∷ ks) = if is_sign (codes "(") p then entries_from file (length (q ∷ ks)) fault kind no_entries (q ∷ ks) else Err fault
 
 abbrev pub plain : Kind → KindText
 plain kind = record { kind = kind; path = None; path_at = 0 }
@@ -158,11 +164,11 @@ whole fault the_kind.Incremental e = incremental fault e.time
 abbrev pub kind_word : List ℕ
 kind_word = codes "kind"
 
--- the kind that a value means, which begins at this place
-abbrev pub kind_value : ℕ → List Token → Result KindText ReadFault
-kind_value at [] = Err (bad at (codes "kind"))
-kind_value at (k ∷ ks) = do
+-- the kind that a value means in a model's file, which begins at this place
+abbrev pub kind_value : List ℕ → ℕ → List Token → Result KindText ReadFault
+kind_value file at [] = Err (bad at (codes "kind"))
+kind_value file at (k ∷ ks) = do
   word ← or_fault (bad at (codes "kind")) (word k)
   kind ← kind_or_fault at word
-  entries ← entries_in (bad at (codes "kind")) kind ks
+  entries ← entries_in file (bad at (codes "kind")) kind ks
   whole (bad at (codes "kind")) kind entries

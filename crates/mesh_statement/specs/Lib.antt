@@ -8,7 +8,11 @@ pub mod Faults
 pub mod Brackets
 -- Values: what the value of each property means.
 pub mod Values
+-- Paths: where the file lies that a path names.
+pub mod Paths
 -- Kinds: what the value of `kind` means, with its entries.
 pub mod Kinds
+-- Named: how the names of models are.
+pub mod Named
 -- Statement: the properties of a MODEL statement, one after the other.
 pub mod Statement

@@ -1,7 +1,6 @@
 -- The properties of a MODEL statement, one after the other, up to the semicolon behind it.
-use Rattle.std.specs.Prelude.{ℕ, zero, suc, Bool, true, false, ◌||◌, not, ◌==◌, List, [], ◌∷◌, ◌++◌, codes, take, drop, length, Result, Ok, Err, if◌then◌else◌}
+use Rattle.std.specs.Prelude.{ℕ, zero, suc, Bool, true, false, ◌||◌, not, List, [], ◌∷◌, ◌++◌, codes, take, drop, length, Result, Ok, Err, if◌then◌else◌}
 use Rattle.std.specs.Str.{bytes_eq}
-use Rattle.std.specs.declared.option.Option.{Option}
 use Rattle.std.specs.declared.option.Option.TheVariants.{None, Some}
 use Rattle.mesh_tokens.specs.Gives.{◌>>=◌}
 use Rattle.mesh_tokens.specs.declared.faults.ReadFault.{ReadFault}
@@ -34,8 +33,8 @@ noted p name = record p { seen = p.seen ++ name ∷ [] }
 abbrev pub put_name : Parts → ℕ → List Token → Result Parts ReadFault
 put_name p at value = or_fault (bad at (codes "name")) (name_of value) >>= λ name. Ok (record p { name = Some name })
 
-abbrev pub put_kind : Parts → ℕ → List Token → Result Parts ReadFault
-put_kind p at value = kind_value at value >>= λ kind. Ok (record p { kind = Some kind })
+abbrev pub put_kind : List ℕ → Parts → ℕ → List Token → Result Parts ReadFault
+put_kind file p at value = kind_value file at value >>= λ kind. Ok (record p { kind = Some kind })
 
 abbrev pub put_cron : Parts → ℕ → List Token → Result Parts ReadFault
 put_cron p at value = cron_value at value >>= λ cron. Ok (record p { cron = Some cron })
@@ -49,11 +48,11 @@ put_start p at value = or_fault (bad at (codes "start")) (start_of value) >>= λ
 abbrev pub put_columns : Parts → ℕ → List Token → Result Parts ReadFault
 put_columns p at value = columns_value at value >>= λ columns. Ok (record p { columns = columns })
 
--- the parts with the value of a property, which begins at this place
-abbrev pub put : Parts → ℕ → List ℕ → List Token → Result Parts ReadFault
-put p at name value =
+-- the parts with the value of a property in a model's file, which begins at this place
+abbrev pub put : List ℕ → Parts → ℕ → List ℕ → List Token → Result Parts ReadFault
+put file p at name value =
     if bytes_eq name (codes "name") then put_name p at value
-    else if bytes_eq name (codes "kind") then put_kind p at value
+    else if bytes_eq name (codes "kind") then put_kind file p at value
     else if bytes_eq name (codes "cron") then put_cron p at value
     else if bytes_eq name (codes "interval_unit") then put_unit p at value
     else if bytes_eq name (codes "start") then put_start p at value
@@ -81,14 +80,14 @@ abbrev pub some_tokens : ℕ → ℕ → Result ℕ ReadFault
 some_tokens before zero = Err (broken before)
 some_tokens before (suc n) = Ok (suc n)
 
-abbrev pub property : Parts → ℕ → List Token → Result Read ReadFault
-property p before [] = Err (broken before)
-property p before (k ∷ ks) = do
+abbrev pub property : List ℕ → Parts → ℕ → List Token → Result Read ReadFault
+property file p before [] = Err (broken before)
+property file p before (k ∷ ks) = do
   name ← or_fault (broken before) (word k)
   known ← admitted p k.start name
   n ← value_len (is_free name) k.end [] ks
   n ← some_tokens k.end n
-  more ← put known (first_at ks) name (take n ks)
+  more ← put file known (first_at ks) name (take n ks)
   Ok (record { parts = more; before = end_of k.end (take n ks); rest = drop n ks })
 
 -- a sign that has to stand here
@@ -109,24 +108,24 @@ goes_on r = do
   c ← expect (codes ",") r.parts r.before r.rest
   if begins (codes ")") c.rest then closes c else Ok (false, c)
 
-abbrev pub one_property : Parts → ℕ → List Token → Result (Bool × Read) ReadFault
-one_property p before ts = do
-  r ← property p before ts
+abbrev pub one_property : List ℕ → Parts → ℕ → List Token → Result (Bool × Read) ReadFault
+one_property file p before ts = do
+  r ← property file p before ts
   if begins (codes ")") r.rest then closes r else goes_on r
 
 -- the properties from here on; so many tokens are left at most
-unfoldable pub properties : ℕ → Parts → ℕ → List Token → Result Read ReadFault
-properties zero p before ts = Err (broken before)
-properties (suc most) p before ts = one_property p before ts >>= λ s. if s.0 then Ok s.1 else properties most s.1.parts s.1.before s.1.rest
+unfoldable pub properties : List ℕ → ℕ → Parts → ℕ → List Token → Result Read ReadFault
+properties file zero p before ts = Err (broken before)
+properties file (suc most) p before ts = one_property file p before ts >>= λ s. if s.0 then Ok s.1 else properties file most s.1.parts s.1.before s.1.rest
 
 abbrev pub model_word : List Token → Result Read ReadFault
 model_word [] = Err (broken 0)
 model_word (k ∷ ks) = provided (is_word (codes "model") k) (record { parts = no_parts; before = k.end; rest = ks }) (broken 0)
 
--- MODEL ( properties ) ;
-abbrev pub statement : List Token → Result Read ReadFault
-statement ts = do
+-- MODEL ( properties ) ; in a model's file
+abbrev pub statement : List ℕ → List Token → Result Read ReadFault
+statement file ts = do
   m ← model_word ts
   o ← expect (codes "(") m.parts m.before m.rest
-  r ← properties (length o.rest) o.parts o.before o.rest
+  r ← properties file (length o.rest) o.parts o.before o.rest
   expect (codes ";") r.parts r.before r.rest

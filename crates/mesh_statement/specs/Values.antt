@@ -1,8 +1,7 @@
 -- What the tokens of a property's value mean. None where they mean nothing.
-use Rattle.std.specs.Prelude.{ℕ, zero, suc, Bool, true, false, ◌&&◌, not, nat_le, List, [], ◌∷◌, ◌++◌, codes, length, ℤ, Result, Ok, Err, if◌then◌else◌}
+use Rattle.std.specs.Prelude.{ℕ, zero, suc, Bool, true, ◌&&◌, not, nat_le, List, [], ◌∷◌, ◌++◌, codes, length, ℤ, Result, Ok, Err, if◌then◌else◌}
 use Rattle.std.specs.List.{list_any}
 use Rattle.std.specs.Str.{bytes_eq}
-use Rattle.std.specs.Option.{option_map}
 use Rattle.std.specs.declared.option.Option.{Option}
 use Rattle.std.specs.declared.option.Option.TheVariants.{None, Some}
 use Rattle.mesh_base.specs.Crons.{CronSets}
@@ -10,7 +9,6 @@ use Rattle.mesh_base.specs.Names.{is_schema}
 use Rattle.mesh_base.specs.declared.crons.CronFault.{CronFault}
 use Rattle.mesh_base.specs.declared.values.Name.{Name}
 use Rattle.mesh_base.specs.declared.values.Column.{Column}
-use Rattle.mesh_base.specs.declared.values.ColType.{ColType}
 use Rattle.mesh_base.specs.declared.times.Unit.{Unit as TimeUnit}
 use Rattle.mesh_base.specs.declared.times.Unit.TheVariants.{Hour, Day}
 use Rattle.mesh_time.specs.CronText.{cron_of}
@@ -20,7 +18,7 @@ use Rattle.mesh_tokens.specs.declared.faults.ReadFault.{ReadFault}
 use Rattle.mesh_tokens.specs.declared.faults.ReadFault.TheVariants.{Fault}
 use Rattle.mesh_tokens.specs.declared.tokens.Token.{Token}
 use Rattle.mesh_tokens.specs.declared.tokens.TokenKind.{TokenKind}
-use Rattle.mesh_tokens.specs.declared.tokens.TokenKind.TheVariants.{Ident, Text, Sign, Number, Macro}
+use Rattle.mesh_tokens.specs.declared.tokens.TokenKind.TheVariants.{Ident, Text, Macro}
 use Rattle.mesh_statement.specs.Faults.{bad, provided, is_sign}
 use Rattle.mesh_grammar.specs.Words.{type_of}
 

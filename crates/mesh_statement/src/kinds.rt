@@ -3,7 +3,7 @@ ghost use Rattle.std.specs.Prelude.{◌≡◌, IfOk, length, map};
 ghost use Rattle.std.specs.Char.{to_ascii_uppercase};
 ghost use Rattle.mesh_tokens.specs.Gives.{Gives};
 ghost use Rattle.mesh_statement.specs.Faults.{bad};
-ghost use Rattle.mesh_statement.specs.Kinds.{kind_or_fault, first_at, path_text, time_word, is_day_format, is_false, is_idle, noted, with_path, with_time, entry_value, entry, one_entry, entries_from, no_entries, entries_in, plain, seed, incremental, whole, kind_value, kind_word};
+ghost use Rattle.mesh_statement.specs.Kinds.{kind_or_fault, first_at, path_text, time_word, is_day_format, is_false, is_idle, noted, file_named, with_path, with_time, entry_value, entry, one_entry, entries_from, no_entries, entries_in, plain, seed, incremental, whole, kind_value, kind_word};
 ghost use Rattle.mesh_statement.specs.Answers.{GivesAs};
 ghost use Rattle.mesh_statement.specs.Values.{text as text_of};
 ghost use Rattle.mesh_statement.specs.Views.{seen};
@@ -11,6 +11,7 @@ ghost use Rattle.mesh_statement.specs.Views.{seen};
 use crate::brackets::value_len;
 use crate::faults::{bad, outside, unknown};
 use crate::look::{is_number, is_sign, is_word, text, word};
+use crate::paths::file_at;
 use crate::values::behind;
 use crate::words::{is_entry, is_left_out, is_one_of, kind_named};
 use mesh_base::{Kind, Str, Strs};
@@ -37,7 +38,7 @@ pub struct Entries {
     pub time: Option<Str>,
 }
 
-/// A kind, and for a SEED the path as it is written and the byte at which that text begins.
+/// A kind, and for a SEED the path of its file in the project and the byte at which that text begins.
 #[derive(Debug, Drop)]
 pub struct KindText {
     pub kind: Kind,
@@ -143,19 +144,29 @@ fn noted(alloc: Global, entries: Entries, name: &[u8]) -> Result<Entries, Memory
     Ok(more)
 }
 
+// The file of the project that a path in a model's file names.
+fn file_named(alloc: Global, file: &[u8], path: Option<&[u8]>) -> Result<Option<Str>, Memory>
+    ensures { IfOk result (λ found. found ≡ file_named file.now (seen path.entry)) }
+{
+    match path {
+        None => Ok(None),
+        Some(path) => file_at(alloc, file, path),
+    }
+}
+
 fn with_path(
     alloc: Global,
+    file: &[u8],
     entries: Entries,
     name: &[u8],
     value: &[Token],
 ) -> Result<Entries, ReadFault>
-    ensures { Gives result (with_path entries name.now value.now) }
+    ensures { Gives result (with_path file.now entries name.now value.now) }
 {
     let at = first_at(value);
-    let Some(path) = path_text(value) else {
+    let Some(path) = file_named(alloc, file, path_text(value))? else {
         return Err(bad(alloc, at, name));
     };
-    let path = u8::copy_items(alloc, path)?;
     let mut more = entries;
     more.path = Some(path);
     more.path_at = at;
@@ -181,15 +192,16 @@ fn with_time(
 
 fn entry_value(
     alloc: Global,
+    file: &[u8],
     entries: Entries,
     at: u64,
     name: &[u8],
     value: &[Token],
 ) -> Result<Entries, ReadFault>
-    ensures { Gives result (entry_value entries at name.now value.now) }
+    ensures { Gives result (entry_value file.now entries at name.now value.now) }
 {
     if is_same(name, b"path") {
-        return with_path(alloc, entries, name, value);
+        return with_path(alloc, file, entries, name, value);
     }
     if is_same(name, b"time_column") {
         return with_time(alloc, entries, name, value);
@@ -204,13 +216,14 @@ fn entry_value(
 // An entry of a kind, whose name begins at byte `at`.
 fn entry(
     alloc: Global,
+    file: &[u8],
     kind: KindWord,
     entries: Entries,
     at: u64,
     name: &[u8],
     value: &[Token],
 ) -> Result<Entries, ReadFault>
-    ensures { Gives result (entry kind entries at name.now value.now) }
+    ensures { Gives result (entry file.now kind entries at name.now value.now) }
 {
     if !is_entry(kind, name) {
         return Err(unknown(alloc, at, name));
@@ -219,18 +232,19 @@ fn entry(
         return Err(bad(alloc, at, name));
     }
     let more = noted(alloc, entries, name)?;
-    entry_value(alloc, more, at, name, value)
+    entry_value(alloc, file, more, at, name, value)
 }
 
 // One entry, and what stands behind it.
 fn one_entry<'a>(
     alloc: Global,
+    file: &[u8],
     at: u64,
     kind: KindWord,
     entries: Entries,
     tokens: &'a [Token],
 ) -> Result<(Entries, &'a [Token]), ReadFault>
-    ensures { GivesAs (λ r. (r.0, r.1.now)) result (one_entry (bad at kind_word) kind entries tokens.now) }
+    ensures { GivesAs (λ r. (r.0, r.1.now)) result (one_entry file.now (bad at kind_word) kind entries tokens.now) }
 {
     let [first, more @ ..] = tokens else {
         return Err(bad(alloc, at, b"kind"));
@@ -240,7 +254,7 @@ fn one_entry<'a>(
     };
     let length = value_len(alloc, true, first.end, more)?;
     let (value, rest) = more.split_at(length);
-    let entries = entry(alloc, kind, entries, first.start, name, value)?;
+    let entries = entry(alloc, file, kind, entries, first.start, name, value)?;
     match behind(rest) {
         Some(rest) => Ok((entries, rest)),
         None => Err(bad(alloc, at, b"kind")),
@@ -249,11 +263,12 @@ fn one_entry<'a>(
 
 fn entries_from(
     alloc: Global,
+    file: &[u8],
     at: u64,
     kind: KindWord,
     tokens: &[Token],
 ) -> Result<Entries, ReadFault>
-    ensures { Gives result (entries_from (length tokens.now) (bad at kind_word) kind no_entries tokens.now) }
+    ensures { Gives result (entries_from file.now (length tokens.now) (bad at kind_word) kind no_entries tokens.now) }
 {
     let mut entries = no_entries(alloc);
     let mut rest = tokens;
@@ -261,7 +276,7 @@ fn entries_from(
         if rest.is_empty() {
             return Ok(entries);
         }
-        let (more, left) = one_entry(alloc, at, kind, entries, rest)?;
+        let (more, left) = one_entry(alloc, file, at, kind, entries, rest)?;
         entries = more;
         rest = left;
     }
@@ -285,18 +300,19 @@ fn no_entries(alloc: Global) -> Entries
 
 fn entries_in(
     alloc: Global,
+    file: &[u8],
     at: u64,
     kind: KindWord,
     tokens: &[Token],
 ) -> Result<Entries, ReadFault>
-    ensures { Gives result (entries_in (bad at kind_word) kind tokens.now) }
+    ensures { Gives result (entries_in file.now (bad at kind_word) kind tokens.now) }
 {
     match tokens {
         [] => Ok(no_entries(alloc)),
         [_] => Err(bad(alloc, at, b"kind")),
         [begin, inner @ ..] => {
             if is_sign(begin, b"(") {
-                entries_from(alloc, at, kind, inner)
+                entries_from(alloc, file, at, kind, inner)
             } else {
                 Err(bad(alloc, at, b"kind"))
             }
@@ -349,9 +365,14 @@ fn whole(alloc: Global, at: u64, kind: KindWord, entries: Entries) -> Result<Kin
     }
 }
 
-/// The kind that a value means, which begins at byte `at`.
-pub(crate) fn kind_value(alloc: Global, at: u64, value: &[Token]) -> Result<KindText, ReadFault>
-    ensures { Gives result (kind_value at value.now) }
+/// The kind that a value means in a model's file, which begins at byte `at`.
+pub(crate) fn kind_value(
+    alloc: Global,
+    file: &[u8],
+    at: u64,
+    value: &[Token],
+) -> Result<KindText, ReadFault>
+    ensures { Gives result (kind_value file.now at value.now) }
 {
     let [first, more @ ..] = value else {
         return Err(bad(alloc, at, b"kind"));
@@ -360,6 +381,6 @@ pub(crate) fn kind_value(alloc: Global, at: u64, value: &[Token]) -> Result<Kind
         return Err(bad(alloc, at, b"kind"));
     };
     let kind = kind_or_fault(alloc, at, name)?;
-    let entries = entries_in(alloc, at, kind, more)?;
+    let entries = entries_in(alloc, file, at, kind, more)?;
     whole(alloc, at, kind, entries)
 }

@@ -1,13 +1,15 @@
 //! MODEL statements. Its contract: `read_statement` gives exactly what the definition `statement` says of the tokens of a
-//! model's file: the properties up to the semicolon, or the first fault among them. It stands on `mesh_list`,
+//! model's file: the properties up to the semicolon, or the first fault among them. A seed's path is one of the project. It stands on `mesh_list`,
 //! `mesh_base`, `mesh_time`, `mesh_casts`, `mesh_tokens` and `mesh_words`.
 #![tactic(auto)]
 
 mod brackets;
 mod faults;
 mod kinds;
+mod laws;
 mod look;
 mod parts;
+mod paths;
 mod properties;
 #[cfg(test)]
 mod tests;
@@ -15,5 +17,6 @@ mod values;
 mod words;
 
 pub use kinds::KindText;
+pub use laws::{names_have_schemas, the_rest_stands_behind};
 pub use parts::Parts;
-pub use properties::read_statement;
+pub use properties::{end_of, read_statement};

@@ -78,10 +78,16 @@ fn put_name(alloc: Global, parts: Parts, at: u64, value: &[Token]) -> Result<Par
     Ok(more)
 }
 
-fn put_kind(alloc: Global, parts: Parts, at: u64, value: &[Token]) -> Result<Parts, ReadFault>
-    ensures { Gives result (put_kind parts at value.now) }
+fn put_kind(
+    alloc: Global,
+    file: &[u8],
+    parts: Parts,
+    at: u64,
+    value: &[Token],
+) -> Result<Parts, ReadFault>
+    ensures { Gives result (put_kind file.now parts at value.now) }
 {
-    let kind = kind_value(alloc, at, value)?;
+    let kind = kind_value(alloc, file, at, value)?;
     let mut more = parts;
     more.kind = Some(kind);
     Ok(more)
@@ -127,20 +133,21 @@ fn put_columns(alloc: Global, parts: Parts, at: u64, value: &[Token]) -> Result<
     Ok(more)
 }
 
-/// The parts with the value of a property, which begins at byte `at`.
+/// The parts with the value of a property in a model's file, which begins at byte `at`.
 pub(crate) fn put(
     alloc: Global,
+    file: &[u8],
     parts: Parts,
     at: u64,
     name: &[u8],
     value: &[Token],
 ) -> Result<Parts, ReadFault>
-    ensures { Gives result (put parts at name.now value.now) }
+    ensures { Gives result (put file.now parts at name.now value.now) }
 {
     if is_same(name, b"name") {
         put_name(alloc, parts, at, value)
     } else if is_same(name, b"kind") {
-        put_kind(alloc, parts, at, value)
+        put_kind(alloc, file, parts, at, value)
     } else if is_same(name, b"cron") {
         put_cron(alloc, parts, at, value)
     } else if is_same(name, b"interval_unit") {

@@ -13,8 +13,8 @@ use crate::words::is_free;
 use mesh_tokens::{ReadFault, Token};
 use std::alloc::Global;
 
-// The end of the last of the tokens, or `before` where there is none.
-fn end_of(before: u64, tokens: &[Token]) -> u64
+/// The end of the last of the tokens, or `before` where there is none.
+pub fn end_of(before: u64, tokens: &[Token]) -> u64
     ensures { result ≡ end_of before tokens.now }
 {
     let mut end = before;
@@ -38,11 +38,12 @@ fn some_tokens(before: u64, length: usize) -> Result<usize, ReadFault>
 // One property, the end of its last token, and the tokens behind it.
 fn property<'a>(
     alloc: Global,
+    file: &[u8],
     parts: Parts,
     before: u64,
     tokens: &'a [Token],
 ) -> Result<(Parts, u64, &'a [Token]), ReadFault>
-    ensures { GivesAs (λ r. record { parts = r.0; before = r.1; rest = r.2.now }) result (property parts before tokens.now) }
+    ensures { GivesAs (λ r. record { parts = r.0; before = r.1; rest = r.2.now }) result (property file.now parts before tokens.now) }
 {
     let [first, more @ ..] = tokens else {
         return Err(broken(before));
@@ -54,7 +55,7 @@ fn property<'a>(
     let length = value_len(alloc, is_free(name), first.end, more)?;
     let length = some_tokens(first.end, length)?;
     let (value, rest) = more.split_at(length);
-    let parts = put(alloc, known, first_at(more), name, value)?;
+    let parts = put(alloc, file, known, first_at(more), name, value)?;
     Ok((parts, end_of(first.end, value), rest))
 }
 
@@ -118,13 +119,14 @@ fn goes_on<'a>(
 // One more property, and whether it is the last.
 fn one_property<'a>(
     alloc: Global,
+    file: &[u8],
     parts: Parts,
     before: u64,
     tokens: &'a [Token],
 ) -> Result<(bool, Parts, u64, &'a [Token]), ReadFault>
-    ensures { GivesAs (λ r. (r.0, record { parts = r.1; before = r.2; rest = r.3.now })) result (one_property parts before tokens.now) }
+    ensures { GivesAs (λ r. (r.0, record { parts = r.1; before = r.2; rest = r.3.now })) result (one_property file.now parts before tokens.now) }
 {
-    let (parts, end, rest) = property(alloc, parts, before, tokens)?;
+    let (parts, end, rest) = property(alloc, file, parts, before, tokens)?;
     if begins(b")", rest) {
         closes(parts, end, rest)
     } else {
@@ -135,17 +137,18 @@ fn one_property<'a>(
 // The properties, up to the parenthesis that closes them.
 fn properties<'a>(
     alloc: Global,
+    file: &[u8],
     parts: Parts,
     before: u64,
     tokens: &'a [Token],
 ) -> Result<(Parts, u64, &'a [Token]), ReadFault>
-    ensures { GivesAs (λ r. record { parts = r.0; before = r.1; rest = r.2.now }) result (properties (length tokens.now) parts before tokens.now) }
+    ensures { GivesAs (λ r. record { parts = r.0; before = r.1; rest = r.2.now }) result (properties file.now (length tokens.now) parts before tokens.now) }
 {
     let mut parts = parts;
     let mut before = before;
     let mut rest = tokens;
     for _ in 0..tokens.len() {
-        let (is_last, more, end, left) = one_property(alloc, parts, before, rest)?;
+        let (is_last, more, end, left) = one_property(alloc, file, parts, before, rest)?;
         if is_last {
             return Ok((more, end, left));
         }
@@ -174,16 +177,17 @@ fn model_word<'a>(
     }
 }
 
-/// The properties of the MODEL statement that the tokens begin with, the byte at which its semicolon ends, and the tokens
+/// The properties of the MODEL statement that the tokens of a file begin with, the byte at which its semicolon ends, and the tokens
 /// behind it. Places of faults are bytes of the text.
 pub fn read_statement<'a>(
     alloc: Global,
+    file: &[u8],
     tokens: &'a [Token],
 ) -> Result<(Parts, u64, &'a [Token]), ReadFault>
-    ensures { GivesAs (λ r. record { parts = r.0; before = r.1; rest = r.2.now }) result (statement tokens.now) }
+    ensures { GivesAs (λ r. record { parts = r.0; before = r.1; rest = r.2.now }) result (statement file.now tokens.now) }
 {
     let (parts, before, rest) = model_word(alloc, tokens)?;
     let (parts, before, rest) = expect(b"(", parts, before, rest)?;
-    let (parts, before, rest) = properties(alloc, parts, before, rest)?;
+    let (parts, before, rest) = properties(alloc, file, parts, before, rest)?;
     expect(b";", parts, before, rest)
 }

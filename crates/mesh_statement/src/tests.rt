@@ -118,7 +118,7 @@ fn put_fault(alloc: Global, line: &mut Vec<u8>, kind: &FaultKind) -> Result<(), 
 
 fn put_answer(alloc: Global, line: &mut Vec<u8>, text: &[u8]) -> Result<(), Fail> {
     let tokens = tokens_of(alloc, text)?;
-    match read_statement(alloc, tokens.as_slice()) {
+    match read_statement(alloc, b"models/m/a.sql", tokens.as_slice()) {
         Ok((parts, end, rest)) => {
             put_front(alloc, line, &parts)?;
             put_back(alloc, line, &parts)?;
@@ -153,7 +153,13 @@ fn names_and_kinds(rt: HostRuntime) -> Result<(), Fail> {
     assert!(rt; says(a, b"model (NAME A.b, ); select 1", "a.b 19 2 ")?);
     assert!(rt; with(a, b"kind FULL", "a.b full 26 0 ")?);
     assert!(rt; with(a, b"kind view", "a.b view 26 0 ")?);
-    assert!(rt; with(a, b"kind Seed (path 'x.csv')", "a.b seed x.csv 31 41 0 ")?);
+    assert!(rt;
+        with(
+            a,
+            b"kind Seed (path 'x.csv')",
+            "a.b seed models/m/x.csv 31 41 0 "
+        )?
+    );
     assert!(rt;
         with(
             a,
@@ -161,6 +167,33 @@ fn names_and_kinds(rt: HostRuntime) -> Result<(), Fail> {
             "a.b by d 63 0 "
         )?
     );
+    Ok(())
+}
+
+// The statement stands in `models/m/a.sql`.
+#[test]
+fn paths_of_seeds(rt: HostRuntime) -> Result<(), Fail> {
+    let a = rt.alloc();
+    assert!(rt; with(a, b"kind SEED (path '../../x')", "a.b seed x 31 43 0 ")?);
+    assert!(rt;
+        with(
+            a,
+            b"kind SEED (path '../../s/./t//x.csv')",
+            "a.b seed s/t/x.csv 31 54 0 "
+        )?
+    );
+    assert!(rt; with(a, b"kind SEED (path '../../../m/x')", "M4 path 31 ")?);
+    assert!(rt; with(a, b"kind SEED (path '/x'), what 1", "M4 path 31 ")?);
+    Ok(())
+}
+
+#[test]
+fn paths_that_name_no_file(rt: HostRuntime) -> Result<(), Fail> {
+    let a = rt.alloc();
+    assert!(rt; with(a, b"kind SEED (path '')", "M4 path 31 ")?);
+    assert!(rt; with(a, b"kind SEED (path 'x/')", "M4 path 31 ")?);
+    assert!(rt; with(a, b"kind SEED (path 'x/..')", "M4 path 31 ")?);
+    assert!(rt; with(a, b"kind SEED (path '.')", "M4 path 31 ")?);
     Ok(())
 }
 

@@ -1,5 +1,4 @@
-use Rattle.std.proofs.Common.{Bool, true, false, cond, Some, None, sym, ◌∙◌, ap}
-use Rattle.std.specs.Option.{option_map}
+use Rattle.std.proofs.Common.{Bool, cond, Some, None, sym, ◌∙◌, ap}
 use Rattle.mesh_statement.specs.Brackets.{closed}
 use Rattle.mesh_statement.proofs.LastOpen.{last_closes, is_alike}
 use Rattle.mesh_statement.proofs.brackets.closed.Goals as goal

@@ -7,28 +7,28 @@ use Rattle.mesh_statement.proofs.kinds.entries_from.Goals as goal
 
 pub returns-then-is_empty : goal.returns-then-is_empty
 returns-then-is_empty c =
-    all_read (length c.args.tokens.now - c.loop.counter) (bad c.args.at kind_word) c.args.kind c.loop.entries c.loop.rest.now (entries_from (length c.args.tokens.now) (bad c.args.at kind_word) c.args.kind no_entries c.args.tokens.now)
+    all_read (length c.args.tokens.now - c.loop.counter) c.args.file.now (bad c.args.at kind_word) c.args.kind c.loop.entries c.loop.rest.now (entries_from c.args.file.now (length c.args.tokens.now) (bad c.args.at kind_word) c.args.kind no_entries c.args.tokens.now)
     (is_no_length c.loop.rest.now (sym c.if-is_empty.ensures)) c.loop.invariant
 
 pub returns-in_err-more : goal.returns-in_err-more
 returns-in_err-more c =
     let p = err_from_is_err_and c.from_residual.result c.from_residual.ensures.1 in
-    rw (p.1, p.2) (entry_refused c.in_err-more.field-0.0 (length c.args.tokens.now) c.loop.counter (bad c.args.at kind_word) c.args.kind c.loop.entries c.loop.rest.now (entries_from (length c.args.tokens.now) (bad c.args.at kind_word) c.args.kind no_entries c.args.tokens.now)
+    rw (p.1, p.2) (entry_refused c.in_err-more.field-0.0 (length c.args.tokens.now) c.loop.counter c.args.file.now (bad c.args.at kind_word) c.args.kind c.loop.entries c.loop.rest.now (entries_from c.args.file.now (length c.args.tokens.now) (bad c.args.at kind_word) c.args.kind no_entries c.args.tokens.now)
     c.loop-test.true (some_length c.loop.rest.now (sym c.if-is_empty.ensures)) c.in_err-more.ensures c.loop.invariant)
 
 pub loop-preserved : goal.loop-preserved
 loop-preserved c =
-    entry_read (length c.args.tokens.now) c.loop.counter (bad c.args.at kind_word) c.args.kind c.loop.entries c.in_ok-more.more c.loop.rest.now c.in_ok-more.left.now (entries_from (length c.args.tokens.now) (bad c.args.at kind_word) c.args.kind no_entries c.args.tokens.now)
+    entry_read (length c.args.tokens.now) c.loop.counter c.args.file.now (bad c.args.at kind_word) c.args.kind c.loop.entries c.in_ok-more.more c.loop.rest.now c.in_ok-more.left.now (entries_from c.args.file.now (length c.args.tokens.now) (bad c.args.at kind_word) c.args.kind no_entries c.args.tokens.now)
     c.loop-test.true (some_length c.loop.rest.now (sym c.if-is_empty.ensures)) c.in_ok-more.ensures c.loop.invariant
 
 pub returns-then-is_empty-2 : goal.returns-then-is_empty-2
 returns-then-is_empty-2 c =
-    all_read (length c.args.tokens.now - c.loop.counter) (bad c.args.at kind_word) c.args.kind c.loop.entries c.loop.rest.now (entries_from (length c.args.tokens.now) (bad c.args.at kind_word) c.args.kind no_entries c.args.tokens.now)
+    all_read (length c.args.tokens.now - c.loop.counter) c.args.file.now (bad c.args.at kind_word) c.args.kind c.loop.entries c.loop.rest.now (entries_from c.args.file.now (length c.args.tokens.now) (bad c.args.at kind_word) c.args.kind no_entries c.args.tokens.now)
     (is_no_length c.loop.rest.now (sym c.if-is_empty-2.ensures)) c.loop.invariant
 
 pub returns-else-is_empty-2 : goal.returns-else-is_empty-2
 returns-else-is_empty-2 c =
-    refused_is c.bad.result (bad c.args.at kind_word) (entries_from (length c.args.tokens.now) (bad c.args.at kind_word) c.args.kind no_entries c.args.tokens.now)
-    (too_many (length c.args.tokens.now) c.loop.counter (bad c.args.at kind_word) c.args.kind c.loop.entries c.loop.rest.now (entries_from (length c.args.tokens.now) (bad c.args.at kind_word) c.args.kind no_entries c.args.tokens.now)
+    refused_is c.bad.result (bad c.args.at kind_word) (entries_from c.args.file.now (length c.args.tokens.now) (bad c.args.at kind_word) c.args.kind no_entries c.args.tokens.now)
+    (too_many (length c.args.tokens.now) c.loop.counter c.args.file.now (bad c.args.at kind_word) c.args.kind c.loop.entries c.loop.rest.now (entries_from c.args.file.now (length c.args.tokens.now) (bad c.args.at kind_word) c.args.kind no_entries c.args.tokens.now)
     (omega arith) (some_length c.loop.rest.now (sym c.if-is_empty-2.ensures)) c.loop.invariant)
     c.bad.ensures

@@ -1,0 +1,2 @@
+pub mod DeclareSteps
+pub mod Sound
