@@ -118,13 +118,23 @@ pub fn left_join(alloc: Global) -> Result<Select, Memory> {
 
 /// LEFT JOIN .. ON x.k = y.k AND y.v = 22
 pub fn one_condition_more(alloc: Global) -> Result<Select, Memory> {
-    let on = with(alloc, Op::And, equal(alloc, X_K, Y_K), is_number(alloc, Y_V, 22));
+    let on = with(
+        alloc,
+        Op::And,
+        equal(alloc, X_K, Y_K),
+        is_number(alloc, Y_V, 22),
+    );
     under(alloc, Join::Left, on)
 }
 
 /// ON x.k = y.k OR y.v = 23
 pub fn below_or(alloc: Global) -> Result<Select, Memory> {
-    let on = with(alloc, Op::Or, equal(alloc, X_K, Y_K), is_number(alloc, Y_V, 23));
+    let on = with(
+        alloc,
+        Op::Or,
+        equal(alloc, X_K, Y_K),
+        is_number(alloc, Y_V, 23),
+    );
     under(alloc, Join::Inner, on)
 }
 
@@ -148,7 +158,12 @@ pub fn keys_of_texts(alloc: Global) -> Result<Select, Memory> {
 
 /// a.t AS x JOIN a.t AS y ON x.k = y.k AND x.v = y.v
 pub fn keys_of_two_columns(alloc: Global) -> Result<Select, Memory> {
-    let on = with(alloc, Op::And, equal(alloc, X_K, Y_K), equal(alloc, X_V, Y_V))?;
+    let on = with(
+        alloc,
+        Op::And,
+        equal(alloc, X_K, Y_K),
+        equal(alloc, X_V, Y_V),
+    )?;
     pairs(alloc, b"t", Join::Inner, b"t", Some(on))
 }
 
@@ -199,13 +214,23 @@ pub fn where_for_on(alloc: Global) -> Result<Select, Memory> {
 
 /// FROM a.s AS x, a.r AS y WHERE y.v = 22 AND y.k = x.k
 pub fn where_asks_more(alloc: Global) -> Result<Select, Memory> {
-    let condition = with(alloc, Op::And, is_number(alloc, Y_V, 22), equal(alloc, Y_K, X_K));
+    let condition = with(
+        alloc,
+        Op::And,
+        is_number(alloc, Y_V, 22),
+        equal(alloc, Y_K, X_K),
+    );
     only(all_pairs(alloc), condition)
 }
 
 /// FROM a.s AS x, a.r AS y WHERE x.k = y.k OR y.v = 23
 pub fn where_below_or(alloc: Global) -> Result<Select, Memory> {
-    let condition = with(alloc, Op::Or, equal(alloc, X_K, Y_K), is_number(alloc, Y_V, 23));
+    let condition = with(
+        alloc,
+        Op::Or,
+        equal(alloc, X_K, Y_K),
+        is_number(alloc, Y_V, 23),
+    );
     only(all_pairs(alloc), condition)
 }
 
@@ -240,5 +265,8 @@ fn three_listed(alloc: Global) -> Result<Select, Memory> {
 pub fn where_over_three(alloc: Global) -> Result<Select, Memory> {
     let third = column(alloc, Z_V.0, Z_V.1);
     let last = with(alloc, Op::Eq, third, step(alloc, Y_V, Op::Sub, 10));
-    only(three_listed(alloc), with(alloc, Op::And, equal(alloc, X_K, Y_K), last))
+    only(
+        three_listed(alloc),
+        with(alloc, Op::And, equal(alloc, X_K, Y_K), last),
+    )
 }

@@ -114,7 +114,7 @@ fn chosen(alloc: Global, what: u8, count: u32) -> Result<Select, Memory> {
 }
 
 /// The sum of the numbers in the rows, so that an answer can be told from others.
-fn sum(rows: &Rows) -> i64 {
+pub fn sum(rows: &Rows) -> i64 {
     let mut made = 0i64;
     for row in rows.as_slice() {
         for c in row.as_slice() {

@@ -23,11 +23,7 @@ const MANY: u32 = 100_000;
 const UNBOUND: Bounds = Bounds { start: 0, end: 0 };
 
 /// The rows of a SELECT.
-fn answer(
-    alloc: Global,
-    select: Result<Select, Memory>,
-    tables: &Inputs,
-) -> Result<Rows, Memory> {
+fn answer(alloc: Global, select: Result<Select, Memory>, tables: &Inputs) -> Result<Rows, Memory> {
     let mut selects = Selects::new(alloc);
     selects.push(select?)?;
     let ctes = Ctes::new(alloc);
@@ -103,7 +99,11 @@ fn of_where(s: &mut Stage, a: Global) -> Result<(), Memory> {
     s.show(a, b"WHERE asks more", of::where_asks_more(a))?;
     s.show(a, b"WHERE below OR", of::where_below_or(a))?;
     s.show(a, b"ON and WHERE", of::on_and_where(a))?;
-    s.show(a, b"WHERE behind a left join", of::where_behind_a_left_join(a))?;
+    s.show(
+        a,
+        b"WHERE behind a left join",
+        of::where_behind_a_left_join(a),
+    )?;
     s.show(a, b"WHERE over three", of::where_over_three(a))
 }
 
@@ -114,12 +114,14 @@ fn of_many(s: &mut Stage, a: Global) -> Result<(), Memory> {
     s.show(a, b"many counted", large::counted(a))
 }
 
+// How many rows, and the sum of their numbers.
 fn put_count(s: &mut Stage, a: Global, title: &[u8], rows: &Rows) -> Result<(), Memory> {
     let count = rows.len();
-    let digits = format!(in a; "{count}")?;
+    let sum = large::sum(rows);
+    let numbers = format!(in a; "{count} {sum}")?;
     s.report.extend_from_slice(title)?;
     s.report.extend_from_slice(b": ")?;
-    s.report.extend_from_slice(digits.as_bytes())?;
+    s.report.extend_from_slice(numbers.as_bytes())?;
     s.report.push(b'\n')?;
     Ok(())
 }
@@ -144,7 +146,12 @@ fn whole_report(alloc: Global) -> Result<Vec<u8>, Memory> {
     of_where(&mut s, alloc)?;
     of_many(&mut s, alloc)?;
     count(&mut s, alloc, b"rows of many groups", large::grouped(alloc))?;
-    count(&mut s, alloc, b"many different rows", large::distinct(alloc))?;
+    count(
+        &mut s,
+        alloc,
+        b"many different rows",
+        large::distinct(alloc),
+    )?;
     let Stage { tables: _, report } = s;
     Ok(report)
 }
