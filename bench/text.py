@@ -1,6 +1,6 @@
 #!/usr/bin/env python3
 """Times `mesh_bench_text` on texts: a query of nearly 1 MB with many CTEs and items, some nested 60 deep, is scanned into tokens,
-and its tokens are read; a seed of nearly 4 MB is read without declared columns. Each also at half the size. Prints
+and its tokens are read; a seed of nearly 4 MB is read without declared columns and with them. Each also at half the size. Prints
 seconds of processor for one text, megabytes of text a second, and growth.
 
 Usage: bench/text.py [PROGRAM], where PROGRAM is crates/mesh_bench_text/out/mesh_bench_text if left out (`rt run` makes it)."""
@@ -34,7 +34,7 @@ def one(program, what, size):
 
 def main():
     program = sys.argv[1] if len(sys.argv) > 1 else f"{TOP}/crates/mesh_bench_text/out/mesh_bench_text"
-    for name, what, size in (("tokens", "tokens", 1_000_000), ("parse", "parse", 1_000_000), ("read_seed", "seed", 120_000)):
+    for name, what, size in (("tokens", "tokens", 1_000_000), ("parse", "parse", 1_000_000), ("read_seed", "seed", 120_000), ("read_seed of declared columns", "declared", 120_000)):
         half, _ = one(program, what, size // 2)
         full, bytes_ = one(program, what, size)
         print(f"{name}: {bytes_} bytes, half {half:.4f} s, full {full:.4f} s, {bytes_ / full / 1e6:.1f} MB/s, growth {full / half:.2f}")

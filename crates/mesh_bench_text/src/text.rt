@@ -1,7 +1,7 @@
 // Texts of queries and seeds, which are read.
-use mesh_base::{Columns, Str};
+use mesh_base::{ColType, Column, Columns, Str};
 use mesh_csv::read_seed;
-use mesh_list::Seq;
+use mesh_list::{Memory, Seq};
 use mesh_query::parse;
 use mesh_tokens::{ReadFault, Tokens, tokens};
 use std::alloc::{AllocError, Global};
@@ -82,18 +82,34 @@ fn read_once(list: &Tokens) -> Result<(), ReadFault> {
     Ok(())
 }
 
-/// Reads a seed of so many rows `times` times, and its bytes.
-pub fn seeds(alloc: Global, rows: u32, times: u32) -> Result<usize, ReadFault> {
+/// The columns of such a seed, as a model declares them, or none.
+fn columns(alloc: Global, declared: bool) -> Result<Columns, Memory> {
+    let mut made = Columns::new(alloc);
+    if declared {
+        add_column(alloc, &mut made, b"id", ColType::Int)?;
+        add_column(alloc, &mut made, b"day", ColType::Date)?;
+        add_column(alloc, &mut made, b"name", ColType::Text)?;
+    }
+    Ok(made)
+}
+
+fn add_column(alloc: Global, made: &mut Columns, name: &[u8], kind: ColType) -> Result<(), Memory> {
+    let name = Seq::from_vec(Vec::from_slice(alloc, name)?);
+    made.push(Column { name, kind })
+}
+
+/// Reads a seed of so many rows `times` times, with its columns declared or without, and its bytes.
+pub fn seeds(alloc: Global, rows: u32, times: u32, declared: bool) -> Result<usize, ReadFault> {
     let text = seed_text(alloc, rows).map_err(|_| ReadFault::Memory)?;
     let bytes: Str = Seq::from_vec(text);
+    let columns = columns(alloc, declared)?;
     for _ in 0..times {
-        read_rows(alloc, &bytes)?;
+        read_rows(&bytes, &columns)?;
     }
     Ok(bytes.len())
 }
 
-fn read_rows(alloc: Global, bytes: &Str) -> Result<(), ReadFault> {
-    let none: Columns = Seq::new(alloc);
-    let _ = read_seed(bytes, &none)?;
+fn read_rows(bytes: &Str, columns: &Columns) -> Result<(), ReadFault> {
+    let _ = read_seed(bytes, columns)?;
     Ok(())
 }

@@ -5,6 +5,8 @@
 #![tactic(auto)]
 
 mod behind;
+#[cfg(test)]
+mod cut_tests;
 mod finished;
 mod laws;
 mod lexed;

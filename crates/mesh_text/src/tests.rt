@@ -118,7 +118,7 @@ fn put_answer(
     }
 }
 
-fn says(alloc: Global, text: &[u8], expected: &str) -> Result<bool, Fail> {
+pub(crate) fn says(alloc: Global, text: &[u8], expected: &str) -> Result<bool, Fail> {
     let file: Str = u8::copy_items(alloc, b"models/a.sql")?;
     let answer = read_model(&file, text);
     let mut line = Vec::new(alloc);
@@ -258,7 +258,7 @@ fn large_files(rt: HostRuntime) -> Result<(), Fail> {
 
 // The places of the faults of a text that is cut behind `from` bytes, one more and so on up to `to`, and a line where it
 // has none.
-fn cuts_say(
+pub(crate) fn cuts_say(
     alloc: Global,
     text: &[u8],
     from: usize,
