@@ -292,25 +292,44 @@ fn repeated(alloc: Global, words: &[u8], times: usize, last: &[u8]) -> Result<Ve
 
 // NOT, unary minus and CASE count like parentheses.
 #[test]
-fn nesting_of_each_kind(rt: HostRuntime) -> Result<(), TestFail> {
+fn nesting_of_not(rt: HostRuntime) -> Result<(), TestFail> {
     let alloc = rt.alloc();
-    let kinds: [(&[u8], &[u8], &[u8]); 2] = [(b" not", b" a", b" )"), (b" -", b" 1", b" )")];
-    for (words, last, behind) in kinds {
-        assert_eq!(rt;
-            limit(alloc, repeated(alloc, words, 64, last)?.as_slice())?,
-            0
-        );
-        assert_eq!(rt;
-            limit(alloc, repeated(alloc, words, 65, last)?.as_slice())?,
-            b'n'
-        );
-        assert_eq!(rt;
-            limit(alloc, repeated(alloc, words, 65, behind)?.as_slice())?,
-            b'n'
-        );
-    }
-    let case = repeated(alloc, b" case", 65, b" a")?;
-    assert_eq!(rt; limit(alloc, case.as_slice())?, b'n');
+    assert_eq!(rt;
+        limit(alloc, repeated(alloc, b" not", 64, b" a")?.as_slice())?,
+        0
+    );
+    assert_eq!(rt;
+        limit(alloc, repeated(alloc, b" not", 65, b" a")?.as_slice())?,
+        b'n'
+    );
+    assert_eq!(rt;
+        limit(alloc, repeated(alloc, b" not", 65, b" )")?.as_slice())?,
+        b'n'
+    );
+    Ok(())
+}
+
+#[test]
+fn nesting_of_minus(rt: HostRuntime) -> Result<(), TestFail> {
+    let alloc = rt.alloc();
+    assert_eq!(rt;
+        limit(alloc, repeated(alloc, b" -", 64, b" 1")?.as_slice())?,
+        0
+    );
+    assert_eq!(rt;
+        limit(alloc, repeated(alloc, b" -", 65, b" 1")?.as_slice())?,
+        b'n'
+    );
+    Ok(())
+}
+
+#[test]
+fn nesting_of_case(rt: HostRuntime) -> Result<(), TestFail> {
+    let alloc = rt.alloc();
+    assert_eq!(rt;
+        limit(alloc, repeated(alloc, b" case", 65, b" a")?.as_slice())?,
+        b'n'
+    );
     assert_eq!(rt;
         place(alloc, repeated(alloc, b" case", 64, b" end")?.as_slice())?,
         326
