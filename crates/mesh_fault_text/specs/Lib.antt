@@ -1,0 +1,2 @@
+-- Lines: the line that is printed for a fault.
+pub mod Lines
