@@ -2,8 +2,8 @@
 use mesh_base::{ColType, Column, Columns, Str};
 use mesh_csv::read_seed;
 use mesh_list::{Memory, Seq};
-use mesh_query::parse;
-use mesh_tokens::{ReadFault, Tokens, tokens};
+use mesh_query::{parse, tokens};
+use mesh_tokens::{ReadFault, Tokens};
 use std::alloc::{AllocError, Global};
 
 const ITEM: &[u8] = b"t.amount * 2 + 10 AS total_amount, ";
