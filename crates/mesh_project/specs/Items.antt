@@ -24,7 +24,7 @@ use Rattle.mesh_project.specs.declared.item.FileSays.{FileSays}
 use Rattle.mesh_project.specs.declared.item.FileSays.TheVariants.{Nothing, Unbuilt, Says}
 use Rattle.mesh_project.specs.declared.plain.Picked.{Picked}
 use Rattle.mesh_project.specs.Loading.{◌>>=◌, Gives, in_file, too_large, bad_path, outside}
-use Rattle.mesh_project.specs.Plain.{picked}
+use Rattle.mesh_project.specs.Plain.{picked_in}
 
 -- a file's bytes, if it is there, of which there are at most so many
 abbrev pub file_within : List ℕ → List ℕ → ℕ → Option (List ℕ) → Result (Option (List ℕ)) LoadFault
@@ -70,7 +70,7 @@ picked_item text (Some p) = Says (record { model = record { name = text.name; pi
 
 abbrev pub query_item : ModelText → Option Surface → FileSays
 query_item text None = Unbuilt
-query_item text (Some query) = picked_item text (picked query)
+query_item text (Some query) = picked_item text (picked_in query)
 
 abbrev pub is_full : Kind → Bool
 is_full kind.Full = true

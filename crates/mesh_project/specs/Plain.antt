@@ -137,5 +137,5 @@ in_select s =
     else None
 
 -- the columns that a query picks, and of which relation, where it does nothing else
-abbrev pub picked : Surface → Option Picked
-picked q = alone q.ctes (lone q.body.selects >>= in_select)
+abbrev pub picked_in : Surface → Option Picked
+picked_in q = alone q.ctes (lone q.body.selects >>= in_select)

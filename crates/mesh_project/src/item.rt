@@ -6,7 +6,7 @@ ghost use Rattle.mesh_project.specs.Items.{seed_if_there, seed_at, seed_of, seed
 
 use crate::faults::{LoadFault, bad_path, in_file, outside};
 use crate::files::{below_models, is_python, read_within};
-use crate::plain::{Picked, picked};
+use crate::plain::{Picked, picked_in};
 use mesh_base::{Columns, Kind, LARGEST_FILE, LARGEST_SEED, Model, Picking, Str};
 use mesh_csv::{Seed, read_seed};
 use mesh_io::Folder;
@@ -106,7 +106,7 @@ fn query_item(alloc: Global, text: &ModelText) -> Result<FileSays, Memory>
 {
     match &text.query {
         None => Ok(FileSays::Unbuilt),
-        Some(query) => picked_item(text, picked(alloc, query)?),
+        Some(query) => picked_item(text, picked_in(alloc, query)?),
     }
 }
 

@@ -1,7 +1,7 @@
 // Queries that pick plain columns of one relation.
 ghost use Rattle.std.specs.Prelude.{◌≡◌, [], ◌∷◌, None, IfOk};
 ghost use Rattle.std.specs.Option.{option_copied};
-ghost use Rattle.mesh_project.specs.Plain.{column_in, in_post, in_unary, in_product, in_sum, in_cat, unasked, in_pred, in_negation, in_conjunction, plain_column, in_item, in_items, in_relation, in_from, is_bare, in_select, picked};
+ghost use Rattle.mesh_project.specs.Plain.{column_in, in_post, in_unary, in_product, in_sum, in_cat, unasked, in_pred, in_negation, in_conjunction, plain_column, in_item, in_items, in_relation, in_from, is_bare, in_select, picked_in};
 
 use mesh_base::{Name, Str, Strs};
 use mesh_list::{Duplicate, Memory, Seq};
@@ -194,8 +194,8 @@ fn in_select(alloc: Global, s: &SurfaceSelect) -> Result<Option<Picked>, Memory>
 }
 
 /// The columns that a query picks, and of which relation, where it does nothing else.
-pub fn picked(alloc: Global, query: &Surface) -> Result<Option<Picked>, Memory>
-    ensures { IfOk result (λ found. found ≡ picked query.now) }
+pub fn picked_in(alloc: Global, query: &Surface) -> Result<Option<Picked>, Memory>
+    ensures { IfOk result (λ found. found ≡ picked_in query.now) }
 {
     match (query.ctes.as_slice(), query.body.selects.as_slice()) {
         ([], [select]) => in_select(alloc, select),
