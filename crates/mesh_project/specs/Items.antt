@@ -102,6 +102,11 @@ IsContentRead files file (Err fault) answer = Gives answer (Err fault)
 abbrev pub IsModelFileRead : List File → List ℕ → Result FileSays LoadFault → Type 0
 IsModelFileRead files file answer = IsContentRead files file (file_within file (codes "file") 1048576 (bytes_at file files)) answer
 
+-- a file that is a model in Python, or isn't
+abbrev pub IsReadAs : List File → List ℕ → Bool → Result FileSays LoadFault → Type 0
+IsReadAs files file true answer = Gives answer (Err (outside file file))
+IsReadAs files file false answer = IsModelFileRead files file answer
+
 -- the file at a path below `models`
 abbrev pub IsFileRead : List File → List ℕ → Result FileSays LoadFault → Type 0
-IsFileRead files path answer = if is_python path then Gives answer (Err (outside (below_models path) (below_models path))) else IsModelFileRead files (below_models path) answer
+IsFileRead files path answer = IsReadAs files (below_models path) (is_python path) answer

@@ -60,8 +60,5 @@ pub record AsksAs {X : Type 0} (Answers : List File → Result X LoadFault → T
   pub failed : IsErrOf result Folder → Rose old.faults new.faults
 
 -- the same, where the files mean one answer
-pub record Asks {X : Type 0} (meant : List File → Result X LoadFault) (old new : FolderTold) (result : Result X LoadFault) : Type 0 where
-  pub files : new.files ≡ old.files
-  pub faults : old.faults ≤ new.faults
-  pub gives : ForSome old.files (λ fs. Gives result (meant fs))
-  pub failed : IsErrOf result Folder → Rose old.faults new.faults
+abbrev pub Asks : {X : Type 0} → (List File → Result X LoadFault) → FolderTold → FolderTold → Result X LoadFault → Type 0
+Asks meant old new result = AsksAs (λ fs r. Gives r (meant fs)) old new result

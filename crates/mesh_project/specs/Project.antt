@@ -16,16 +16,16 @@ use Rattle.mesh_project.specs.Loading.{◌>>=◌, Gives, in_file, too_large}
 use Rattle.mesh_project.specs.Items.{file_within, is_sql, is_python, IsFileRead}
 use Rattle.mesh_project.specs.Built.{nothing, with_file, built}
 
-abbrev pub sources_file : List ℕ
-sources_file = codes "external_models.csv"
-
 -- the sources that the file declares, and none where it isn't there
 abbrev pub declared : List ℕ → Option (List ℕ) → Result (List Decl) LoadFault
 declared file None = Ok []
 declared file (Some bytes) = in_file file (external_text bytes)
 
+abbrev pub sources_at : List File → List ℕ → Result (List Decl) LoadFault
+sources_at files file = file_within file (codes "file") 1048576 (bytes_at file files) >>= declared file
+
 abbrev pub sources_in : List File → Result (List Decl) LoadFault
-sources_in files = file_within sources_file (codes "file") 1048576 (bytes_at sources_file files) >>= declared sources_file
+sources_in files = sources_at files (codes "external_models.csv")
 
 -- the paths below `models`, by their bytes
 abbrev pub below : List File → List (List ℕ)
@@ -42,14 +42,16 @@ project_paths files = filter is_read (below files)
 abbrev pub paths_within : List File → Result (List (List ℕ)) LoadFault
 paths_within files = if nat_le (length (filter is_sql (below files))) 4096 then Ok (project_paths files) else Err (too_large (codes "-") (codes "models") 4096)
 
+-- what comes next where a file was read, and otherwise its fault
+abbrev pub Then : Result FileSays LoadFault → (FileSays → Type 0) → Result Gathered LoadFault → Type 0
+Then (Ok says) next answer = next says
+Then (Err fault) next answer = Gives answer (Err fault)
+
 -- The files at the paths were read, one after the other, and each gave to what was gathered so far. The first fault ends it.
 abbrev pub AreRead : List File → Gathered → List (List ℕ) → Result Gathered LoadFault → Type 0
 AreRead files g [] answer = Gives answer (Ok g)
-AreRead files g (path ∷ paths) answer = (says : Result FileSays LoadFault) × IsFileRead files path says × goes says
-  where
-    goes : Result FileSays LoadFault → Type 0
-    goes (Ok s) = AreRead files (with_file g s) paths answer
-    goes (Err fault) = Gives answer (Err fault)
+AreRead files g (path ∷ paths) answer =
+    (says : Result FileSays LoadFault) × IsFileRead files path says × Then says (λ s. AreRead files (with_file g s) paths answer) answer
 
 -- the sources first, then how many models there are, then the models' files, and then what all of them are together
 abbrev pub meaning : List File → Result Gathered LoadFault → Result (List Model) LoadFault

@@ -1,5 +1,6 @@
 // Whether the models are of the form that is built.
-ghost use Rattle.std.specs.Prelude.{◌≡◌, [], IfOk};
+ghost use Rattle.std.specs.Prelude.{◌≡◌, [], IfOk, IsErrOf};
+ghost use Rattle.mesh_project.specs.declared.faults.LoadFault.TheVariants as fault;
 ghost use Rattle.std.specs.List.{list_all};
 ghost use Rattle.std.specs.Option.{option_copied};
 ghost use Rattle.mesh_base.specs.Picked.{same_text};
@@ -56,8 +57,8 @@ fn is_among(names: &[Str], name: &Str) -> bool
 fn are_distinct(names: &[Str]) -> bool
     ensures { result ≡ are_distinct names.now }
 {
-    for i in 0..names.len() {
-        if is_among(&names[i + 1..], &names[i]) {
+    for (i, name) in names.iter().enumerate() {
+        if is_among(&names[i + 1..], name) {
             return false;
         }
     }
@@ -125,15 +126,16 @@ fn are_columns(columns: &[Column], declared: &[Column]) -> bool
 fn are_named(columns: &[Column], names: &[Str]) -> bool
     ensures { result ≡ are_named columns.now names.now }
 {
-    if columns.len() != names.len() {
-        return false;
-    }
     for i in 0..columns.len() {
-        if !is_same(&columns[i].name, &names[i]) {
+        let column = &columns[i];
+        let Some(name) = names.get(i) else {
+            return false;
+        };
+        if !is_same(&column.name, name) {
             return false;
         }
     }
-    true
+    names.len() <= columns.len()
 }
 
 fn is_seed_of(declared: &[Column], model: Option<&Model>) -> bool
@@ -210,7 +212,8 @@ pub fn built(
     sources: &[Decl],
     gathered: Gathered,
 ) -> Result<Sorted<Model>, LoadFault>
-    ensures { Gives result (built sources.now gathered) }
+    ensures gives { Gives result (built sources.now gathered) }
+    ensures alone { IsErrOf result fault.Folder → ⊥ }
 {
     if are_built(sources, &gathered) {
         Ok(gathered.models)

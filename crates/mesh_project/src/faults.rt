@@ -1,5 +1,5 @@
 // Why a project isn't read.
-ghost use Rattle.std.specs.Prelude.{◌≡◌, IfOk};
+ghost use Rattle.std.specs.Prelude.{◌≡◌, IfOk, IsErrOf};
 ghost use Rattle.mesh_project.specs.Loading.{Gives, in_file, too_large, bad_path, outside, of_folder};
 ghost use Rattle.mesh_project.specs.declared.faults.LoadFault.TheVariants as fault;
 
@@ -39,7 +39,8 @@ impl From<IoFail> for LoadFault {
 
 /// A fault of a text as one of the file that the text stands in.
 pub fn in_file<T: Drop>(file: &Str, read: Result<T, ReadFault>) -> Result<T, LoadFault>
-    ensures { Gives result (in_file file.now read) }
+    ensures gives { Gives result (in_file file.now read) }
+    ensures alone { IsErrOf result fault.Folder → ⊥ }
 {
     match read {
         Ok(x) => Ok(x),

@@ -1,9 +1,10 @@
 // The files of the project's folder.
-ghost use Rattle.std.specs.Prelude.{◌≡◌, ◌<◌, ◌^◌, [], IfOk, filter, length};
+ghost use Rattle.std.specs.Prelude.{◌≡◌, ◌<◌, ◌^◌, [], IfOk, IsErrOf, filter, length};
+ghost use Rattle.mesh_project.specs.declared.faults.LoadFault.TheVariants as fault;
 ghost use Rattle.mesh_io.specs.Files.{bytes_at};
 ghost use Rattle.mesh_project.specs.Loading.{Gives, Asks};
 ghost use Rattle.mesh_project.specs.Items.{file_within, below_models, is_sql, is_init, is_python};
-ghost use Rattle.mesh_project.specs.Project.{is_read, paths_within, declared, sources_in};
+ghost use Rattle.mesh_project.specs.Project.{is_read, paths_within, declared, sources_at, sources_in};
 
 use crate::faults::{LoadFault, in_file, too_large};
 use mesh_base::{Externals, LARGEST_FILE, MOST_MODELS, Str, Strs};
@@ -109,7 +110,8 @@ pub fn paths_in<F: Folder>(alloc: Global, folder: &mut F) -> Result<Strs, LoadFa
 }
 
 fn declared(alloc: Global, file: &Str, bytes: Option<Str>) -> Result<Externals, LoadFault>
-    ensures { Gives result (declared file.now bytes) }
+    ensures gives { Gives result (declared file.now bytes) }
+    ensures alone { IsErrOf result fault.Folder → ⊥ }
 {
     match bytes {
         None => Ok(Seq::new(alloc)),
@@ -117,11 +119,17 @@ fn declared(alloc: Global, file: &Str, bytes: Option<Str>) -> Result<Externals, 
     }
 }
 
+fn sources_at<F: Folder>(alloc: Global, folder: &mut F, file: &Str) -> Result<Externals, LoadFault>
+    ensures { Asks (λ fs. sources_at fs file.now) (F.told folder.old) (F.told folder.new) result }
+{
+    let bytes = read_within(alloc, folder, file, b"file", LARGEST_FILE)?;
+    declared(alloc, file, bytes)
+}
+
 /// The declared sources, of which there are none where there is no such file.
 pub fn sources_in<F: Folder>(alloc: Global, folder: &mut F) -> Result<Externals, LoadFault>
     ensures { Asks sources_in (F.told folder.old) (F.told folder.new) result }
 {
     let file = u8::copy_items(alloc, b"external_models.csv")?;
-    let bytes = read_within(alloc, folder, &file, b"file", LARGEST_FILE)?;
-    declared(alloc, &file, bytes)
+    sources_at(alloc, folder, &file)
 }

@@ -1,5 +1,6 @@
 // What a file below `models` gives to the project.
-ghost use Rattle.std.specs.Prelude.{◌≡◌, IfOk};
+ghost use Rattle.std.specs.Prelude.{◌≡◌, IfOk, IsErrOf};
+ghost use Rattle.mesh_project.specs.declared.faults.LoadFault.TheVariants as fault;
 ghost use Rattle.mesh_io.specs.Files.{bytes_at};
 ghost use Rattle.mesh_project.specs.Loading.{Gives, Asks, AsksAs};
 ghost use Rattle.mesh_project.specs.Items.{seed_if_there, seed_at, seed_of, seed_item, picked_item, query_item, is_full, item_of, model_says, IsTextRead, IsContentRead, IsModelFileRead, IsFileRead};
@@ -35,7 +36,8 @@ fn seed_if_there(
     path: &Str,
     bytes: Option<Str>,
 ) -> Result<Option<Seed>, LoadFault>
-    ensures { Gives result (seed_if_there text.now path.now bytes) }
+    ensures gives { Gives result (seed_if_there text.now path.now bytes) }
+    ensures alone { IsErrOf result fault.Folder → ⊥ }
 {
     match bytes {
         None => Err(bad_path(alloc, &text.file, text.path_at)?),

@@ -9,8 +9,9 @@ mod faults;
 mod files;
 mod gathered;
 mod item;
-mod load;
+
 mod plain;
+mod project;
 
 pub use faults::LoadFault;
-pub use load::load;
+pub use project::load;

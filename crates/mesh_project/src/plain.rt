@@ -134,6 +134,7 @@ fn in_item(item: &SurfaceItem) -> Option<&Str>
 }
 
 // The columns that the items are.
+#[tactic(auto, using(crate::proofs::Listed::one_more_behind))]
 fn in_items(alloc: Global, items: &[SurfaceItem]) -> Result<Option<Strs>, Memory>
     ensures { IfOk result (λ names. names ≡ in_items items.now) }
 {

@@ -1,0 +1,4 @@
+pub mod Asking
+pub mod Gathering
+pub mod Listed
+pub mod Reading

@@ -1,0 +1,15 @@
+use Rattle.mesh_project.specs.Loading.{Gives}
+use Rattle.mesh_project.specs.Project.{sources_in, IsLoaded}
+use Rattle.mesh_project.proofs.Asking.{asks_err}
+use Rattle.mesh_project.proofs.Reading.{loaded_without_sources}
+use Rattle.mesh_project.proofs.Gathering.{load_without_paths, load_err, load_end}
+use Rattle.mesh_project.proofs.project.load.Goals as goal
+
+pub returns-in_err-sources : goal.returns-in_err-sources
+returns-in_err-sources g c =
+    let fault = c.in_err-sources.field-0.0 in
+    asks_err (λ fs r. Gives r (sources_in fs)) IsLoaded _ _ fault c.from_residual.result c.in_err-sources.ensures c.from_residual.ensures.1 (λ fs e. loaded_without_sources fs fault e)
+
+pub returns-in_err-paths : goal.returns-in_err-paths
+returns-in_err-paths g c =
+    load_without_paths _ _ _ c.in_ok-sources.sources c.in_ok-sources.ensures c.from_residual-in_err-paths.result c.in_err-paths.field-0.0 c.in_err-paths.ensures c.from_residual-in_err-paths.ensures.1
