@@ -9,7 +9,6 @@ mod faults;
 mod files;
 mod gathered;
 mod item;
-
 mod plain;
 mod project;
 
