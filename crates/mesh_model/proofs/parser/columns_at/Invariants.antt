@@ -1,7 +1,0 @@
-use Rattle.std.proofs.Common.{◌≡◌, ◌-◌}
-use Rattle.mesh_model.specs.Model.{listed, column_at}
-use Rattle.mesh_model.proofs.Fronts.{with_front_of}
-use Rattle.mesh_model.proofs.parser.columns_at.Given as goal
-
-abbrev pub invariant-loop : goal.invariant-loop
-invariant-loop l = with_front_of l.made (listed column_at (l.most - l.counter) l.rest) ≡ listed column_at l.most l.tokens
