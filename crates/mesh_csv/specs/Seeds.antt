@@ -82,7 +82,7 @@ seed_under columns names rs =
     (let ks = kinds columns names rs in unless (records_fault 2 ks rs) (Ok (seed_rows names ks rs)))
 
 abbrev pub seed_of : List Column → List Record → Result Seed ReadFault
-seed_of columns [] = Err (bad_row 0 0)
+seed_of columns [] = Err (bad_row 1 0)
 seed_of columns (header ∷ rs) = unless (header_fault header) (seed_under columns (header_names header) rs)
 
 -- what a seed's file says beside its declared columns

@@ -152,7 +152,7 @@ fn seed_of(alloc: Global, columns: &[Column], records: &[Record]) -> Result<Seed
     ensures { Gives result (seed_of columns.now records.now) }
 {
     match records {
-        [] => Err(bad_row(0, 0)),
+        [] => Err(bad_row(1, 0)),
         [header, under @ ..] => {
             if let Some(fault) = header_fault(alloc, header)? {
                 return Err(fault);

@@ -171,7 +171,7 @@ fn layouts(rt: HostRuntime) -> Result<(), Fail> {
 #[test]
 fn headers_at_fault(rt: HostRuntime) -> Result<(), Fail> {
     let a = rt.alloc();
-    assert!(rt; says(a, b"", "0.0")?);
+    assert!(rt; says(a, b"", "1.0")?);
     assert!(rt; says(a, b"a,b c\n", "1.2")?);
     assert!(rt; says(a, b"a,b,A\n", "1.3")?);
     assert!(rt; says(a, b"a,,A\n", "1.2")?);

@@ -124,7 +124,7 @@ declare_all r sources [] = Ok sources
 declare_all r sources (fields ∷ rs) = declare r sources fields >>= λ more. declare_all (r + 1) more rs
 
 abbrev pub external_of : List Record → Result (List Decl) ReadFault
-external_of [] = Err (bad_row 0 0)
+external_of [] = Err (bad_row 1 0)
 external_of (header ∷ rs) = unless (shape_fault header) (declare_all 2 [] rs)
 
 abbrev pub large_file : ReadFault

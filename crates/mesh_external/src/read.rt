@@ -64,7 +64,7 @@ fn external_of(alloc: Global, records: &[Record]) -> Result<Externals, ReadFault
     ensures { Gives result (external_of records.now) }
 {
     match records {
-        [] => Err(bad_row(0, 0)),
+        [] => Err(bad_row(1, 0)),
         [header, under @ ..] => {
             if let Some(fault) = shape_fault(alloc, header)? {
                 return Err(fault);

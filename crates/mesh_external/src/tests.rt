@@ -137,7 +137,7 @@ fn layouts(rt: HostRuntime) -> Result<(), Fail> {
 #[test]
 fn headers_at_fault(rt: HostRuntime) -> Result<(), Fail> {
     let a = rt.alloc();
-    assert!(rt; says(a, b"", "0.0")?);
+    assert!(rt; says(a, b"", "1.0")?);
     assert!(rt; says(a, b"name,column,type\n", "1.0")?);
     assert!(rt; says(a, b"name,column,type,role,note\n", "1.0")?);
     assert!(rt; says(a, b"column,name,type,role\n", "1.0")?);
