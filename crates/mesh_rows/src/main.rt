@@ -5,17 +5,25 @@
 //! A script has one step a line; empty lines and lines that begin with `#` are passed over:
 //! - `mesh WORD..` runs a command; the words are separated by blanks;
 //! - `write PATH FILE` gives the project a file with the bytes of `rows/NAME/FILE`, and `delete PATH` removes one;
+//! - `cut PATH FILE N` gives the project a file with the first N bytes of `rows/NAME/FILE`;
+//! - `cuts PATH FILE` runs `mesh apply` with each proper prefix of `rows/NAME/FILE` as the project's file, and then gives
+//!   the project the whole file. It counts the cuts, and those that are refused with one line of that file and no change,
+//!   and shows all others;
 //! - `empty house` begins anew with an empty warehouse;
 //! - `fail change N before`, `fail change N after`, `fail read N` and `fail folder N` have one call of the next commands
-//!   fail, counted from 0 from then on, and `fail nothing` has none fail.
+//!   fail, counted from 0 from then on; `fail put N` has one put on `err` fail, counted from 0 in each command; and
+//!   `fail nothing` has none fail.
 #![tactic(auto)]
 
+mod command;
+mod cuts;
 mod report;
 mod script;
 mod stage;
 mod trouble;
 
-use crate::script::steps_of;
+use crate::cuts::{cuts, front};
+use crate::script::{Step, steps_of};
 use crate::stage::Stage;
 use crate::trouble::Trouble;
 use mesh_base::Str;
@@ -71,6 +79,33 @@ fn file_of(alloc: Global, data: &mut DirFolder, name: &[u8], path: &[u8]) -> Res
     read(alloc, data, whole.as_slice())
 }
 
+/// Runs one step of an example, and adds what is to be printed.
+fn perform<R: Threads + Sync>(
+    rt: &R,
+    alloc: Global,
+    data: &mut DirFolder,
+    name: &[u8],
+    step: &Step,
+    stage: &mut Stage,
+    report: &mut Vec<u8>,
+) -> Result<(), Trouble> {
+    match step {
+        Step::Write { path, from } => {
+            let bytes = file_of(alloc, data, name, from.as_slice())?;
+            stage.write(path.copy()?, bytes)
+        }
+        Step::Cut { path, from, length } => {
+            let bytes = file_of(alloc, data, name, from.as_slice())?;
+            stage.write(path.copy()?, front(alloc, &bytes, *length)?)
+        }
+        Step::Cuts { path, from } => {
+            let bytes = file_of(alloc, data, name, from.as_slice())?;
+            cuts(rt, alloc, stage, path, &bytes, report)
+        }
+        other => stage.perform(rt, other, report),
+    }
+}
+
 /// Runs one example, and adds what is to be printed.
 fn example<R: Threads + Sync>(
     rt: &R,
@@ -87,13 +122,7 @@ fn example<R: Threads + Sync>(
     furnish(alloc, data, paths, name, &mut stage)?;
     let script = file_of(alloc, data, name, b"script")?;
     for step in &steps_of(alloc, script.as_slice())? {
-        match step {
-            script::Step::Write { path, from } => {
-                let bytes = file_of(alloc, data, name, from.as_slice())?;
-                stage.write(path.copy()?, bytes)?;
-            }
-            other => stage.perform(rt, other, report)?,
-        }
+        perform(rt, alloc, data, name, step, &mut stage, report)?;
     }
     Ok(())
 }

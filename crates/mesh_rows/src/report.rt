@@ -1,4 +1,5 @@
 // What is printed of a command.
+use crate::command::Outcome;
 use crate::trouble::Trouble;
 use mesh_base::{Cell, Name, Row, Str, Strs};
 use mesh_house::{Body, World};
@@ -52,6 +53,20 @@ fn put_row(alloc: Global, report: &mut Vec<u8>, row: &Row) -> Result<(), Trouble
     Ok(())
 }
 
+fn put_status(
+    alloc: Global,
+    report: &mut Vec<u8>,
+    status: u8,
+    changes: u64,
+) -> Result<(), Trouble> {
+    report.extend_from_slice(b": status ")?;
+    count(alloc, report, u64::from(status))?;
+    report.extend_from_slice(b", changes ")?;
+    count(alloc, report, changes)?;
+    report.push(b'\n')?;
+    Ok(())
+}
+
 /// The words of a command, its status and how many changes it made.
 pub fn put_command(
     alloc: Global,
@@ -65,12 +80,7 @@ pub fn put_command(
         report.push(b' ')?;
         report.extend_from_slice(word.as_slice())?;
     }
-    report.extend_from_slice(b": status ")?;
-    count(alloc, report, u64::from(status))?;
-    report.extend_from_slice(b", changes ")?;
-    count(alloc, report, changes)?;
-    report.push(b'\n')?;
-    Ok(())
+    put_status(alloc, report, status, changes)
 }
 
 /// What was written to the two sinks, where something was.
@@ -84,6 +94,40 @@ pub fn put_texts(report: &mut Vec<u8>, out: &Str, err: &Str) -> Result<(), Troub
         report.extend_from_slice(err.as_slice())?;
     }
     Ok(())
+}
+
+/// How many cuts of a file there were, and how many were refused in this file.
+pub fn put_cuts(
+    alloc: Global,
+    report: &mut Vec<u8>,
+    path: &Str,
+    all: u64,
+    refused: u64,
+) -> Result<(), Trouble> {
+    report.extend_from_slice(b"cuts ")?;
+    report.extend_from_slice(path.as_slice())?;
+    report.extend_from_slice(b": ")?;
+    count(alloc, report, all)?;
+    report.extend_from_slice(b", refused in this file ")?;
+    count(alloc, report, refused)?;
+    report.push(b'\n')?;
+    Ok(())
+}
+
+/// The cuts from one length up to another, which have one outcome.
+pub fn put_run(
+    alloc: Global,
+    report: &mut Vec<u8>,
+    first: u64,
+    last: u64,
+    outcome: &Outcome,
+) -> Result<(), Trouble> {
+    report.extend_from_slice(b"cut at ")?;
+    count(alloc, report, first)?;
+    report.extend_from_slice(b" to ")?;
+    count(alloc, report, last)?;
+    put_status(alloc, report, outcome.status, outcome.changes)?;
+    put_texts(report, &outcome.out, &outcome.err)
 }
 
 fn put_body(alloc: Global, report: &mut Vec<u8>, body: &Body) -> Result<(), Trouble> {

@@ -12,6 +12,10 @@ pub enum Step {
     Mesh(Strs),
     /// A file of the project gets the bytes of a file of the example.
     Write { path: Str, from: Str },
+    /// A file of the project gets the first bytes of a file of the example.
+    Cut { path: Str, from: Str, length: u64 },
+    /// A file of the project is cut at each byte of a file of the example.
+    Cuts { path: Str, from: Str },
     /// A file of the project goes.
     Delete(Str),
     /// The warehouse is empty.
@@ -20,6 +24,8 @@ pub enum Step {
     FailHouse(Fail),
     /// A call of the folder is to fail.
     FailFolder(u64),
+    /// A put on `err` is to fail.
+    FailPut(u64),
     /// No call is to fail.
     FailNothing,
 }
@@ -73,12 +79,32 @@ fn write(alloc: Global, words: &[&str]) -> Result<Step, Trouble> {
     })
 }
 
+fn cut(alloc: Global, words: &[&str]) -> Result<Step, Trouble> {
+    let path = word(words, 1)?;
+    let from = word(words, 2)?;
+    let length = number(word(words, 3)?)?;
+    Ok(Step::Cut {
+        path: text(alloc, path)?,
+        from: text(alloc, from)?,
+        length,
+    })
+}
+
+fn cuts(alloc: Global, words: &[&str]) -> Result<Step, Trouble> {
+    let path = word(words, 1)?;
+    let from = word(words, 2)?;
+    Ok(Step::Cuts {
+        path: text(alloc, path)?,
+        from: text(alloc, from)?,
+    })
+}
+
 fn delete(alloc: Global, words: &[&str]) -> Result<Step, Trouble> {
     let path = word(words, 1)?;
     Ok(Step::Delete(text(alloc, path)?))
 }
 
-/// The call of the warehouse or of the folder that is to fail.
+/// The call of the warehouse, of the folder or of `err` that is to fail.
 fn failing_call(kind: &str, words: &[&str]) -> Result<Step, Trouble> {
     let call = number(word(words, 2)?)?;
     if kind == "change" {
@@ -90,6 +116,9 @@ fn failing_call(kind: &str, words: &[&str]) -> Result<Step, Trouble> {
     }
     if kind == "folder" {
         return Ok(Step::FailFolder(call));
+    }
+    if kind == "put" {
+        return Ok(Step::FailPut(call));
     }
     Err(Trouble::Script)
 }
@@ -109,6 +138,12 @@ fn step_of(alloc: Global, words: &[&str]) -> Result<Step, Trouble> {
     }
     if first == "write" {
         return write(alloc, words);
+    }
+    if first == "cut" {
+        return cut(alloc, words);
+    }
+    if first == "cuts" {
+        return cuts(alloc, words);
     }
     if first == "delete" {
         return delete(alloc, words);

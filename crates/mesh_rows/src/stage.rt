@@ -1,20 +1,22 @@
 // What the commands of an example run on: everything is in memory.
+use crate::command::{Outcome, Streams};
 use crate::report::{put_command, put_texts, put_world};
 use crate::script::Step;
 use crate::trouble::Trouble;
 use mesh_base::{Str, Strs};
 use mesh_house::{Fail, MemHouse, Warehouse};
-use mesh_io::{File, MemClock, MemFolder, MemSink, MemSource};
+use mesh_io::{File, MemFolder, Numbers};
 use mesh_list::{Duplicate, Seq};
 use std::alloc::Global;
 use std::thread::Threads;
 
-/// The project's folder and the warehouse.
+/// The project's folder, the warehouse and the puts on `err` that are to fail.
 #[derive(Drop)]
 pub struct Stage {
     alloc: Global,
     folder: MemFolder,
     house: MemHouse,
+    failing_puts: Numbers,
 }
 
 impl Stage {
@@ -23,6 +25,7 @@ impl Stage {
             alloc,
             folder: MemFolder::new(Seq::new(alloc), Seq::new(alloc)),
             house: MemHouse::new(alloc),
+            failing_puts: Seq::new(alloc),
         }
     }
 
@@ -30,7 +33,7 @@ impl Stage {
         Ok(self.folder.write(File { path, bytes })?)
     }
 
-    /// Runs one step other than `write`, and adds what is to be printed of it.
+    /// Runs one step that needs no file of the example, and adds what is to be printed of it.
     pub fn perform<R: Threads + Sync>(
         &mut self,
         rt: &R,
@@ -39,7 +42,7 @@ impl Stage {
     ) -> Result<(), Trouble> {
         match step {
             Step::Mesh(words) => self.command(rt, words, report),
-            Step::Write { .. } => Err(Trouble::Script),
+            Step::Write { .. } | Step::Cut { .. } | Step::Cuts { .. } => Err(Trouble::Script),
             Step::Delete(path) => {
                 self.folder.delete(path);
                 Ok(())
@@ -50,12 +53,18 @@ impl Stage {
             }
             Step::FailHouse(fail) => self.fail_house(*fail),
             Step::FailFolder(number) => self.fail_folder(*number),
+            Step::FailPut(number) => self.fail_put(*number),
             Step::FailNothing => {
-                self.house.set_fails(Seq::new(self.alloc));
-                self.folder.set_fails(Seq::new(self.alloc));
+                self.fail_nothing();
                 Ok(())
             }
         }
+    }
+
+    fn fail_nothing(&mut self) {
+        self.house.set_fails(Seq::new(self.alloc));
+        self.folder.set_fails(Seq::new(self.alloc));
+        self.failing_puts = Seq::new(self.alloc);
     }
 
     fn fail_house(&mut self, fail: Fail) -> Result<(), Trouble> {
@@ -72,14 +81,16 @@ impl Stage {
         Ok(())
     }
 
-    /// Runs one command, and reports it.
-    fn command<R: Threads + Sync>(
-        &mut self,
-        rt: &R,
-        words: &Strs,
-        report: &mut Vec<u8>,
-    ) -> Result<(), Trouble> {
-        let mut streams = Streams::new(self.alloc);
+    fn fail_put(&mut self, number: u64) -> Result<(), Trouble> {
+        let mut fails = Seq::new(self.alloc);
+        fails.push(number)?;
+        self.failing_puts = fails;
+        Ok(())
+    }
+
+    /// Runs one command.
+    pub fn run<R: Threads + Sync>(&mut self, rt: &R, words: &Strs) -> Result<Outcome, Trouble> {
+        let mut streams = Streams::new(self.alloc, self.failing_puts.copy()?);
         let before = self.house.calls();
         let status = streams.run(
             rt,
@@ -89,49 +100,19 @@ impl Stage {
             &mut self.house,
         );
         let changes = self.house.calls().saturating_sub(before);
-        put_command(self.alloc, report, words, status, changes)?;
-        put_texts(report, streams.out.bytes(), streams.err.bytes())?;
-        put_world(self.alloc, report, self.house.world())
-    }
-}
-
-/// The clock and the streams of one command.
-#[derive(Drop)]
-struct Streams {
-    clock: MemClock,
-    input: MemSource,
-    out: MemSink,
-    err: MemSink,
-}
-
-impl Streams {
-    fn new(alloc: Global) -> Streams {
-        Streams {
-            clock: MemClock::new(0, Seq::new(alloc)),
-            input: MemSource::new(Seq::new(alloc), Seq::new(alloc)),
-            out: MemSink::new(alloc, Seq::new(alloc)),
-            err: MemSink::new(alloc, Seq::new(alloc)),
-        }
+        streams.outcome(status, changes)
     }
 
-    fn run<R: Threads + Sync>(
+    /// Runs one command, and reports it.
+    fn command<R: Threads + Sync>(
         &mut self,
         rt: &R,
-        alloc: Global,
-        words: &[Str],
-        folder: &mut MemFolder,
-        house: &mut MemHouse,
-    ) -> u8 {
-        mesh_cli::mesh(
-            rt,
-            alloc,
-            words,
-            folder,
-            house,
-            &mut self.clock,
-            &mut self.input,
-            &mut self.out,
-            &mut self.err,
-        )
+        words: &Strs,
+        report: &mut Vec<u8>,
+    ) -> Result<(), Trouble> {
+        let outcome = self.run(rt, words)?;
+        put_command(self.alloc, report, words, outcome.status, outcome.changes)?;
+        put_texts(report, &outcome.out, &outcome.err)?;
+        put_world(self.alloc, report, self.house.world())
     }
 }
