@@ -12,6 +12,7 @@ mod reader;
 mod relations;
 #[cfg(test)]
 mod shown;
+mod sizes;
 #[cfg(test)]
 mod tests;
 
