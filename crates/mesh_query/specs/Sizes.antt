@@ -154,6 +154,7 @@ arm_nodes = fold-Arm ℕ ℕ ℕ ℕ ℕ ℕ ℕ ℕ ℕ ℕ ℕ ℕ ℕ ℕ ℕ
 
 abbrev pub args_nodes : Args → ℕ
 args_nodes = fold-Args ℕ ℕ ℕ ℕ ℕ ℕ ℕ ℕ ℕ ℕ ℕ ℕ ℕ ℕ ℕ args_here not_here value_here test_here unary_here sum_here add_here and_here arm_here cat_here product_here mul_here or_here post_here pred_here
+
 -- an expression that has no more nodes than it may have
 abbrev pub is_small : OrExpr → Bool
 is_small e = nat_le (nodes_of e) most_nodes

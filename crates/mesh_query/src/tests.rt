@@ -443,7 +443,10 @@ fn places_of_large_expressions(rt: HostRuntime) -> Result<(), TestFail> {
         (b"select a having", b" ;"),
         (b"select a union all select", b""),
         (b"with x as ( select", b" ) select a"),
-        (b"with x as ( select a ) , y as ( select a where", b" ) select b"),
+        (
+            b"with x as ( select a ) , y as ( select a where",
+            b" ) select b",
+        ),
     ];
     for (before, behind) in cases {
         let all = filled(alloc, before, b"1", 1, behind, 4096)?;
