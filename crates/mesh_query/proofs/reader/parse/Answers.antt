@@ -1,4 +1,4 @@
-use Rattle.std.proofs.Common.{◌≡◌, [], List, take, drop, true, false, subst, ap, sym, ◌∙◌}
+use Rattle.std.proofs.Common.{◌≡◌, [], List, take, drop, subst, ap, sym, ◌∙◌}
 use Rattle.mesh_surface.specs.declared.queries.Surface.{Surface}
 use Rattle.mesh_tokens.specs.declared.tokens.Token.{Token}
 use Rattle.mesh_words.specs.Places.{deepest}
@@ -42,16 +42,16 @@ returns-else-is_within-clause-refused c =
 pub returns-in-Err-clause-read : goal.returns-in-Err-clause-read
 returns-in-Err-clause-read c = λ tree d w.
     short (take c.args.from c.args.tokens.now) (drop c.args.from c.args.tokens.now) c.crowded.result tree
-    (subst (λ (ts : List Token). IsRefusal (take c.args.from ts) (drop c.args.from ts) c.crowded.result) c.as_slice-tokens.ensures (c.crowded.ensures _ _ _ c.in-Err.ensures)) d w
+    (subst (λ (ts : List Token). IsRefusal (take c.args.from ts) (drop c.args.from ts) c.crowded.result) c.as_slice-tokens.ensures (c.crowded.ensures _ (take c.args.from c.as_slice-tokens.result.now) _ c.in-Err.ensures)) d w
 
 pub returns-in-Err-clause-too_large : goal.returns-in-Err-clause-too_large
 returns-in-Err-clause-too_large c = λ tree d w.
     long (take c.args.from c.args.tokens.now) (drop c.args.from c.args.tokens.now) c.crowded.result tree
-    (subst (λ (ts : List Token). IsRefusal (take c.args.from ts) (drop c.args.from ts) c.crowded.result) c.as_slice-tokens.ensures (c.crowded.ensures _ _ _ c.in-Err.ensures)) d
+    (subst (λ (ts : List Token). IsRefusal (take c.args.from ts) (drop c.args.from ts) c.crowded.result) c.as_slice-tokens.ensures (c.crowded.ensures _ (take c.args.from c.as_slice-tokens.result.now) _ c.in-Err.ensures)) d
 
 pub returns-in-Err-clause-refused : goal.returns-in-Err-clause-refused
 returns-in-Err-clause-refused c =
-    subst (λ (ts : List Token). IsRefusal (take c.args.from ts) (drop c.args.from ts) c.crowded.result) c.as_slice-tokens.ensures (c.crowded.ensures _ _ _ c.in-Err.ensures)
+    subst (λ (ts : List Token). IsRefusal (take c.args.from ts) (drop c.args.from ts) c.crowded.result) c.as_slice-tokens.ensures (c.crowded.ensures _ (take c.args.from c.as_slice-tokens.result.now) _ c.in-Err.ensures)
 
 pub returns-in-Err-2-clause-read : goal.returns-in-Err-2-clause-read
 returns-in-Err-2-clause-read c = λ tree d w.
