@@ -1,3 +1,5 @@
+-- Sizes: how many nodes an expression has, and the limit of them.
+pub mod Sizes
 -- Refusals: why tokens are refused.
 pub mod Refusals
 -- Answers: what a function of the descent answers.

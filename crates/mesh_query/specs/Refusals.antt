@@ -1,5 +1,5 @@
 -- Why tokens are refused, and where they go wrong.
-use Rattle.std.specs.Prelude.{◌≡◌, ℕ, List, [], ◌∷◌, ◌++◌, codes, drop, ◌⊎◌}
+use Rattle.std.specs.Prelude.{◌≡◌, ℕ, List, [], ◌∷◌, ◌++◌, codes, drop, ◌⊎◌, false}
 use Rattle.mesh_tokens.specs.declared.tokens.Token.{Token}
 use Rattle.mesh_tokens.specs.declared.faults.FaultKind.TheVariants.{Syntax, TooLarge}
 use Rattle.mesh_tokens.specs.declared.faults.ReadFault.{ReadFault}
@@ -10,6 +10,7 @@ use Rattle.mesh_words.specs.Places.{deepest}
 use Rattle.mesh_surface.specs.declared.queries.Surface.{Surface}
 use Rattle.mesh_grammar.specs.Grammar.{query, Spells}
 use Rattle.mesh_grammar.specs.Beginnings.{IsQuery, IsLongestBegun}
+use Rattle.mesh_query.specs.Sizes.{is_within, most_nodes}
 
 -- the end of the last token, or 0 where there is none
 abbrev pub end_of : List Token → ℕ
@@ -25,6 +26,10 @@ IsNoQuery s = (tree : Surface) → IsQuery tree s → ⊥
 abbrev pub IsTooDeep : List Token → Type 0
 IsTooDeep s = (tree : Surface) → Spells deepest (query tree) s [] → ⊥
 
+-- in each query of that depth that the tokens spell, an expression has too many nodes
+abbrev pub IsTooLarge : List Token → Type 0
+IsTooLarge s = (tree : Surface) → Spells deepest (query tree) s [] → is_within tree ≡ false
+
 -- a limit is passed, or memory is out
 abbrev pub IsLimit : List ℕ → ℕ → ReadFault → Type 0
 IsLimit name most Memory = Unit {0}
@@ -39,13 +44,9 @@ IsAmiss ts s (fault.Syntax q) = (front : List Token) × (s ≡ front ++ drop q t
 IsAmiss ts s fault.Nesting = IsTooDeep s
 
 -- The tokens behind those before are refused: they are no query, and the place is the end of the longest beginning of one;
--- or no query of the depth that is allowed; or an expression has too many nodes; or memory is out.
+-- or no query of the depth that is allowed; or none in which no expression has too many nodes; or memory is out.
 abbrev pub IsRefusal : List Token → List Token → ReadFault → Type 0
 IsRefusal before s Memory = Unit {0}
 IsRefusal before s (Fault at Syntax) = (front : List Token) × IsLongestBegun s front × (at ≡ end_of (before ++ front)) × IsNoQuery s
-IsRefusal before s (Fault at (TooLarge what limit)) = (at ≡ 0) × (((what ≡ codes "nesting") × (limit ≡ deepest) × IsTooDeep s) ⊎ ((what ≡ codes "expression") × (limit ≡ 4096)))
+IsRefusal before s (Fault at (TooLarge what limit)) = (at ≡ 0) × (((what ≡ codes "nesting") × (limit ≡ deepest) × IsTooDeep s) ⊎ ((what ≡ codes "expression") × (limit ≡ most_nodes) × IsTooLarge s))
 IsRefusal before s (Fault at _) = ⊥
-
--- an expression has too many nodes, or memory is out
-abbrev pub IsShort : ReadFault → Type 0
-IsShort fault = IsLimit (codes "expression") 4096 fault

@@ -1,4 +1,4 @@
-// The nodes of an expression, as they are met.
+// The nodes of an expression, as they are met. Where reading fails they tell whether that limit was passed before.
 
 /// Nodes of one expression.
 const MOST_NODES: u32 = 4_096;

@@ -1,7 +1,10 @@
 // From the tokens to the tree, or to the fault that is printed.
-ghost use Rattle.std.specs.Prelude.{◌≡◌, ◌≤◌, ℕ, drop, take, length, [], IfOk, IfErr, MatchResult};
+ghost use Rattle.std.specs.Prelude.{◌≡◌, ◌≤◌, ℕ, List, codes, drop, take, length, [], true, false, IfOk, IfErr, MatchResult};
 ghost use Rattle.mesh_surface.specs.declared.queries.Surface.{Surface};
-ghost use Rattle.mesh_query.specs.Refusals.{end_of, IsLimit, IsAmiss, IsRefusal, IsShort};
+ghost use Rattle.mesh_tokens.specs.declared.tokens.Token.{Token as Tokens};
+ghost use Rattle.mesh_tokens.specs.declared.faults.ReadFault.TheVariants.{Memory as NoMemory};
+ghost use Rattle.mesh_query.specs.Refusals.{end_of, IsLimit, IsAmiss, IsRefusal};
+ghost use Rattle.mesh_query.specs.Sizes.{is_within, most_nodes};
 ghost use Rattle.mesh_grammar.specs.Rules.{query as the_query};
 ghost use Rattle.mesh_grammar.specs.Machine.{Reads};
 ghost use Rattle.mesh_grammar.specs.Grammar.{Spells, query as a_query};
@@ -10,6 +13,7 @@ ghost use Rattle.mesh_words.specs.Places.{deepest};
 
 use crate::nodes::Nodes;
 use crate::queries::query;
+use crate::sizes::is_within;
 use mesh_base::{DEEPEST_NESTING, LARGEST_EXPRESSION, Str};
 use mesh_list::{Duplicate, Memory, Seq};
 use mesh_surface::Surface;
@@ -25,10 +29,14 @@ const NESTING: u32 = 64;
 pub fn parse(tokens: &Tokens, from: u32) -> Result<Surface, ReadFault>
     // What is read is spelled by the tokens.
     ensures found { IfOk result (λ tree. Spells deepest (a_query tree) (drop from tokens.now) []) }
+    // None of its expressions has too many nodes.
+    ensures within { IfOk result (λ tree. is_within tree ≡ true) }
     // No other tree has the same tokens.
     ensures only { IfOk result (λ tree. (other : Surface) → IsQuery other (drop from tokens.now) → tree ≡ other) }
-    // What is spelled is read, unless an expression has too many nodes or memory is out.
-    ensures read { (tree : Surface) → Spells deepest (a_query tree) (drop from tokens.now) [] → MatchResult result (λ found. found ≡ tree) IsShort }
+    // What is spelled and has no expression with too many nodes is read, unless memory is out.
+    ensures read { (tree : Surface) → Spells deepest (a_query tree) (drop from tokens.now) [] → is_within tree ≡ true → MatchResult result (λ found. found ≡ tree) (λ fault. fault ≡ NoMemory) }
+    // What is spelled and has an expression with too many nodes is refused for that limit, unless memory is out.
+    ensures too_large { (tree : Surface) → Spells deepest (a_query tree) (drop from tokens.now) [] → is_within tree ≡ false → MatchResult result (λ _. ⊥) (IsLimit (codes "expression") most_nodes) }
     // What is refused breaks the grammar, at the end of its longest beginning, or a limit; or memory is out.
     ensures refused { IfErr result (IsRefusal (take from tokens.now) (drop from tokens.now)) }
 {
@@ -36,12 +44,28 @@ pub fn parse(tokens: &Tokens, from: u32) -> Result<Surface, ReadFault>
     let tokens = tokens.as_slice();
     let mut nodes = Nodes::new();
     let found = whole_query(alloc, tokens, &mut nodes, from as usize);
-    if nodes.are_too_many() {
-        return Err(too_large(alloc, b"expression", LARGEST_EXPRESSION));
-    }
     match found {
-        Ok(surface) => Ok(surface),
+        Ok(surface) => {
+            if is_within(&surface) {
+                return Ok(surface);
+            }
+            Err(too_large(alloc, b"expression", LARGEST_EXPRESSION))
+        }
+        Err(fault) if nodes.are_too_many() => Err(crowded(alloc, fault)),
         Err(fault) => Err(refusal(alloc, tokens, fault)),
+    }
+}
+
+// An expression had too many nodes before what was read went wrong: that limit comes first.
+#[tactic(auto, using(crate::proofs::Refused::crowded_refused))]
+fn crowded(alloc: Global, fault: Fault) -> ReadFault
+    ensures { (ts before s : List Tokens) → IsAmiss ts s fault → IsRefusal before s result }
+{
+    match fault {
+        Fault::Memory => ReadFault::Memory,
+        Fault::Nesting | Fault::Syntax { .. } => {
+            too_large(alloc, b"expression", LARGEST_EXPRESSION)
+        }
     }
 }
 

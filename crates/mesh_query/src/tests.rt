@@ -403,6 +403,116 @@ fn chains_of_or(rt: HostRuntime) -> Result<(), TestFail> {
     Ok(())
 }
 
+// An expression of so many nodes between other words: a form that has some of them, in parentheses, and then as many
+// `+ 1`, two nodes each, and `:: int` as are wanting.
+fn filled(
+    alloc: Global,
+    before: &[u8],
+    form: &[u8],
+    nodes: usize,
+    behind: &[u8],
+    most: usize,
+) -> Result<Vec<u8>, TestFail> {
+    let mut written = Vec::from_slice(alloc, before)?;
+    written.extend_from_slice(b" ( ")?;
+    written.extend_from_slice(form)?;
+    written.extend_from_slice(b" )")?;
+    let wanting = most.saturating_sub(nodes);
+    for _ in 0..wanting / 2 {
+        written.extend_from_slice(b" + 1")?;
+    }
+    if wanting % 2 == 1 {
+        written.extend_from_slice(b" :: int")?;
+    }
+    written.extend_from_slice(behind)?;
+    Ok(written)
+}
+
+// Each place of an expression takes 4,096 nodes and no more.
+#[test]
+fn places_of_large_expressions(rt: HostRuntime) -> Result<(), TestFail> {
+    let alloc = rt.alloc();
+    let cases: [(&[u8], &[u8]); 11] = [
+        (b"select", b" as b"),
+        (b"select a ,", b""),
+        (b"select a from t join u on", b""),
+        (b"select a from t left join u on", b" where b"),
+        (b"select a from t where", b" group by b"),
+        (b"select a from t group by", b""),
+        (b"select a from t group by b ,", b" , c"),
+        (b"select a having", b" ;"),
+        (b"select a union all select", b""),
+        (b"with x as ( select", b" ) select a"),
+        (
+            b"with x as ( select a ) , y as ( select a where",
+            b" ) select b",
+        ),
+    ];
+    for (before, behind) in cases {
+        let all = filled(alloc, before, b"1", 1, behind, 4096)?;
+        assert_eq!(rt; limit(alloc, all.as_slice())?, 0);
+        let more = filled(alloc, before, b"1", 1, behind, 4097)?;
+        assert_eq!(rt; limit(alloc, more.as_slice())?, b'e');
+    }
+    Ok(())
+}
+
+// Two expressions of 4,096 nodes each.
+#[test]
+fn large_expressions_side_by_side(rt: HostRuntime) -> Result<(), TestFail> {
+    let alloc = rt.alloc();
+    let mut both = filled(alloc, b"select", b"1", 1, b" from t where", 4096)?;
+    let second = filled(alloc, b"", b"1", 1, b"", 4096)?;
+    both.extend_from_slice(second.as_slice())?;
+    assert_eq!(rt; limit(alloc, both.as_slice())?, 0);
+    Ok(())
+}
+
+#[test]
+fn nodes_of_forms(rt: HostRuntime) -> Result<(), TestFail> {
+    let alloc = rt.alloc();
+    let cases: [(&[u8], usize); 31] = [
+        (b"1", 1),
+        (b"'x'", 1),
+        (b"@start_ds", 1),
+        (b"date '2024-02-29'", 1),
+        (b"true", 1),
+        (b"null", 1),
+        (b"a", 1),
+        (b"t . a", 1),
+        (b"( ( a ) )", 1),
+        (b"a or b", 3),
+        (b"a and b and c", 5),
+        (b"a or b and c or d", 7),
+        (b"not not a", 3),
+        (b"a <= b", 3),
+        (b"a || b || c", 5),
+        (b"a + b - c", 5),
+        (b"a * b % c", 5),
+        (b"- a", 2),
+        (b"a :: int :: text", 3),
+        (b"cast ( a as int )", 2),
+        (b"count ( * )", 1),
+        (b"count ( distinct a )", 2),
+        (b"coalesce ( a , b , c )", 4),
+        (b"case when a then b end", 3),
+        (b"case a when b then c when d then e else f end", 7),
+        (b"a is null", 2),
+        (b"a is not null", 2),
+        (b"a between b and c", 4),
+        (b"a not between b and c", 4),
+        (b"a in ( b , c )", 4),
+        (b"a not in ( b )", 3),
+    ];
+    for (form, nodes) in cases {
+        let all = filled(alloc, b"select", form, nodes, b"", 4096)?;
+        assert_eq!(rt; limit(alloc, all.as_slice())?, 0);
+        let more = filled(alloc, b"select", form, nodes, b"", 4097)?;
+        assert_eq!(rt; limit(alloc, more.as_slice())?, b'e');
+    }
+    Ok(())
+}
+
 // The first fault of a text wins: a limit that was passed earlier, or a token that can't stand there.
 #[test]
 fn first_faults(rt: HostRuntime) -> Result<(), TestFail> {
