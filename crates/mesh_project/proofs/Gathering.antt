@@ -1,7 +1,6 @@
 -- The calls that read a project, one after the other.
-use Rattle.std.proofs.Common.{◌≡◌, ℕ, ◌+◌, ◌<◌, ◌≤◌, List, [], ◌∷◌, drop, length, get_or, Result, Ok, Err, sym, ◌∙◌, ap, subst}
+use Rattle.std.proofs.Common.{◌≡◌, ℕ, ◌+◌, ◌<◌, ◌≤◌, List, ◌∷◌, drop, length, get_or, Result, Ok, Err, sym, ◌∙◌, ap, subst}
 use Rattle.std.proofs.lemmas.List.{drop_more}
-use Rattle.std.specs.Prelude.{IsErrOf}
 use Rattle.std.specs.Option.{ForSome}
 use Rattle.std.specs.Result.{IsErrAnd}
 use Rattle.mesh_base.specs.declared.definitions.Decl.{Decl}
@@ -9,15 +8,15 @@ use Rattle.mesh_base.specs.declared.models.Model.{Model}
 use Rattle.mesh_io.specs.declared.files.File.{File}
 use Rattle.mesh_io.specs.Told.{FolderTold}
 use Rattle.mesh_project.specs.declared.faults.LoadFault.{LoadFault}
-use Rattle.mesh_project.specs.declared.faults.LoadFault.TheVariants.{Fault, Folder, Memory}
+use Rattle.mesh_project.specs.declared.faults.LoadFault.TheVariants.{Memory}
 use Rattle.mesh_project.specs.declared.gathered.Gathered.{Gathered}
 use Rattle.mesh_project.specs.declared.item.FileSays.{FileSays}
 use Rattle.mesh_project.specs.Loading.{AsksAs, Gives}
 use Rattle.mesh_project.specs.Items.{IsFileRead}
-use Rattle.mesh_project.specs.Built.{with_file, built, nothing}
+use Rattle.mesh_project.specs.Built.{with_file, nothing}
 use Rattle.mesh_project.specs.Project.{AreRead, IsLoaded, sources_in, paths_within}
-use Rattle.mesh_project.proofs.Asking.{asks_err, asks_then, asks_alone, asks_wanting}
-use Rattle.mesh_project.proofs.Reading.{itself, unknown, loaded, loaded_without_paths, Goes}
+use Rattle.mesh_project.proofs.Asking.{asks_err, asks_then, asks_wanting}
+use Rattle.mesh_project.proofs.Reading.{unknown, loaded_without_paths, Goes}
 
 -- the path at a place stands before those behind it
 pub next_path : (paths : List (List ℕ)) (i : ℕ) (path : List ℕ) → i < length paths → path ≡ get_or paths i path → drop i paths ≡ path ∷ drop (i + 1) paths
@@ -39,10 +38,6 @@ module _ (paths left : List (List ℕ)) (a b : FolderTold) (g : Gathered) (same 
     onward : AsksAs Left b c result → AsksAs (λ fs. AreRead fs nothing paths) a c result
     onward q = asks_then (From paths left) Left (λ fs. AreRead fs nothing paths) a b c g result so_far q (λ fs f r. f result (subst (λ l. AreRead fs g l result) (sym first) r))
 
-    -- the next file is refused
-    pub gather_err : (fault : LoadFault) → AsksAs (λ fs. IsFileRead fs path) b c (Err fault) → IsErrAnd result (λ y. y ≡ fault) → AsksAs (λ fs. AreRead fs nothing paths) a c result
-    gather_err fault p is = onward (asks_err (λ fs. IsFileRead fs path) Left b c fault result p is (λ fs h. (Err fault, h, itself _ fault)))
-
     -- memory runs out behind it
     pub gather_wanting : (says : FileSays) → AsksAs (λ fs. IsFileRead fs path) b c (Ok says) → IsErrAnd result (λ y. y ≡ Memory) → AsksAs (λ fs. AreRead fs nothing paths) a c result
     gather_wanting says p is = onward (asks_wanting (λ fs. IsFileRead fs path) Left b c says result p is (λ fs h. (Ok says, h, unknown fs (with_file g says) rest)))
@@ -56,18 +51,3 @@ module _ (a b c : FolderTold) (sources : List Decl) (p : AsksAs (λ fs r. Gives 
 
   pub load_without_paths : (fault : LoadFault) → AsksAs (λ fs r. Gives r (paths_within fs)) b c (Err fault) → IsErrAnd result (λ y. y ≡ fault) → AsksAs IsLoaded a c result
   load_without_paths fault q is = behind_sources (asks_err (λ fs r. Gives r (paths_within fs)) Behind_sources b c fault result q is (λ fs e s. loaded_without_paths fs fault sources s e))
-
-  module _ (m : FolderTold) (paths : List (List ℕ)) (q : AsksAs (λ fs r. Gives r (paths_within fs)) b m (Ok paths)) where
-    abbrev Behind_paths : List File → Result (List Model) LoadFault → Type 0
-    Behind_paths fs r = paths_within fs ≡ Ok paths → Behind_sources fs r
-
-    behind_paths : AsksAs Behind_paths m c result → AsksAs IsLoaded a c result
-    behind_paths t = behind_sources (asks_then (λ fs r. Gives r (paths_within fs)) Behind_paths Behind_sources b m c paths result q t (λ fs s third. third s))
-
-    -- a file is at fault
-    pub load_err : (fault : LoadFault) → AsksAs (λ fs. AreRead fs nothing paths) m c (Err fault) → IsErrAnd result (λ y. y ≡ fault) → AsksAs IsLoaded a c result
-    load_err fault t is = behind_paths (asks_err (λ fs. AreRead fs nothing paths) Behind_paths m c fault result t is (λ fs r e s. loaded fs (Err fault) sources paths (Err fault) s e r (itself _ fault)))
-
-    -- all files were read
-    pub load_end : (g : Gathered) → AsksAs (λ fs. AreRead fs nothing paths) m c (Ok g) → Gives result (built sources g) → (IsErrOf result Folder → ⊥) → AsksAs IsLoaded a c result
-    load_end g t gives alone = behind_paths (asks_alone (λ fs. AreRead fs nothing paths) Behind_paths m c g result t alone (λ fs r e s. loaded fs (Ok g) sources paths result s e r gives))

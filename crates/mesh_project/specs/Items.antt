@@ -1,7 +1,6 @@
 -- What a file below `models` gives to the project.
-use Rattle.std.specs.Prelude.{◌≡◌, ℕ, Bool, true, false, nat_eq, nat_le, ◌&&◌, ◌||◌, not, List, [], ◌++◌, codes, length, Result, Ok, Err, if◌then◌else◌}
+use Rattle.std.specs.Prelude.{ℕ, Bool, true, false, nat_eq, nat_le, ◌&&◌, ◌||◌, not, List, [], ◌++◌, codes, length, Result, Ok, Err, if◌then◌else◌}
 use Rattle.std.specs.List.{ends_with}
-use Rattle.std.specs.Option.{ForSome}
 use Rattle.std.specs.declared.option.Option.{Option}
 use Rattle.std.specs.declared.option.Option.TheVariants.{None, Some}
 use Rattle.mesh_base.specs.declared.definitions.Kind.{Kind}
@@ -19,7 +18,6 @@ use Rattle.mesh_text.specs.Lexed.{file_tokens, file_fault}
 use Rattle.mesh_text.specs.ModelTexts.{query_at, model_of}
 use Rattle.mesh_text.specs.Reads.{IsQueryRead}
 use Rattle.mesh_project.specs.declared.faults.LoadFault.{LoadFault}
-use Rattle.mesh_project.specs.declared.item.Item.{Item}
 use Rattle.mesh_project.specs.declared.item.FileSays.{FileSays}
 use Rattle.mesh_project.specs.declared.item.FileSays.TheVariants.{Nothing, Unbuilt, Says}
 use Rattle.mesh_project.specs.declared.plain.Picked.{Picked}

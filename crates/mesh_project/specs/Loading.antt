@@ -1,6 +1,5 @@
 -- What a call that asks the folder answers.
 use Rattle.std.specs.Prelude.{◌≡◌, ℕ, ◌≤◌, List, codes, Result, Ok, Err, IsErrOf}
-use Rattle.std.specs.declared.option.Option.{Option}
 use Rattle.std.specs.Option.{ForSome}
 use Rattle.mesh_list.specs.Counts.{Rose}
 use Rattle.mesh_io.specs.declared.fails.IoFail.{IoFail}

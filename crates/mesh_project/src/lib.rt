@@ -9,8 +9,10 @@ mod faults;
 mod files;
 mod gathered;
 mod item;
+mod laws;
 mod plain;
 mod project;
 
 pub use faults::LoadFault;
+pub use laws::files_mean_one_thing;
 pub use project::load;

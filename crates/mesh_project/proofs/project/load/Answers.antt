@@ -2,7 +2,7 @@ use Rattle.mesh_project.specs.Loading.{Gives}
 use Rattle.mesh_project.specs.Project.{sources_in, IsLoaded}
 use Rattle.mesh_project.proofs.Asking.{asks_err}
 use Rattle.mesh_project.proofs.Reading.{loaded_without_sources}
-use Rattle.mesh_project.proofs.Gathering.{load_without_paths, load_err, load_end}
+use Rattle.mesh_project.proofs.Gathering.{load_without_paths}
 use Rattle.mesh_project.proofs.project.load.Goals as goal
 
 pub returns-in_err-sources : goal.returns-in_err-sources

@@ -1,0 +1,8 @@
+use Rattle.mesh_project.proofs.Unique.{means_one, never_faulty}
+use Rattle.mesh_project.proofs.laws.files_mean_one_thing.Goals as goal
+
+pub returns-clause-one : goal.returns-clause-one
+returns-clause-one c = means_one
+
+pub returns-clause-never_both : goal.returns-clause-never_both
+returns-clause-never_both c = never_faulty
