@@ -1,23 +1,20 @@
--- Files mean one list of models, or none.
-use Rattle.std.proofs.Common.{◌≡◌, ◌⊎◌, inl, inr, ℕ, Bool, true, false, cond, List, [], ◌∷◌, codes, drop, Result, Ok, Err, refl, sym, ◌∙◌, ap, subst}
+-- Files mean one thing: one list of models, or one first fault. Only want of memory and a failing folder say nothing.
+use Rattle.std.proofs.Common.{◌≡◌, ◌⊎◌, inl, inr, ℕ, Bool, true, false, List, [], ◌∷◌, drop, take, Result, Ok, Err, refl, sym, ◌∙◌, ap, subst}
 use Rattle.std.specs.declared.option.Option.{Option}
 use Rattle.std.specs.declared.option.Option.TheVariants.{None, Some}
 use Rattle.mesh_base.specs.declared.definitions.Decl.{Decl}
 use Rattle.mesh_base.specs.declared.models.Model.{Model}
-use Rattle.mesh_grammar.specs.Grammar.{query as a_query, Spells}
 use Rattle.mesh_io.specs.declared.files.File.{File}
-use Rattle.mesh_query.specs.Refusals.{IsTooDeep, IsTooLarge}
-use Rattle.mesh_query.specs.Sizes.{is_within, most_nodes}
+use Rattle.mesh_query.proofs.OneRefusal.{one_refusal, short}
 use Rattle.mesh_statement.specs.Statement.{Read, statement}
 use Rattle.mesh_surface.specs.declared.queries.Surface.{Surface}
 use Rattle.mesh_text.specs.declared.model.ModelText.{ModelText}
 use Rattle.mesh_text.specs.declared.model.Whole.{Whole}
 use Rattle.mesh_text.specs.Lexed.{file_tokens, file_fault}
-use Rattle.mesh_text.specs.ModelTexts.{is_seed_text, body, whole, is_want, with_tokens, finished, model_of, query_at}
+use Rattle.mesh_text.specs.ModelTexts.{is_seed_text, body, whole, with_tokens, finished, model_of, query_at}
 use Rattle.mesh_text.specs.Reads.{IsQueryRead}
 use Rattle.mesh_tokens.specs.Gives.{◌>>=◌ as ◌onto◌}
 use Rattle.mesh_tokens.specs.declared.faults.FaultKind.{FaultKind}
-use Rattle.mesh_tokens.specs.declared.faults.FaultKind.TheVariants as kinds
 use Rattle.mesh_tokens.specs.declared.faults.ReadFault.{ReadFault}
 use Rattle.mesh_tokens.specs.declared.faults.ReadFault.TheVariants as read
 use Rattle.mesh_tokens.specs.declared.tokens.Token.{Token}
@@ -32,53 +29,49 @@ use Rattle.mesh_project.specs.Items.{model_says, text_says, IsTextRead, IsConten
 use Rattle.mesh_project.specs.Built.{with_file, built, nothing}
 use Rattle.mesh_project.specs.Project.{Then, AreRead, IsLoaded, meaning, sources_in, paths_within, project_paths}
 
--- an answer beside a known one: the same, or no news
-abbrev Fits : {X : Type 0} → X → Result X LoadFault → Type 0
-Fits x (Ok y) = x ≡ y
-Fits x (Err (Fault file at kind)) = ⊥
-Fits x (Err Folder) = Unit {0}
-Fits x (Err Memory) = Unit {0}
+-- an answer that says something of the files
+abbrev IsNews : {X : Type 0} → Result X LoadFault → Type 0
+IsNews (Ok x) = Unit {0}
+IsNews (Err (Fault file at kind)) = Unit {0}
+IsNews (Err Folder) = ⊥
+IsNews (Err Memory) = ⊥
 
-fits_same : {X : Type 0} (x : X) (meant r : Result X LoadFault) → meant ≡ Ok x → Gives r meant → Fits x r
-fits_same x meant (Ok y) e g = let same : Ok x ≡ Ok y = sym e ∙ g in cc
-fits_same x meant (Err (Fault file at kind)) e g = let wrong : Ok x ≡ Err (Fault file at kind) = sym e ∙ g in cc wrong
-fits_same x meant (Err Folder) e g = tt
-fits_same x meant (Err Memory) e g = tt
+-- an answer with news is what is meant
+given : {X : Type 0} (a meant : Result X LoadFault) → IsNews a → Gives a meant → meant ≡ a
+given (Ok x) meant n g = g
+given (Err (Fault file at kind)) meant n g = g
+given (Err Folder) meant n g = absurd n
+given (Err Memory) meant n g = absurd n
 
-fits_wanting : {X : Type 0} (x : X) (meant r : Result X LoadFault) → meant ≡ Err Memory → Gives r meant → Fits x r
-fits_wanting x meant (Ok y) e g = let wrong : Err Memory ≡ Ok y = sym e ∙ g in cc wrong
-fits_wanting x meant (Err (Fault file at kind)) e g = let wrong : Err Memory ≡ Err (Fault file at kind) = sym e ∙ g in cc wrong
-fits_wanting x meant (Err Folder) e g = tt
-fits_wanting x meant (Err Memory) e g = tt
+-- two answers with news are one
+abbrev Once : {X : Type 0} → Result X LoadFault → Result X LoadFault → Type 0
+Once a b = IsNews a → IsNews b → a ≡ b
 
-fits_unasked : {X : Type 0} (x : X) (meant r : Result X LoadFault) → meant ≡ Err Folder → Gives r meant → Fits x r
-fits_unasked x meant (Ok y) e g = let wrong : Err Folder ≡ Ok y = sym e ∙ g in cc wrong
-fits_unasked x meant (Err (Fault file at kind)) e g = let wrong : Err Folder ≡ Err (Fault file at kind) = sym e ∙ g in cc wrong
-fits_unasked x meant (Err Folder) e g = tt
-fits_unasked x meant (Err Memory) e g = tt
+once : {X : Type 0} (a b meant other : Result X LoadFault) → (IsNews meant → IsNews other → meant ≡ other) → Gives a meant → Gives b other → Once a b
+once a b meant other same g h n m =
+    let A = given a meant n g in
+    let B = given b other m h in
+    sym A ∙ same (subst (λ z. IsNews z) (sym A) n) (subst (λ z. IsNews z) (sym B) m) ∙ B
 
--- two readings of one query: one tree at most, and no fault beside a tree
-abbrev Agree : Result Surface ReadFault → Result Surface ReadFault → Type 0
-Agree (Ok a) (Ok b) = a ≡ b
-Agree (Ok a) (Err (read.Fault at kind)) = ⊥
-Agree (Ok a) (Err read.Memory) = Unit {0}
-Agree (Err f) q = Unit {0}
+abbrev refused : ReadFault → Result Surface ReadFault
+refused f = Err f
 
--- what is read passes no limit
-beyond : (s : List Token) (a : Surface) (what : List ℕ) (limit : ℕ) → Spells deepest (a_query a) s [] → is_within a ≡ true
-    → ((what ≡ codes "nesting") × (limit ≡ deepest) × IsTooDeep s) ⊎ ((what ≡ codes "expression") × (limit ≡ most_nodes) × IsTooLarge s) → ⊥
-beyond s a what limit spelled within (inl deep) = deep.2 a spelled
-beyond s a what limit spelled within (inr large) = let wrong : true ≡ false = sym within ∙ large.2 a spelled in cc wrong
+of_faults : (f k : ReadFault) → (f ≡ read.Memory) ⊎ ((k ≡ read.Memory) ⊎ (f ≡ k)) → (refused f ≡ refused read.Memory) ⊎ ((refused k ≡ refused read.Memory) ⊎ (refused f ≡ refused k))
+of_faults f k (inl e) = inl (ap refused e)
+of_faults f k (inr (inl e)) = inr (inl (ap refused e))
+of_faults f k (inr (inr e)) = inr (inr (ap refused e))
 
-agree : (ts : List Token) (from : ℕ) (p q : Result Surface ReadFault) → IsQueryRead ts from p → IsQueryRead ts from q → Agree p q
-agree ts from (Ok a) (Ok b) h g = h.2 b (deepest, g.0)
-agree ts from (Ok a) (Err (read.Fault at kinds.Syntax)) h g = g.3 a (deepest, h.0)
-agree ts from (Ok a) (Err (read.Fault at (kinds.TooLarge what limit))) h g = beyond (drop from ts) a what limit h.0 h.1 g.1
-agree ts from (Ok a) (Err (read.Fault at _)) h g = g
-agree ts from (Ok a) (Err read.Memory) h g = tt
-agree ts from (Err f) q h g = tt
+-- two readings of one query are one, but for want of memory
+one_reading : (ts : List Token) (from : ℕ) (p q : Result Surface ReadFault) → IsQueryRead ts from p → IsQueryRead ts from q → (p ≡ Err read.Memory) ⊎ ((q ≡ Err read.Memory) ⊎ (p ≡ q))
+one_reading ts from (Ok a) (Ok b) h g = inr (inr (ap (λ z. Ok z) (h.2 b (deepest, g.0))))
+one_reading ts from (Ok a) (Err f) h g = inr (inl (ap (λ z. Err z) (short (take from ts) (drop from ts) f a g h.0 h.1)))
+one_reading ts from (Err f) (Ok b) h g = inl (ap (λ z. Err z) (short (take from ts) (drop from ts) f b h g.0 g.1))
+one_reading ts from (Err f) (Err k) h g = of_faults f k (one_refusal (take from ts) (drop from ts) f k h g)
 
-module _ (file : List ℕ) (ts : List Token) where
+module _ (fs : List File) (file bytes : List ℕ) where
+  abbrev ts : List Token
+  ts = file_tokens bytes
+
   abbrev next : Read → Option Surface → Result Whole ReadFault
   next r q = Ok (record { parts = r.parts; query = q })
 
@@ -86,144 +79,119 @@ module _ (file : List ℕ) (ts : List Token) where
   abbrev whole_with : Result Read ReadFault → Result Surface ReadFault → Result Whole ReadFault
   whole_with st q = st onto λ r. body (is_seed_text r.parts.kind) r.before r.rest q onto next r
 
-  -- what was read without its query is read with any
-  body_free : (seed : Bool) (before : ℕ) (rest : List Token) (r : Read) (f : ReadFault) (w : Whole) (q : Result Surface ReadFault)
-      → (body seed before rest (Err f) onto next r) ≡ Ok w → (body seed before rest q onto next r) ≡ Ok w
-  body_free true before rest r f w q e = e
-  body_free false before rest r f w q e = cc e
+  -- what is read of a query for which memory is wanting is wanting too, or it is the same with any
+  body_free : (seed : Bool) (before : ℕ) (rest : List Token) (r : Read) (q : Result Surface ReadFault)
+      → ((body seed before rest (Err read.Memory) onto next r) ≡ Err read.Memory) ⊎ ((body seed before rest (Err read.Memory) onto next r) ≡ (body seed before rest q onto next r))
+  body_free true before rest r q = inr refl
+  body_free false before rest r q = inl refl
 
-  whole_free : (st : Result Read ReadFault) (f : ReadFault) (w : Whole) (q : Result Surface ReadFault) → whole_with st (Err f) ≡ Ok w → whole_with st q ≡ Ok w
-  whole_free (Ok r) f w q e = body_free (is_seed_text r.parts.kind) r.before r.rest r f w q e
-  whole_free (Err g) f w q e = cc e
+  whole_free : (st : Result Read ReadFault) (q : Result Surface ReadFault) → (whole_with st (Err read.Memory) ≡ Err read.Memory) ⊎ (whole_with st (Err read.Memory) ≡ whole_with st q)
+  whole_free (Ok r) q = body_free (is_seed_text r.parts.kind) r.before r.rest r q
+  whole_free (Err f) q = inr refl
 
-  -- where memory is wanting for a query, what was read is the same or wants memory
-  body_wanting : (seed : Bool) (before : ℕ) (rest : List Token) (r : Read) (w : Whole) (q : Result Surface ReadFault)
-      → (body seed before rest q onto next r) ≡ Ok w → ((body seed before rest (Err read.Memory) onto next r) ≡ Ok w) ⊎ ((body seed before rest (Err read.Memory) onto next r) ≡ Err read.Memory)
-  body_wanting true before rest r w q e = inl e
-  body_wanting false before rest r w q e = inr refl
+  wanting : (token : Option ReadFault) → (with_tokens ts token (Err read.Memory) onto finished file) ≡ Err read.Memory
+  wanting None = refl
+  wanting (Some t) = refl
 
-  whole_wanting : (st : Result Read ReadFault) (w : Whole) (q : Result Surface ReadFault) → whole_with st q ≡ Ok w → (whole_with st (Err read.Memory) ≡ Ok w) ⊎ (whole_with st (Err read.Memory) ≡ Err read.Memory)
-  whole_wanting (Ok r) w q e = body_wanting (is_seed_text r.parts.kind) r.before r.rest r w q e
-  whole_wanting (Err g) w q e = cc e
-
-  unhurt : (token : Option ReadFault) (r : Result Whole ReadFault) (w : Whole) → with_tokens ts token r ≡ Ok w → (token ≡ None) × (r ≡ Ok w)
-  unhurt None r w e = (refl, e)
-  unhurt (Some t) (Ok x) w e = cc e
-  unhurt (Some t) (Err f) w e = by (is_want ts f) e
+  -- what the file says where memory is wanting for the query, and there is news, is what it says with any
+  text_free : (q : Result Surface ReadFault) → IsNews (text_says fs file bytes (Err read.Memory)) → text_says fs file bytes (Err read.Memory) ≡ text_says fs file bytes q
+  text_free q n = either (whole_free (statement file ts) q)
     where
-      by : (b : Bool) → cond b (Err t) (Err f) ≡ Ok w → (Some t ≡ None) × (Err f ≡ Ok w)
-      by true g = cc g
-      by false g = cc g
+      says : Result Whole ReadFault → Result FileSays LoadFault
+      says w = in_file file (with_tokens ts (file_fault bytes) w onto finished file) >>= model_says fs
 
-  bound : {A B : Type 0} (r : Result A ReadFault) (go : A → Result B ReadFault) (y : B) → (r onto go) ≡ Ok y → (x : A) × (r ≡ Ok x) × (go x ≡ Ok y)
-  bound (Ok x) go y e = (x, refl, e)
-  bound (Err f) go y e = cc e
+      either : (whole_with (statement file ts) (Err read.Memory) ≡ Err read.Memory) ⊎ (whole_with (statement file ts) (Err read.Memory) ≡ whole_with (statement file ts) q)
+          → text_says fs file bytes (Err read.Memory) ≡ text_says fs file bytes q
+      either (inl e) =
+          let none : text_says fs file bytes (Err read.Memory) ≡ Err Memory = ap says e ∙ ap (λ m. in_file file m >>= model_says fs) (wanting (file_fault bytes)) in
+          absurd (subst (λ z. IsNews z) none n)
+      either (inr e) = ap says e
 
-  module _ (token : Option ReadFault) where
-    abbrev M : Result Surface ReadFault → Result ModelText ReadFault
-    M q = model_of file ts token q
-
-    -- the model that was read is read again, or memory is wanting
-    again : (p q : Result Surface ReadFault) (text : ModelText) → Agree p q → M p ≡ Ok text → (M q ≡ Ok text) ⊎ (M q ≡ Err read.Memory)
-    again (Ok a) (Ok b) text h e = inl (ap (λ t. M (Ok t)) (sym h) ∙ e)
-    again (Ok a) (Err (read.Fault at kind)) text h e = absurd h
-    again (Ok a) (Err read.Memory) text h e =
-        let w = bound (with_tokens ts token (whole file ts (Ok a))) (finished file) text e in
-        let u = unhurt token (whole file ts (Ok a)) w.0 w.1 in
-        either w.0 w.2 u.0 (whole_wanting (statement file ts) w.0 (Ok a) u.1)
-      where
-        either : (w : Whole) → finished file w ≡ Ok text → token ≡ None
-            → (whole file ts (Err read.Memory) ≡ Ok w) ⊎ (whole file ts (Err read.Memory) ≡ Err read.Memory) → (M (Err read.Memory) ≡ Ok text) ⊎ (M (Err read.Memory) ≡ Err read.Memory)
-        either w f none (inl same) = inl (ap (λ t. with_tokens ts t (whole file ts (Err read.Memory)) onto finished file) none ∙ ap (λ r. r onto finished file) same ∙ f)
-        either w f none (inr out) = inr (ap (λ t. with_tokens ts t (whole file ts (Err read.Memory)) onto finished file) none ∙ ap (λ r. r onto finished file) out)
-    again (Err f) q text h e =
-        let w = bound (with_tokens ts token (whole file ts (Err f))) (finished file) text e in
-        let u = unhurt token (whole file ts (Err f)) w.0 w.1 in
-        let same : whole file ts q ≡ Ok w.0 = whole_free (statement file ts) f w.0 q u.1 in
-        inl (ap (λ t. with_tokens ts t (whole file ts q) onto finished file) u.0 ∙ ap (λ r. r onto finished file) same ∙ w.2)
+  text_once : (a b : Result FileSays LoadFault) → IsTextRead fs file bytes a → IsTextRead fs file bytes b → Once a b
+  text_once a b h g = once a b (text_says fs file bytes h.0) (text_says fs file bytes g.0) (either (one_reading ts (query_at file ts) h.0 g.0 h.1 g.1)) h.2 g.2
+    where
+      either : (h.0 ≡ Err read.Memory) ⊎ ((g.0 ≡ Err read.Memory) ⊎ (h.0 ≡ g.0)) → IsNews (text_says fs file bytes h.0) → IsNews (text_says fs file bytes g.0) → text_says fs file bytes h.0 ≡ text_says fs file bytes g.0
+      either (inl e) n m = let f = ap (λ z. text_says fs file bytes z) e in f ∙ text_free g.0 (subst (λ z. IsNews z) f n)
+      either (inr (inl e)) n m = let f = ap (λ z. text_says fs file bytes z) e in sym (f ∙ text_free h.0 (subst (λ z. IsNews z) f m))
+      either (inr (inr e)) n m = ap (λ z. text_says fs file bytes z) e
 
 module _ (fs : List File) where
-  told : (file : List ℕ) (r : Result ModelText ReadFault) (s : FileSays) → (in_file file r >>= model_says fs) ≡ Ok s → (text : ModelText) × (r ≡ Ok text)
-  told file (Ok text) s e = (text, refl)
-  told file (Err f) s e = cc e
+  content_once : (file : List ℕ) (meant : Result (Option (List ℕ)) LoadFault) (a b : Result FileSays LoadFault) → IsContentRead fs file meant a → IsContentRead fs file meant b → Once a b
+  content_once file (Ok None) a b h g = once a b (Ok Nothing) (Ok Nothing) (λ n m. refl) h g
+  content_once file (Ok (Some bytes)) a b h g = text_once fs file bytes a b h g
+  content_once file (Err f) a b h g = once a b (Err f) (Err f) (λ n m. refl) h g
 
-  text_fits : (file bytes : List ℕ) (s : FileSays) (r : Result FileSays LoadFault) → IsTextRead fs file bytes (Ok s) → IsTextRead fs file bytes r → Fits s r
-  text_fits file bytes s r h g =
-      let ts = file_tokens bytes in
-      let token = file_fault bytes in
-      let t = told file (model_of file ts token h.0) s h.2 in
-      either t.0 t.1 (again file ts token h.0 g.0 t.0 (agree ts (query_at file ts) h.0 g.0 h.1 g.1) t.1)
+  file_once : (path : List ℕ) (a b : Result FileSays LoadFault) → IsFileRead fs path a → IsFileRead fs path b → Once a b
+  file_once path a b = either (is_python path)
     where
-      either : (text : ModelText) → model_of file (file_tokens bytes) (file_fault bytes) h.0 ≡ Ok text
-          → (model_of file (file_tokens bytes) (file_fault bytes) g.0 ≡ Ok text) ⊎ (model_of file (file_tokens bytes) (file_fault bytes) g.0 ≡ Err read.Memory) → Fits s r
-      either text is (inl same) = fits_same s (text_says fs file bytes g.0) r (ap (λ m. in_file file m >>= model_says fs) (same ∙ sym is) ∙ h.2) g.2
-      either text is (inr out) = fits_wanting s (text_says fs file bytes g.0) r (ap (λ m. in_file file m >>= model_says fs) out) g.2
+      either : (p : Bool) → IsReadAs fs (below_models path) p a → IsReadAs fs (below_models path) p b → Once a b
+      either true h g = once a b _ _ (λ n m. refl) h g
+      either false h g = content_once (below_models path) _ a b h g
 
-  content_fits : (file : List ℕ) (meant : Result (Option (List ℕ)) LoadFault) (s : FileSays) (r : Result FileSays LoadFault) → IsContentRead fs file meant (Ok s) → IsContentRead fs file meant r → Fits s r
-  content_fits file (Ok None) s r h g = fits_same s (Ok Nothing) r h g
-  content_fits file (Ok (Some bytes)) s r h g = text_fits file bytes s r h g
-  content_fits file (Err f) s r h g = cc h
-
-  file_fits : (path : List ℕ) (s : FileSays) (r : Result FileSays LoadFault) → IsFileRead fs path (Ok s) → IsFileRead fs path r → Fits s r
-  file_fits path s r = either (is_python path)
-    where
-      either : (b : Bool) → IsReadAs fs (below_models path) b (Ok s) → IsReadAs fs (below_models path) b r → Fits s r
-      either true h g = cc h
-      either false h g = content_fits (below_models path) _ s r h g
+  -- what was read ends with this answer
+  ends : {a : Result Gathered LoadFault} (f : LoadFault) → IsNews a → Gives a (Err f) → (s : Result FileSays LoadFault) → s ≡ Err f → (Err f ≡ a) × IsNews s
+  ends {a = a} (Fault file at kind) n g s e = (given a _ n g, subst (λ z. IsNews z) (sym e) tt)
+  ends {a = a} Folder n g s e = let wrong : Err Folder ≡ a = given a _ n g in absurd (subst (λ z. IsNews z) (sym wrong) n)
+  ends {a = a} Memory n g s e = let wrong : Err Memory ≡ a = given a _ n g in absurd (subst (λ z. IsNews z) (sym wrong) n)
 
   -- one file, and then those that are left
-  files_fit : (path : List ℕ) (paths : List (List ℕ)) (g a : Gathered) (r : Result Gathered LoadFault) (s t : Result FileSays LoadFault)
-      → ((x : Gathered) → AreRead fs x paths (Ok a) → AreRead fs x paths r → Fits a r) → IsFileRead fs path s → IsFileRead fs path t
-      → Then s (λ x. AreRead fs (with_file g x) paths (Ok a)) (Ok a) → Then t (λ x. AreRead fs (with_file g x) paths r) r → Fits a r
-  files_fit path paths g a r (Err f) t left p q u v = cc u
-  files_fit path paths g a r (Ok x) (Ok y) left p q u v =
-      let same : x ≡ y = file_fits path x (Ok y) p q in
-      left (with_file g x) u (subst (λ z. AreRead fs (with_file g z) paths r) (sym same) v)
-  files_fit path paths g a r (Ok x) (Err (Fault f at kind)) left p q u v = absurd (file_fits path x (Err (Fault f at kind)) p q)
-  files_fit path paths g a r (Ok x) (Err Folder) left p q u v = fits_unasked a (Err Folder) r refl v
-  files_fit path paths g a r (Ok x) (Err Memory) left p q u v = fits_wanting a (Err Memory) r refl v
+  files_once : (path : List ℕ) (paths : List (List ℕ)) (g : Gathered) (a b : Result Gathered LoadFault) (s t : Result FileSays LoadFault)
+      → ((x : Gathered) → AreRead fs x paths a → AreRead fs x paths b → Once a b) → IsFileRead fs path s → IsFileRead fs path t
+      → Then s (λ x. AreRead fs (with_file g x) paths a) a → Then t (λ x. AreRead fs (with_file g x) paths b) b → Once a b
+  files_once path paths g a b (Ok x) (Ok y) left p q u v n m =
+      let both : Ok x ≡ Ok y = file_once path (Ok x) (Ok y) p q tt tt in
+      let same : x ≡ y = cc in
+      left (with_file g x) u (subst (λ z. AreRead fs (with_file g z) paths b) (sym same) v) n m
+  files_once path paths g a b (Ok x) (Err f) left p q u v n m =
+      let e = ends f m v (Err f) refl in
+      let wrong : Ok x ≡ Err f = file_once path (Ok x) (Err f) p q tt e.1 in
+      cc
+  files_once path paths g a b (Err f) (Ok y) left p q u v n m =
+      let e = ends f n u (Err f) refl in
+      let wrong : Err f ≡ Ok y = file_once path (Err f) (Ok y) p q e.1 tt in
+      cc
+  files_once path paths g a b (Err f) (Err k) left p q u v n m =
+      let e = ends f n u (Err f) refl in
+      let d = ends k m v (Err k) refl in
+      let both : Err f ≡ Err k = file_once path (Err f) (Err k) p q e.1 d.1 in
+      let same : f ≡ k = cc in
+      sym e.0 ∙ ap (λ z. Err z) same ∙ d.0
 
-  read_fits : (paths : List (List ℕ)) (g a : Gathered) (r : Result Gathered LoadFault) → AreRead fs g paths (Ok a) → AreRead fs g paths r → Fits a r
-  read_fits [] g a r h k = fits_same a (Ok g) r h k
-  read_fits (path ∷ paths) g a r h k = files_fit path paths g a r h.0 k.0 (λ x. read_fits paths x a r) h.1 k.1 h.2 k.2
+  read_once : (paths : List (List ℕ)) (g : Gathered) (a b : Result Gathered LoadFault) → AreRead fs g paths a → AreRead fs g paths b → Once a b
+  read_once [] g a b h k = once a b (Ok g) (Ok g) (λ n m. refl) h k
+  read_once (path ∷ paths) g a b h k = files_once path paths g a b h.0 k.0 (λ x. read_once paths x a b) h.1 k.1 h.2 k.2
 
-abbrev together : Result (List Decl) LoadFault → Result (List (List ℕ)) LoadFault → Result Gathered LoadFault → Result (List Model) LoadFault
-together s p g = s >>= λ sources. p >>= λ paths. g >>= λ x. built sources x
+  abbrev together : Result (List Decl) LoadFault → Result (List (List ℕ)) LoadFault → Result Gathered LoadFault → Result (List Model) LoadFault
+  together s p g = s >>= λ sources. p >>= λ paths. g >>= λ x. built sources x
 
--- what means models was gathered
-gathered : (s : Result (List Decl) LoadFault) (p : Result (List (List ℕ)) LoadFault) (g : Result Gathered LoadFault) (ms : List Model) → together s p g ≡ Ok ms → (x : Gathered) × (g ≡ Ok x)
-gathered (Ok s) (Ok p) (Ok x) ms e = (x, refl)
-gathered (Ok s) (Ok p) (Err f) ms e = cc e
-gathered (Ok s) (Err f) g ms e = cc e
-gathered (Err f) p g ms e = cc e
+  -- where there is news although nothing was gathered, there is the same news with anything
+  together_free : (s : Result (List Decl) LoadFault) (p : Result (List (List ℕ)) LoadFault) (f : LoadFault) (g : Result Gathered LoadFault) → (IsNews {X = Gathered} (Err f) → ⊥) → IsNews (together s p (Err f)) → together s p (Err f) ≡ together s p g
+  together_free (Ok s) (Ok p) (Fault file at kind) g none n = absurd (none tt)
+  together_free (Ok s) (Ok p) Folder g none n = absurd n
+  together_free (Ok s) (Ok p) Memory g none n = absurd n
+  together_free (Ok s) (Err h) f g none n = refl
+  together_free (Err h) p f g none n = refl
 
--- where nothing more was wanting than what was gathered, its refusal is the answer
-refused : (s : Result (List Decl) LoadFault) (p : Result (List (List ℕ)) LoadFault) (g : Result Gathered LoadFault) (ms : List Model) (f : LoadFault) → together s p g ≡ Ok ms → together s p (Err f) ≡ Err f
-refused (Ok s) (Ok p) g ms f e = refl
-refused (Ok s) (Err h) g ms f e = cc e
-refused (Err h) p g ms f e = cc e
+  meant_once : (g k : Result Gathered LoadFault) → Once g k → IsNews (meaning fs g) → IsNews (meaning fs k) → meaning fs g ≡ meaning fs k
+  meant_once (Err Folder) k same n m = together_free (sources_in fs) (paths_within fs) Folder k (λ z. z) n
+  meant_once (Err Memory) k same n m = together_free (sources_in fs) (paths_within fs) Memory k (λ z. z) n
+  meant_once g (Err Folder) same n m = sym (together_free (sources_in fs) (paths_within fs) Folder g (λ z. z) m)
+  meant_once g (Err Memory) same n m = sym (together_free (sources_in fs) (paths_within fs) Memory g (λ z. z) m)
+  meant_once (Ok g) (Ok k) same n m = ap (λ z. meaning fs z) (same tt tt)
+  meant_once (Ok g) (Err (Fault file at kind)) same n m = ap (λ z. meaning fs z) (same tt tt)
+  meant_once (Err (Fault file at kind)) (Ok k) same n m = ap (λ z. meaning fs z) (same tt tt)
+  meant_once (Err (Fault file at kind)) (Err (Fault other to what)) same n m = ap (λ z. meaning fs z) (same tt tt)
 
-loaded_fits : (fs : List File) (ms : List Model) (r : Result (List Model) LoadFault) → IsLoaded fs (Ok ms) → IsLoaded fs r → Fits ms r
-loaded_fits fs ms r h k =
-    let x = gathered (sources_in fs) (paths_within fs) h.0 ms h.2 in
-    go x.0 x.1 k.0 k.1 k.2
-  where
-    s : Result (List Decl) LoadFault
-    s = sources_in fs
-
-    p : Result (List (List ℕ)) LoadFault
-    p = paths_within fs
-
-    go : (x : Gathered) → h.0 ≡ Ok x → (g : Result Gathered LoadFault) → AreRead fs nothing (project_paths fs) g → Gives r (meaning fs g) → Fits ms r
-    go x is (Ok y) read m =
-        let same : x ≡ y = read_fits fs (project_paths fs) nothing x (Ok y) (subst (λ z. AreRead fs nothing (project_paths fs) z) is h.1) read in
-        fits_same ms (meaning fs (Ok y)) r (ap (λ z. meaning fs z) (ap (λ z. Ok z) (sym same) ∙ sym is) ∙ h.2) m
-    go x is (Err (Fault f at kind)) read m = absurd (read_fits fs (project_paths fs) nothing x (Err (Fault f at kind)) (subst (λ z. AreRead fs nothing (project_paths fs) z) is h.1) read)
-    go x is (Err Folder) read m = fits_unasked ms (meaning fs (Err Folder)) r (refused (sources_in fs) (paths_within fs) h.0 ms Folder h.2) m
-    go x is (Err Memory) read m = fits_wanting ms (meaning fs (Err Memory)) r (refused (sources_in fs) (paths_within fs) h.0 ms Memory h.2) m
+  loaded_once : (a b : Result (List Model) LoadFault) → IsLoaded fs a → IsLoaded fs b → Once a b
+  loaded_once a b h k = once a b (meaning fs h.0) (meaning fs k.0) (meant_once h.0 k.0 (read_once (project_paths fs) nothing h.0 k.0 h.1 k.1)) h.2 k.2
 
 pub means_one : (fs : List File) (a b : List Model) → IsLoaded fs (Ok a) → IsLoaded fs (Ok b) → a ≡ b
-means_one fs a b h k = loaded_fits fs a (Ok b) h k
+means_one fs a b h k = let same : Ok a ≡ Ok b = loaded_once fs (Ok a) (Ok b) h k tt tt in cc
 
 pub never_faulty : (fs : List File) (a : List Model) (file : List ℕ) (at : ℕ) (kind : FaultKind) → IsLoaded fs (Ok a) → IsLoaded fs (Err (Fault file at kind)) → ⊥
-never_faulty fs a file at kind h k = loaded_fits fs a (Err (Fault file at kind)) h k
+never_faulty fs a file at kind h k = let wrong : Ok a ≡ Err (Fault file at kind) = loaded_once fs (Ok a) (Err (Fault file at kind)) h k tt tt in cc
+
+pub one_fault : (fs : List File) (file other : List ℕ) (at to : ℕ) (kind what : FaultKind) → IsLoaded fs (Err (Fault file at kind)) → IsLoaded fs (Err (Fault other to what)) → (file ≡ other) × (at ≡ to) × (kind ≡ what)
+one_fault fs file other at to kind what h k =
+    let both : Err (Fault file at kind) ≡ Err (Fault other to what) = loaded_once fs (Err (Fault file at kind)) (Err (Fault other to what)) h k tt tt in
+    (cc, cc, cc)

@@ -1,2 +1,6 @@
 pub mod Refused
 pub mod Descent
+pub mod Counted
+pub mod Steps
+pub mod Stops
+pub mod OneRefusal

@@ -1,5 +1,5 @@
 -- Why tokens are refused, and where they go wrong.
-use Rattle.std.specs.Prelude.{◌≡◌, ℕ, List, [], ◌∷◌, ◌++◌, codes, drop, ◌⊎◌, false}
+use Rattle.std.specs.Prelude.{◌≡◌, ◌<◌, ◌+◌, ℕ, List, [], ◌∷◌, ◌++◌, codes, drop, ◌⊎◌, false, Some}
 use Rattle.mesh_tokens.specs.declared.tokens.Token.{Token}
 use Rattle.mesh_tokens.specs.declared.faults.FaultKind.TheVariants.{Syntax, TooLarge}
 use Rattle.mesh_tokens.specs.declared.faults.ReadFault.{ReadFault}
@@ -9,8 +9,12 @@ use Rattle.mesh_words.specs.declared.fault.Fault.TheVariants as fault
 use Rattle.mesh_words.specs.Places.{deepest}
 use Rattle.mesh_surface.specs.declared.queries.Surface.{Surface}
 use Rattle.mesh_grammar.specs.Grammar.{query, Spells}
+use Rattle.mesh_grammar.specs.Rules.{query as the_query}
+use Rattle.mesh_grammar.specs.Plans.{plan}
+use Rattle.mesh_grammar.specs.Machine.{next, Cause, syntax, nesting}
 use Rattle.mesh_grammar.specs.Beginnings.{IsQuery, IsLongestBegun}
 use Rattle.mesh_query.specs.Sizes.{is_within, most_nodes}
+use Rattle.mesh_query.specs.Counts.{GoesWrong, Reads}
 
 -- the end of the last token, or 0 where there is none
 abbrev pub end_of : List Token → ℕ
@@ -26,9 +30,24 @@ IsNoQuery s = (tree : Surface) → IsQuery tree s → ⊥
 abbrev pub IsTooDeep : List Token → Type 0
 IsTooDeep s = (tree : Surface) → Spells deepest (query tree) s [] → ⊥
 
--- in each query of that depth that the tokens spell, an expression has too many nodes
+-- the tokens are a query of that depth in which an expression has too many nodes
 abbrev pub IsTooLarge : List Token → Type 0
-IsTooLarge s = (tree : Surface) → Spells deepest (query tree) s [] → is_within tree ≡ false
+IsTooLarge s = (tree : Surface) × Spells deepest (query tree) s [] × (is_within tree ≡ false)
+
+-- Reading a query stops in front of the rest, and so many nodes of the expression that is read are left. No rule goes on
+-- there, for that cause, or the query is over and the rest stands behind it.
+abbrev pub StopsAt : List Token → Cause → List Token → ℕ → Type 0
+StopsAt s cause rest left =
+    GoesWrong false cause deepest the_query (plan the_query) s rest (most_nodes + 1) left
+    ⊎ ((cause ≡ syntax) × (k : Token) × (next rest ≡ Some k) × (tree : Surface) × Reads false deepest the_query tree s rest (most_nodes + 1) left)
+
+-- it stops there for that cause, and no expression had too many nodes before
+abbrev pub StopsFirst : List Token → Cause → List Token → Type 0
+StopsFirst s cause rest = (left : ℕ) × (0 < left) × StopsAt s cause rest left
+
+-- it stops somewhere, and an expression had too many nodes before
+abbrev pub IsCrowded : List Token → Type 0
+IsCrowded s = (cause : Cause) × (rest : List Token) × StopsAt s cause rest 0
 
 -- a limit is passed, or memory is out
 abbrev pub IsLimit : List ℕ → ℕ → ReadFault → Type 0
@@ -36,17 +55,21 @@ IsLimit name most Memory = Unit {0}
 IsLimit name most (Fault at (TooLarge what limit)) = (at ≡ 0) × (what ≡ name) × (limit ≡ most)
 IsLimit name most (Fault at _) = ⊥
 
--- No query: what is before the token at fault is the longest beginning of one. Or no query of the depth that is allowed.
--- Or memory is out.
-abbrev pub IsAmiss : List Token → List Token → TokenFault → Type 0
-IsAmiss ts s fault.Memory = Unit {0}
-IsAmiss ts s (fault.Syntax q) = (front : List Token) × (s ≡ front ++ drop q ts) × IsLongestBegun s front × IsNoQuery s
-IsAmiss ts s fault.Nesting = IsTooDeep s
+-- Reading stops at the token at fault, and so many nodes are left then: what is before it is the longest beginning of a
+-- query. Or it stops where too much is open, and there is no query of the depth that is allowed. Or memory is out.
+abbrev pub IsAmiss : List Token → List Token → ℕ → TokenFault → Type 0
+IsAmiss ts s left fault.Memory = Unit {0}
+IsAmiss ts s left (fault.Syntax q) = StopsAt s syntax (drop q ts) left × ((front : List Token) × (s ≡ front ++ drop q ts) × IsLongestBegun s front) × IsNoQuery s
+IsAmiss ts s left fault.Nesting = ((rest : List Token) × StopsAt s nesting rest left) × IsTooDeep s
 
--- The tokens behind those before are refused: they are no query, and the place is the end of the longest beginning of one;
--- or no query of the depth that is allowed; or none in which no expression has too many nodes; or memory is out.
+-- The tokens behind those before are refused. They are no query, and the place is the end of the longest beginning of one,
+-- behind which reading stops. Or they are no query of the depth that is allowed, and reading stops where more is opened.
+-- Or an expression has too many nodes, in a query of that depth or before reading stops. Or memory is out.
 abbrev pub IsRefusal : List Token → List Token → ReadFault → Type 0
 IsRefusal before s Memory = Unit {0}
-IsRefusal before s (Fault at Syntax) = (front : List Token) × IsLongestBegun s front × (at ≡ end_of (before ++ front)) × IsNoQuery s
-IsRefusal before s (Fault at (TooLarge what limit)) = (at ≡ 0) × (((what ≡ codes "nesting") × (limit ≡ deepest) × IsTooDeep s) ⊎ ((what ≡ codes "expression") × (limit ≡ most_nodes) × IsTooLarge s))
+IsRefusal before s (Fault at Syntax) = IsNoQuery s × ((front rest : List Token) × (s ≡ front ++ rest) × IsLongestBegun s front × (at ≡ end_of (before ++ front)) × StopsFirst s syntax rest)
+IsRefusal before s (Fault at (TooLarge what limit)) =
+    (at ≡ 0)
+    × (((what ≡ codes "nesting") × (limit ≡ deepest) × IsTooDeep s × ((rest : List Token) × StopsFirst s nesting rest))
+    ⊎ ((what ≡ codes "expression") × (limit ≡ most_nodes) × (IsTooLarge s ⊎ IsCrowded s)))
 IsRefusal before s (Fault at _) = ⊥

@@ -33,7 +33,7 @@ pub fn expr(
     depth: u32,
     from: usize,
 ) -> Result<(OrExpr, usize), Fault>
-    ensures { Answers depth an_expr tokens.now from result }
+    ensures { Answers true depth an_expr tokens.now from nodes.old.left nodes.new.left result }
 {
     let (first, mut at) = conjunction(alloc, tokens, nodes, depth, from)?;
     let mut parts = Seq::new(alloc);
@@ -60,7 +60,7 @@ fn conjunction(
     depth: u32,
     from: usize,
 ) -> Result<(AndExpr, usize), Fault>
-    ensures { Answers depth a_conjunction tokens.now from result }
+    ensures { Answers true depth a_conjunction tokens.now from nodes.old.left nodes.new.left result }
 {
     let (first, mut at) = negation(alloc, tokens, nodes, depth, from)?;
     let mut parts = Seq::new(alloc);
@@ -86,7 +86,7 @@ fn negation(
     depth: u32,
     from: usize,
 ) -> Result<(NotExpr, usize), Fault>
-    ensures { Answers depth a_negation tokens.now from result }
+    ensures { Answers true depth a_negation tokens.now from nodes.old.left nodes.new.left result }
 {
     let at = place(tokens, from);
     if is_word(tokens, from, b"not") {
@@ -109,7 +109,7 @@ fn pred(
     depth: u32,
     from: usize,
 ) -> Result<(Pred, usize), Fault>
-    ensures { Answers depth a_pred tokens.now from result }
+    ensures { Answers true depth a_pred tokens.now from nodes.old.left nodes.new.left result }
 {
     let (left, at) = cat(alloc, tokens, nodes, depth, from)?;
     let (test, next) = test(alloc, tokens, nodes, depth, at)?;
@@ -129,7 +129,7 @@ fn test(
     depth: u32,
     from: usize,
 ) -> Result<(Test, usize), Fault>
-    ensures { Answers depth tested tokens.now from result }
+    ensures { Answers true depth tested tokens.now from nodes.old.left nodes.new.left result }
 {
     if is_word(tokens, from, b"is") {
         nodes.meet();
@@ -161,7 +161,7 @@ fn is_range(tokens: &[Token], at: usize) -> bool
 
 // What stands behind IS.
 fn null_test(tokens: &[Token], from: usize) -> Result<(Test, usize), Fault>
-    ensures { (n : ℕ) → AnswersOn n tested behind_is tokens.now from result }
+    ensures { (n c : ℕ) → AnswersOn true n tested behind_is tokens.now from c c result }
 {
     if is_word(tokens, from, b"not") {
         let at = word(tokens, from + 1, b"null")?;
@@ -181,7 +181,7 @@ fn range_test(
     depth: u32,
     from: usize,
 ) -> Result<(Test, usize), Fault>
-    ensures { Answers depth (ranged negated) tokens.now from result }
+    ensures { Answers true depth (ranged negated) tokens.now from nodes.old.left nodes.new.left result }
 {
     if is_word(tokens, from, b"between") {
         nodes.meet();
@@ -202,7 +202,7 @@ fn between(
     depth: u32,
     from: usize,
 ) -> Result<(Test, usize), Fault>
-    ensures { AnswersOn depth (ranged negated) (behind_between negated) tokens.now from result }
+    ensures { AnswersOn true depth (ranged negated) (behind_between negated) tokens.now from nodes.old.left nodes.new.left result }
 {
     let (low, at) = cat(alloc, tokens, nodes, depth, from)?;
     let at = word(tokens, at, b"and")?;
@@ -221,7 +221,7 @@ fn one_of(
     depth: u32,
     from: usize,
 ) -> Result<(Test, usize), Fault>
-    ensures { AnswersOn depth (ranged negated) (behind_in negated) tokens.now from result }
+    ensures { AnswersOn true depth (ranged negated) (behind_in negated) tokens.now from nodes.old.left nodes.new.left result }
 {
     let at = sign(tokens, from, b"(")?;
     let deeper = nested(depth)?;
@@ -239,7 +239,7 @@ fn cat(
     depth: u32,
     from: usize,
 ) -> Result<(CatExpr, usize), Fault>
-    ensures { Answers depth a_cat tokens.now from result }
+    ensures { Answers true depth a_cat tokens.now from nodes.old.left nodes.new.left result }
 {
     let (first, mut at) = sum(alloc, tokens, nodes, depth, from)?;
     let mut parts = Seq::new(alloc);
@@ -266,7 +266,7 @@ fn sum(
     depth: u32,
     from: usize,
 ) -> Result<(AddExpr, usize), Fault>
-    ensures { Answers depth a_sum tokens.now from result }
+    ensures { Answers true depth a_sum tokens.now from nodes.old.left nodes.new.left result }
 {
     let (first, mut at) = product(alloc, tokens, nodes, depth, from)?;
     let mut rest = Seq::new(alloc);
@@ -297,7 +297,7 @@ fn product(
     depth: u32,
     from: usize,
 ) -> Result<(MulExpr, usize), Fault>
-    ensures { Answers depth a_product tokens.now from result }
+    ensures { Answers true depth a_product tokens.now from nodes.old.left nodes.new.left result }
 {
     let (first, mut at) = unary(alloc, tokens, nodes, depth, from)?;
     let mut rest = Seq::new(alloc);
@@ -327,7 +327,7 @@ fn unary(
     depth: u32,
     from: usize,
 ) -> Result<(Unary, usize), Fault>
-    ensures { Answers depth signed tokens.now from result }
+    ensures { Answers true depth signed tokens.now from nodes.old.left nodes.new.left result }
 {
     let at = place(tokens, from);
     if is_sign(tokens, from, b"-") {
@@ -350,7 +350,7 @@ fn post(
     depth: u32,
     from: usize,
 ) -> Result<(Post, usize), Fault>
-    ensures { Answers depth a_post tokens.now from result }
+    ensures { Answers true depth a_post tokens.now from nodes.old.left nodes.new.left result }
 {
     let (value, mut at) = primary(alloc, tokens, nodes, depth, from)?;
     let mut casts = Seq::new(alloc);
@@ -376,7 +376,7 @@ fn primary(
     depth: u32,
     from: usize,
 ) -> Result<(Primary, usize), Fault>
-    ensures { Answers depth value tokens.now from result }
+    ensures { Answers true depth value tokens.now from nodes.old.left nodes.new.left result }
 {
     if is_sign(tokens, from, b"(") {
         return group(alloc, tokens, nodes, depth, from);
@@ -385,17 +385,17 @@ fn primary(
         return case(alloc, tokens, nodes, depth, from);
     }
     if is_word(tokens, from, b"cast") {
+        nodes.meet();
         return cast(alloc, tokens, nodes, depth, from);
     }
     if is_date(tokens, from) {
         return date(tokens, nodes, from);
     }
     if is_name(tokens, from) {
-        nodes.meet();
         if is_sign(tokens, from + 1, b"(") {
             return call(alloc, tokens, nodes, depth, from);
         }
-        return column(tokens, from);
+        return column(tokens, nodes, from);
     }
     literal(tokens, nodes, from)
 }
@@ -409,7 +409,7 @@ fn group(
     depth: u32,
     from: usize,
 ) -> Result<(Primary, usize), Fault>
-    ensures { Answers depth a_group tokens.now from result }
+    ensures { Answers true depth a_group tokens.now from nodes.old.left nodes.new.left result }
 {
     let at = place(tokens, from);
     let next = sign(tokens, from, b"(")?;
@@ -428,11 +428,10 @@ fn cast(
     depth: u32,
     from: usize,
 ) -> Result<(Primary, usize), Fault>
-    ensures { Answers depth a_cast tokens.now from result }
+    ensures { Answers true depth a_cast tokens.now from nodes.old.left nodes.new.left result }
 {
     let at = place(tokens, from);
     let next = word(tokens, from, b"cast")?;
-    nodes.meet();
     let next = sign(tokens, next, b"(")?;
     let deeper = nested(depth)?;
     let (value, next) = expr(alloc, tokens, nodes, deeper, next)?;
@@ -451,7 +450,7 @@ fn case(
     depth: u32,
     from: usize,
 ) -> Result<(Primary, usize), Fault>
-    ensures { Answers depth a_case tokens.now from result }
+    ensures { Answers true depth a_case tokens.now from nodes.old.left nodes.new.left result }
 {
     let at = place(tokens, from);
     let next = word(tokens, from, b"case")?;
@@ -479,7 +478,7 @@ fn case_operand(
     depth: u32,
     from: usize,
 ) -> Result<(Option<Boxed<OrExpr>>, usize), Fault>
-    ensures { Answers depth operand tokens.now from result }
+    ensures { Answers true depth operand tokens.now from nodes.old.left nodes.new.left result }
 {
     if is_word(tokens, from, b"when") {
         return Ok((None, from));
@@ -498,7 +497,7 @@ fn arms(
     depth: u32,
     from: usize,
 ) -> Result<(Seq<Arm>, usize), Fault>
-    ensures { Answers depth some_arms tokens.now from result }
+    ensures { Answers true depth some_arms tokens.now from nodes.old.left nodes.new.left result }
 {
     let (first, mut at) = arm(alloc, tokens, nodes, depth, from)?;
     let mut arms = Seq::new(alloc);
@@ -519,7 +518,7 @@ fn arm(
     depth: u32,
     from: usize,
 ) -> Result<(Arm, usize), Fault>
-    ensures answers { Answers depth an_arm tokens.now from result }
+    ensures answers { Answers true depth an_arm tokens.now from nodes.old.left nodes.new.left result }
     ensures on { IfOk result (λ p. from < p.1) }
 {
     let next = word(tokens, from, b"when")?;
@@ -542,7 +541,7 @@ fn case_else(
     depth: u32,
     from: usize,
 ) -> Result<(Option<Boxed<OrExpr>>, usize), Fault>
-    ensures { Answers depth otherwise tokens.now from result }
+    ensures { Answers true depth otherwise tokens.now from nodes.old.left nodes.new.left result }
 {
     if is_word(tokens, from, b"else") {
         let (otherwise, next) = expr(alloc, tokens, nodes, depth, from + 1)?;
@@ -565,8 +564,9 @@ fn call(
     requires name { begins is_a_name (drop from tokens.now) ≡ true }
     requires undated { (begins (is_the_word (codes "date")) (drop from tokens.now) && begins is_a_text (drop (from + 1) tokens.now)) ≡ false }
     requires opened { begins (is_the_sign (codes "(")) (drop (from + 1) tokens.now) ≡ true }
-    ensures { AnswersOn depth value (unopened (place_of (drop from tokens.now))) tokens.now from result }
+    ensures { AnswersOn true depth value (unopened (place_of (drop from tokens.now))) tokens.now from nodes.old.left nodes.new.left result }
 {
+    nodes.meet();
     let at = place(tokens, from);
     match function_at(tokens, from) {
         Some(function) => {
@@ -590,7 +590,7 @@ fn args(
     depth: u32,
     from: usize,
 ) -> Result<(Args, usize), Fault>
-    ensures { Answers depth (arguments function) tokens.now from result }
+    ensures { Answers true depth (arguments function) tokens.now from nodes.old.left nodes.new.left result }
 {
     match function {
         Function::Count => count_args(alloc, tokens, nodes, depth, from),
@@ -609,7 +609,7 @@ fn coalesce_args(
     depth: u32,
     from: usize,
 ) -> Result<(Args, usize), Fault>
-    ensures { Answers depth (arguments Coalesce) tokens.now from result }
+    ensures { Answers true depth (arguments Coalesce) tokens.now from nodes.old.left nodes.new.left result }
 {
     let at = place(tokens, from);
     let (values, next) = exprs(alloc, tokens, nodes, depth, from)?;
@@ -625,7 +625,7 @@ fn nullif_args(
     depth: u32,
     from: usize,
 ) -> Result<(Args, usize), Fault>
-    ensures { Answers depth (arguments Nullif) tokens.now from result }
+    ensures { Answers true depth (arguments Nullif) tokens.now from nodes.old.left nodes.new.left result }
 {
     let at = place(tokens, from);
     let (first, next) = expr(alloc, tokens, nodes, depth, from)?;
@@ -646,7 +646,7 @@ fn count_args(
     depth: u32,
     from: usize,
 ) -> Result<(Args, usize), Fault>
-    ensures { Answers depth (arguments Count) tokens.now from result }
+    ensures { Answers true depth (arguments Count) tokens.now from nodes.old.left nodes.new.left result }
 {
     let at = place(tokens, from);
     if is_sign(tokens, from, b"*") {
@@ -668,7 +668,7 @@ fn one_arg(
     depth: u32,
     from: usize,
 ) -> Result<(Args, usize), Fault>
-    ensures { (f : Functions) → AnswersOn depth (arguments f) (one_alone f (place_of (drop from tokens.now))) tokens.now from result }
+    ensures { (f : Functions) → AnswersOn true depth (arguments f) (one_alone f (place_of (drop from tokens.now))) tokens.now from nodes.old.left nodes.new.left result }
 {
     let at = place(tokens, from);
     let (value, next) = expr(alloc, tokens, nodes, depth, from)?;
@@ -686,7 +686,7 @@ fn exprs(
     depth: u32,
     from: usize,
 ) -> Result<(Seq<OrExpr>, usize), Fault>
-    ensures { Answers depth some_exprs tokens.now from result }
+    ensures { Answers true depth some_exprs tokens.now from nodes.old.left nodes.new.left result }
 {
     let (first, mut at) = expr(alloc, tokens, nodes, depth, from)?;
     let mut list = Seq::new(alloc);

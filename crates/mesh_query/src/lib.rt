@@ -5,6 +5,7 @@
 #![tactic(auto)]
 
 mod expressions;
+mod laws;
 mod literals;
 mod nodes;
 mod queries;
@@ -16,5 +17,6 @@ mod sizes;
 #[cfg(test)]
 mod tests;
 
+pub use laws::one_refusal;
 pub use mesh_tokens::tokens_of as tokens;
 pub use reader::parse;

@@ -17,7 +17,7 @@ use mesh_words::{Fault, function_of, is_sign, is_word, name, place, word};
 
 /// A number, a text, a macro, or what TRUE, FALSE or NULL spells.
 pub fn literal(tokens: &[Token], nodes: &mut Nodes, from: usize) -> Result<(Primary, usize), Fault>
-    ensures { (n : ℕ) → AnswersOn n value (literal_plan (place_of (drop from tokens.now))) tokens.now from result }
+    ensures { (n : ℕ) → AnswersOn true n value (literal_plan (place_of (drop from tokens.now))) tokens.now from nodes.old.left nodes.new.left result }
 {
     if from >= tokens.len() {
         return Err(Fault::Syntax { token: from });
@@ -45,7 +45,7 @@ pub fn literal(tokens: &[Token], nodes: &mut Nodes, from: usize) -> Result<(Prim
 
 // TRUE, FALSE or NULL.
 fn word_literal(tokens: &[Token], nodes: &mut Nodes, from: usize) -> Result<(Primary, usize), Fault>
-    ensures { (n : ℕ) → AnswersOn n value (word_plan (place_of (drop from tokens.now))) tokens.now from result }
+    ensures { (n : ℕ) → AnswersOn true n value (word_plan (place_of (drop from tokens.now))) tokens.now from nodes.old.left nodes.new.left result }
 {
     let at = place(tokens, from);
     if is_word(tokens, from, b"true") {
@@ -65,7 +65,7 @@ fn word_literal(tokens: &[Token], nodes: &mut Nodes, from: usize) -> Result<(Pri
 /// A date: the word `date` and a text that is a real day.
 pub fn date(tokens: &[Token], nodes: &mut Nodes, from: usize) -> Result<(Primary, usize), Fault>
     requires dated { (begins (is_the_word (codes "date")) (drop from tokens.now) && begins is_a_text (drop (from + 1) tokens.now)) ≡ true }
-    ensures { (n : ℕ) → AnswersOn n value (unopened (place_of (drop from tokens.now))) tokens.now from result }
+    ensures { (n : ℕ) → AnswersOn true n value (unopened (place_of (drop from tokens.now))) tokens.now from nodes.old.left nodes.new.left result }
 {
     let at = place(tokens, from);
     nodes.meet();
@@ -107,12 +107,13 @@ pub fn function_at(tokens: &[Token], at: usize) -> Option<Function>
 }
 
 /// A column, by its own name or behind the name of what it is of.
-pub fn column(tokens: &[Token], from: usize) -> Result<(Primary, usize), Fault>
+pub fn column(tokens: &[Token], nodes: &mut Nodes, from: usize) -> Result<(Primary, usize), Fault>
     requires name { begins is_a_name (drop from tokens.now) ≡ true }
     requires undated { (begins (is_the_word (codes "date")) (drop from tokens.now) && begins is_a_text (drop (from + 1) tokens.now)) ≡ false }
     requires alone { begins (is_the_sign (codes "(")) (drop (from + 1) tokens.now) ≡ false }
-    ensures { (n : ℕ) → AnswersOn n value (unopened (place_of (drop from tokens.now))) tokens.now from result }
+    ensures { (n : ℕ) → AnswersOn true n value (unopened (place_of (drop from tokens.now))) tokens.now from nodes.old.left nodes.new.left result }
 {
+    nodes.meet();
     let at = place(tokens, from);
     let (first, next) = name(tokens, from)?;
     if is_sign(tokens, next, b".") {

@@ -1,11 +1,10 @@
 // Whole queries. Each function reads its form from a token on, and answers it with the place behind it.
 ghost use Rattle.std.specs.Prelude.{◌≡◌, ◌≤◌, ◌||◌, ℕ, Bool, true, false, List, codes, drop};
 ghost use Rattle.mesh_tokens.specs.declared.tokens.Token.{Token as Tokens};
-ghost use Rattle.mesh_grammar.specs.Rules.{Rule, query as a_query, ctes as some_ctes, cte_list as a_cte_list, exprs as some_exprs, cte as a_cte, union as a_union, select as a_select, selected as the_selected, items as some_items, item as an_item, alias as an_alias, condition, keys as some_keys};
+ghost use Rattle.mesh_grammar.specs.Rules.{query as a_query, ctes as some_ctes, cte_list as a_cte_list, exprs as some_exprs, cte as a_cte, union as a_union, select as a_select, selected as the_selected, items as some_items, item as an_item, alias as an_alias, condition, keys as some_keys};
 ghost use Rattle.mesh_grammar.specs.Plans.{Plan, accept, ends_items, is_any, negated, is_word as is_the_word};
 ghost use Rattle.mesh_grammar.specs.Machine.{begins, begins_star};
-ghost use Rattle.mesh_words.specs.Answers.{Onward};
-ghost use Rattle.mesh_query.specs.Answers.{Answers};
+ghost use Rattle.mesh_query.specs.Answers.{Answers, Onward};
 
 use crate::expressions::expr;
 use crate::nodes::Nodes;
@@ -25,7 +24,7 @@ pub fn query(
     depth: u32,
     from: usize,
 ) -> Result<(Surface, usize), Fault>
-    ensures { Answers depth a_query tokens.now from result }
+    ensures { Answers false depth a_query tokens.now from nodes.old.left nodes.new.left result }
 {
     let (ctes, at) = ctes(alloc, tokens, nodes, depth, from)?;
     let (body, at) = union(alloc, tokens, nodes, depth, at)?;
@@ -48,7 +47,7 @@ fn ctes(
     depth: u32,
     from: usize,
 ) -> Result<(Seq<SurfaceCte>, usize), Fault>
-    ensures { Answers depth some_ctes tokens.now from result }
+    ensures { Answers false depth some_ctes tokens.now from nodes.old.left nodes.new.left result }
 {
     if is_word(tokens, from, b"with") {
         return cte_list(alloc, tokens, nodes, depth, from + 1);
@@ -65,7 +64,7 @@ fn cte_list(
     depth: u32,
     from: usize,
 ) -> Result<(Seq<SurfaceCte>, usize), Fault>
-    ensures { Answers depth a_cte_list tokens.now from result }
+    ensures { Answers false depth a_cte_list tokens.now from nodes.old.left nodes.new.left result }
 {
     let (first, mut at) = cte(alloc, tokens, nodes, depth, from)?;
     let mut list = Seq::new(alloc);
@@ -85,7 +84,7 @@ fn cte(
     depth: u32,
     from: usize,
 ) -> Result<(SurfaceCte, usize), Fault>
-    ensures { Answers depth a_cte tokens.now from result }
+    ensures { Answers false depth a_cte tokens.now from nodes.old.left nodes.new.left result }
 {
     let (name, next) = name(tokens, from)?;
     let next = word(tokens, next, b"as")?;
@@ -109,7 +108,7 @@ fn union(
     depth: u32,
     from: usize,
 ) -> Result<(SurfaceUnion, usize), Fault>
-    ensures { Answers depth a_union tokens.now from result }
+    ensures { Answers false depth a_union tokens.now from nodes.old.left nodes.new.left result }
 {
     let (first, mut at) = select(alloc, tokens, nodes, depth, from)?;
     let mut selects = Seq::new(alloc);
@@ -134,7 +133,7 @@ fn select(
     depth: u32,
     from: usize,
 ) -> Result<(SurfaceSelect, usize), Fault>
-    ensures { Answers depth a_select tokens.now from result }
+    ensures { Answers false depth a_select tokens.now from nodes.old.left nodes.new.left result }
 {
     let at = place(tokens, from);
     let next = word(tokens, from, b"select")?;
@@ -152,7 +151,7 @@ fn selected(
     distinct: bool,
     from: usize,
 ) -> Result<(SurfaceSelect, usize), Fault>
-    ensures { Answers depth (the_selected at distinct) tokens.now from result }
+    ensures { Answers false depth (the_selected at distinct) tokens.now from nodes.old.left nodes.new.left result }
 {
     let (items, next) = items(alloc, tokens, nodes, depth, from)?;
     let (from, next) = source(alloc, tokens, nodes, depth, next)?;
@@ -173,7 +172,7 @@ fn selected(
 
 fn distinct(tokens: &[Token], from: usize) -> (bool, usize)
     ensures on { from ≤ result.1 }
-    ensures left { (n : ℕ) (r : Rule) (s : List Tokens) (f : Bool → Plan r) → Onward n r s (accept (is_the_word (codes "distinct")) (λ _. f true) (f false)) (drop from tokens.now) → Onward n r s (f result.0) (drop result.1 tokens.now) }
+    ensures left { (n c d : ℕ) (s : List Tokens) (f : Bool → Plan a_select) → Onward false n a_select s (accept (is_the_word (codes "distinct")) (λ _. f true) (f false)) (drop from tokens.now) c d → Onward false n a_select s (f result.0) (drop result.1 tokens.now) c d }
 {
     if is_word(tokens, from, b"distinct") {
         (true, from + 1)
@@ -190,7 +189,7 @@ fn items(
     depth: u32,
     from: usize,
 ) -> Result<(Seq<SurfaceItem>, usize), Fault>
-    ensures { Answers depth some_items tokens.now from result }
+    ensures { Answers false depth some_items tokens.now from nodes.old.left nodes.new.left result }
 {
     let (first, mut at) = item(alloc, tokens, nodes, depth, from)?;
     let mut list = Seq::new(alloc);
@@ -228,7 +227,7 @@ fn item(
     depth: u32,
     from: usize,
 ) -> Result<(SurfaceItem, usize), Fault>
-    ensures { Answers depth an_item tokens.now from result }
+    ensures { Answers false depth an_item tokens.now from nodes.old.left nodes.new.left result }
 {
     let at = place(tokens, from);
     if is_sign(tokens, from, b"*") {
@@ -256,7 +255,7 @@ fn is_all_of(tokens: &[Token], at: usize) -> bool
 
 /// Another name for what stands before it, if there is one.
 pub fn alias(tokens: &[Token], from: usize) -> Result<(Option<Str>, usize), Fault>
-    ensures { (n : ℕ) → Answers n an_alias tokens.now from result }
+    ensures { (n c : ℕ) → Answers false n an_alias tokens.now from c c result }
 {
     if is_word(tokens, from, b"as") {
         let (alias, next) = name(tokens, from + 1)?;
@@ -276,7 +275,7 @@ fn filter(
     depth: u32,
     from: usize,
 ) -> Result<(Option<OrExpr>, usize), Fault>
-    ensures { Answers depth (condition (codes "where")) tokens.now from result }
+    ensures { Answers false depth (condition (codes "where")) tokens.now from nodes.old.left nodes.new.left result }
 {
     if is_word(tokens, from, b"where") {
         nodes.begin();
@@ -293,7 +292,7 @@ fn having(
     depth: u32,
     from: usize,
 ) -> Result<(Option<OrExpr>, usize), Fault>
-    ensures { Answers depth (condition (codes "having")) tokens.now from result }
+    ensures { Answers false depth (condition (codes "having")) tokens.now from nodes.old.left nodes.new.left result }
 {
     if is_word(tokens, from, b"having") {
         nodes.begin();
@@ -311,7 +310,7 @@ fn keys(
     depth: u32,
     from: usize,
 ) -> Result<(Seq<OrExpr>, usize), Fault>
-    ensures { Answers depth some_keys tokens.now from result }
+    ensures { Answers false depth some_keys tokens.now from nodes.old.left nodes.new.left result }
 {
     if is_word(tokens, from, b"group") {
         let next = word(tokens, from + 1, b"by")?;
@@ -329,7 +328,7 @@ fn key_list(
     depth: u32,
     from: usize,
 ) -> Result<(Seq<OrExpr>, usize), Fault>
-    ensures { Answers depth some_exprs tokens.now from result }
+    ensures { Answers false depth some_exprs tokens.now from nodes.old.left nodes.new.left result }
 {
     nodes.begin();
     let (first, mut at) = expr(alloc, tokens, nodes, depth, from)?;

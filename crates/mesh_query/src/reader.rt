@@ -1,5 +1,5 @@
 // From the tokens to the tree, or to the fault that is printed.
-ghost use Rattle.std.specs.Prelude.{◌≡◌, ◌≤◌, ℕ, List, codes, drop, take, length, [], true, false, IfOk, IfErr, MatchResult};
+ghost use Rattle.std.specs.Prelude.{◌≡◌, ◌≤◌, ◌<◌, ◌+◌, ℕ, List, codes, drop, take, length, [], true, false, IfOk, IfErr, MatchResult};
 ghost use Rattle.mesh_surface.specs.declared.queries.Surface.{Surface};
 ghost use Rattle.mesh_tokens.specs.declared.tokens.Token.{Token as Tokens};
 ghost use Rattle.mesh_tokens.specs.declared.faults.ReadFault.TheVariants.{Memory as NoMemory};
@@ -51,15 +51,19 @@ pub fn parse(tokens: &Tokens, from: u32) -> Result<Surface, ReadFault>
             }
             Err(too_large(alloc, b"expression", LARGEST_EXPRESSION))
         }
-        Err(fault) if nodes.are_too_many() => Err(crowded(alloc, fault)),
-        Err(fault) => Err(refusal(alloc, tokens, fault)),
+        Err(fault) => {
+            if nodes.are_too_many() {
+                return Err(crowded(alloc, fault));
+            }
+            Err(refusal(alloc, tokens, fault))
+        }
     }
 }
 
 // An expression had too many nodes before what was read went wrong: that limit comes first.
 #[tactic(auto, using(crate::proofs::Refused::crowded_refused))]
 fn crowded(alloc: Global, fault: Fault) -> ReadFault
-    ensures { (ts before s : List Tokens) → IsAmiss ts s fault → IsRefusal before s result }
+    ensures { (ts before s : List Tokens) → IsAmiss ts s 0 fault → IsRefusal before s result }
 {
     match fault {
         Fault::Memory => ReadFault::Memory,
@@ -72,7 +76,7 @@ fn crowded(alloc: Global, fault: Fault) -> ReadFault
 // The fault as it is printed.
 #[tactic(auto, using(crate::proofs::Refused::nesting_refused, crate::proofs::Refused::syntax_refused))]
 fn refusal(alloc: Global, tokens: &[Token], fault: Fault) -> ReadFault
-    ensures { (from : ℕ) → IsAmiss tokens.now (drop from tokens.now) fault → IsRefusal (take from tokens.now) (drop from tokens.now) result }
+    ensures { (from left : ℕ) → 0 < left → IsAmiss tokens.now (drop from tokens.now) left fault → IsRefusal (take from tokens.now) (drop from tokens.now) result }
 {
     match fault {
         Fault::Memory => ReadFault::Memory,
@@ -91,7 +95,8 @@ fn whole_query(
     nodes: &mut Nodes,
     from: usize,
 ) -> Result<Surface, Fault>
-    ensures { MatchResult result (λ tree. Reads deepest the_query tree (drop from tokens.now) []) (IsAmiss tokens.now (drop from tokens.now)) }
+    requires fresh { nodes.old.left ≡ most_nodes + 1 }
+    ensures { MatchResult result (λ tree. Reads deepest the_query tree (drop from tokens.now) []) (IsAmiss tokens.now (drop from tokens.now) nodes.new.left) }
 {
     let (surface, at) = query(alloc, tokens, nodes, NESTING, from)?;
     if at < tokens.len() {

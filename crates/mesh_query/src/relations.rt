@@ -1,11 +1,10 @@
 // What a SELECT reads from.
-ghost use Rattle.std.specs.Prelude.{◌≡◌, ◌<◌, ◌≤◌, ℕ, List, drop, length, IfOk, IsTrue};
+ghost use Rattle.std.specs.Prelude.{◌≡◌, ◌<◌, ◌≤◌, ℕ, false, List, drop, length, IfOk, IsTrue};
 ghost use Rattle.mesh_tokens.specs.declared.tokens.Token.{Token as Tokens};
-ghost use Rattle.mesh_grammar.specs.Rules.{Rule, source as a_source, relations as some_relations, join as a_join, joined as a_joined, relation as a_relation, qualified as a_name};
+ghost use Rattle.mesh_grammar.specs.Rules.{source as a_source, relations as some_relations, join as a_join, joined as a_joined, relation as a_relation, qualified as a_name};
 ghost use Rattle.mesh_grammar.specs.Plans.{Plan, accept, begins_join as opens_join, is_word as is_the_word};
 ghost use Rattle.mesh_grammar.specs.Machine.{begins};
-ghost use Rattle.mesh_words.specs.Answers.{Onward};
-ghost use Rattle.mesh_query.specs.Answers.{Answers};
+ghost use Rattle.mesh_query.specs.Answers.{Answers, Onward};
 
 use crate::expressions::expr;
 use crate::nodes::Nodes;
@@ -25,7 +24,7 @@ pub fn source(
     depth: u32,
     from: usize,
 ) -> Result<(Option<SurfaceFrom>, usize), Fault>
-    ensures { Answers depth a_source tokens.now from result }
+    ensures { Answers false depth a_source tokens.now from nodes.old.left nodes.new.left result }
 {
     if is_word(tokens, from, b"from") {
         let (source, next) = relations(alloc, tokens, nodes, depth, from + 1)?;
@@ -41,7 +40,7 @@ fn relations(
     depth: u32,
     from: usize,
 ) -> Result<(SurfaceFrom, usize), Fault>
-    ensures { Answers depth some_relations tokens.now from result }
+    ensures { Answers false depth some_relations tokens.now from nodes.old.left nodes.new.left result }
 {
     let (first, mut at) = relation(tokens, from)?;
     let mut joins = Seq::new(alloc);
@@ -77,7 +76,7 @@ fn join(
     depth: u32,
     from: usize,
 ) -> Result<(SurfaceJoin, usize), Fault>
-    ensures answers { Answers depth a_join tokens.now from result }
+    ensures answers { Answers false depth a_join tokens.now from nodes.old.left nodes.new.left result }
     ensures on { IfOk result (λ p. from < p.1) }
 {
     let at = place(tokens, from);
@@ -105,7 +104,7 @@ fn join(
 // The place behind a word, if it stands here. What is left of a rule goes on there.
 fn past(tokens: &[Token], at: usize, word: &[u8]) -> usize
     ensures on { at ≤ result }
-    ensures left { (n : ℕ) (r : Rule) (s : List Tokens) (q : Plan r) → Onward n r s (accept (is_the_word word.now) (λ _. q) q) (drop at tokens.now) → Onward n r s q (drop result tokens.now) }
+    ensures left { (n c d : ℕ) (s : List Tokens) (q : Plan a_join) → Onward false n a_join s (accept (is_the_word word.now) (λ _. q) q) (drop at tokens.now) c d → Onward false n a_join s q (drop result tokens.now) c d }
 {
     if is_word(tokens, at, word) {
         at + 1
@@ -122,7 +121,7 @@ fn joined(
     depth: u32,
     from: usize,
 ) -> Result<((SurfaceRel, OrExpr), usize), Fault>
-    ensures { Answers depth a_joined tokens.now from result }
+    ensures { Answers false depth a_joined tokens.now from nodes.old.left nodes.new.left result }
 {
     let (rel, next) = relation(tokens, from)?;
     let next = word(tokens, next, b"on")?;
@@ -133,7 +132,7 @@ fn joined(
 
 // A name of one part or two, and another name for it if there is one.
 fn relation(tokens: &[Token], from: usize) -> Result<(SurfaceRel, usize), Fault>
-    ensures { (n : ℕ) → Answers n a_relation tokens.now from result }
+    ensures { (n c : ℕ) → Answers false n a_relation tokens.now from c c result }
 {
     let ((schema, name), next) = qualified(tokens, from)?;
     let (alias, next) = alias(tokens, next)?;
@@ -148,7 +147,7 @@ fn relation(tokens: &[Token], from: usize) -> Result<(SurfaceRel, usize), Fault>
 
 // A name of one part or two that has to stand here.
 fn qualified(tokens: &[Token], from: usize) -> Result<((Option<Str>, Str), usize), Fault>
-    ensures { (n : ℕ) → Answers n a_name tokens.now from result }
+    ensures { (n c : ℕ) → Answers false n a_name tokens.now from c c result }
 {
     let (first, next) = name(tokens, from)?;
     if is_sign(tokens, next, b".") {

@@ -509,7 +509,52 @@ fn nodes_of_forms(rt: HostRuntime) -> Result<(), TestFail> {
         assert_eq!(rt; limit(alloc, all.as_slice())?, 0);
         let more = filled(alloc, b"select", form, nodes, b"", 4097)?;
         assert_eq!(rt; limit(alloc, more.as_slice())?, b'e');
+        let wrong = filled(alloc, b"select", form, nodes, b" )", 4096)?;
+        assert_eq!(rt;
+            place(alloc, wrong.as_slice())?,
+            wrong.len().saturating_sub(2) as u64
+        );
+        let more_wrong = filled(alloc, b"select", form, nodes, b" )", 4097)?;
+        assert_eq!(rt; limit(alloc, more_wrong.as_slice())?, b'e');
     }
+    Ok(())
+}
+
+// In 64 parentheses 2,048 times `1 +`, 4,096 nodes, and then some words.
+fn crowded(alloc: Global, words: &[u8]) -> Result<Vec<u8>, TestFail> {
+    let mut written = Vec::from_slice(alloc, b"select")?;
+    for _ in 0..64 {
+        written.extend_from_slice(b" (")?;
+    }
+    for _ in 0..2048 {
+        written.extend_from_slice(b" 1 +")?;
+    }
+    written.extend_from_slice(words)?;
+    Ok(written)
+}
+
+// A token that is one node too many and opens one too many at once is told for what it opens; a node that stands in
+// front of its parenthesis is told first.
+#[test]
+fn limits_passed_at_once(rt: HostRuntime) -> Result<(), TestFail> {
+    let alloc = rt.alloc();
+    let cases: [(&[u8], u8); 6] = [
+        (b" - 1", b'n'),
+        (b" case when a then 1 end", b'n'),
+        (b" ( 1 )", b'n'),
+        (b" cast ( 1 as int )", b'e'),
+        (b" abs ( 1 )", b'e'),
+        (b" 1 + )", b'e'),
+    ];
+    for (words, told) in cases {
+        let written = crowded(alloc, words)?;
+        assert_eq!(rt; limit(alloc, written.as_slice())?, told);
+    }
+    let written = crowded(alloc, b" )")?;
+    assert_eq!(rt;
+        place(alloc, written.as_slice())?,
+        written.len().saturating_sub(2) as u64
+    );
     Ok(())
 }
 

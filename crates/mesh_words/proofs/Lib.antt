@@ -1,3 +1,2 @@
 pub mod NextToken
 pub mod Neither
-pub mod Steps

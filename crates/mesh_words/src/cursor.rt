@@ -1,17 +1,16 @@
 // Looking at the next token, and taking it.
-ghost use Rattle.std.specs.Prelude.{◌≡◌, ◌<◌, ◌+◌, ◌&&◌, codes, drop, length, IsTrue, IfOk, MatchResult};
-ghost use Rattle.mesh_grammar.specs.Signs.{place as place_of, IsWord, IsSign, IsName, IsType, IsFunction, IsQualified, IsOptional};
-ghost use Rattle.mesh_words.specs.Places.{Takes, Reaches};
+ghost use Rattle.std.specs.Prelude.{◌≡◌, ◌<◌, ◌+◌, ◌&&◌, codes, drop, length, IsTrue, MatchResult};
+ghost use Rattle.mesh_grammar.specs.Signs.{place as place_of, IsWord, IsSign, IsName, IsType};
+ghost use Rattle.mesh_words.specs.Places.{Takes};
 ghost use Rattle.mesh_words.specs.Answers.{IsNot};
 ghost use Rattle.mesh_words.specs.declared.fault.Fault.TheVariants.{Nesting};
 ghost use Rattle.mesh_grammar.specs.Plans.{is_word as is_the_word, is_sign as is_the_sign, is_name as is_a_name, is_text as is_a_text, is_type as is_a_type};
 ghost use Rattle.mesh_grammar.specs.Machine.{begins};
 
 use crate::fault::Fault;
-use crate::words::{function_of, is_reserved, is_same, type_of};
+use crate::words::{is_reserved, is_same, type_of};
 use mesh_base::{ColType, Str};
 use mesh_list::Duplicate;
-use mesh_surface::Function;
 use mesh_tokens::{Token, TokenKind};
 
 /// The place of a token's first byte, or 0 at the end of the tokens.
@@ -134,29 +133,6 @@ pub fn name(tokens: &[Token], at: usize) -> Result<(Str, usize), Fault>
     }
 }
 
-/// A name of one part or two that has to stand here, and the place behind it.
-pub fn qualified(tokens: &[Token], from: usize) -> Result<((Option<Str>, Str), usize), Fault>
-    ensures { IfOk result (λ p. Reaches (IsQualified p.0.0 p.0.1) tokens.now from p.1) }
-{
-    let (first, next) = name(tokens, from)?;
-    if is_sign(tokens, next, b".") {
-        let (second, next) = name(tokens, next + 1)?;
-        return Ok(((Some(first), second), next));
-    }
-    Ok(((None, first), next))
-}
-
-/// The place behind a word, if it stands here.
-pub fn optional(tokens: &[Token], at: usize, word: &[u8]) -> usize
-    ensures { Reaches (IsOptional word.now) tokens.now at result }
-{
-    if is_word(tokens, at, word) {
-        at + 1
-    } else {
-        at
-    }
-}
-
 /// A type that has to stand here, and the place behind it.
 #[tactic(auto, using(crate::proofs::NextToken::begins_at, crate::proofs::NextToken::begins_past))]
 pub fn column_type(tokens: &[Token], at: usize) -> Result<(ColType, usize), Fault>
@@ -167,24 +143,6 @@ pub fn column_type(tokens: &[Token], at: usize) -> Result<(ColType, usize), Faul
             TokenKind::Ident(found) => match type_of(found.as_slice()) {
                 Some(kind) => Ok((kind, at + 1)),
                 None => Err(Fault::Syntax { token: at }),
-            },
-            _ => Err(Fault::Syntax { token: at }),
-        }
-    } else {
-        Err(Fault::Syntax { token: at })
-    }
-}
-
-/// A function's name that has to stand before its parenthesis, and the place behind it. Where the name is no function's
-/// the fault is at the parenthesis, since the name alone might have been a column's.
-pub fn called(tokens: &[Token], at: usize) -> Result<(Function, usize), Fault>
-    ensures { IfOk result (λ p. Takes (IsFunction p.0) tokens.now at p.1) }
-{
-    if at < tokens.len() {
-        match &tokens[at].kind {
-            TokenKind::Ident(found) => match function_of(found.as_slice()) {
-                Some(function) => Ok((function, at + 1)),
-                None => Err(Fault::Syntax { token: at + 1 }),
             },
             _ => Err(Fault::Syntax { token: at }),
         }

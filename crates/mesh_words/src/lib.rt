@@ -9,8 +9,7 @@ mod signs;
 mod words;
 
 pub use cursor::{
-    called, column_type, is_date, is_name, is_sign, is_text, is_word, name, nested, optional,
-    place, qualified, sign, word,
+    column_type, is_date, is_name, is_sign, is_text, is_word, name, nested, place, sign, word,
 };
 pub use fault::Fault;
 pub use signs::{add_sign, comparison, mul_sign};

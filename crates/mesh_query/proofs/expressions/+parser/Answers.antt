@@ -1,4 +1,4 @@
-use Rattle.std.proofs.Common.{◌+◌, codes, None, Some, drop, arith, sym, ◌∙◌}
+use Rattle.std.proofs.Common.{refl, ◌+◌, codes, None, Some, drop, arith, sym, ◌∙◌}
 use Rattle.mesh_surface.specs.declared.signs.Function.TheVariants.{Count}
 use Rattle.mesh_surface.specs.declared.expressions.Test.TheVariants as the_test
 use Rattle.mesh_surface.specs.declared.expressions.Primary.TheVariants as the_primary
@@ -6,12 +6,12 @@ use Rattle.mesh_grammar.specs.Signs.{place}
 use Rattle.mesh_grammar.specs.Rules.{tested, cat, value, named}
 use Rattle.mesh_grammar.specs.Plans.{done, read, take, is_sign}
 use Rattle.mesh_words.specs.declared.fault.Fault.TheVariants.{Syntax}
-use Rattle.mesh_words.proofs.Steps.{started, noted, past_word, past_sign, past_name, past_type, past_cmp, without, saw, missed, has_read, has_nested, is_done}
-use Rattle.mesh_query.proofs.Descent.{handed, told, stuck_here, lacks, fails_in, fails_nested, too_deep, closed, closed_by, goes_on, alone, name_here, call_left, sum_begun, sum_on, product_begun, product_on, cast_on}
+use Rattle.mesh_query.proofs.Steps.{started, noted, past_word, past_sign, past_name, past_type, past_cmp, without, saw, missed, has_read, has_nested, is_done, counted, read_from}
+use Rattle.mesh_query.proofs.Descent.{handed, told, stuck_here, lacks, fails_in, fails_nested, too_deep, closed, closed_by, goes_on, alone, name_here, call_left, sum_begun, sum_on, product_begun, product_on, cast_on, failed_from}
 use Rattle.mesh_query.proofs.expressions.+parser.Goals as goal
 
 pub expr-returns-in_err-first : goal.expr-returns-in_err-first
-expr-returns-in_err-first t c = told _ _ c.from_residual.result c.from_residual.ensures (fails_in c.args.tokens.now _ (noted started) c.in_err-first.ensures)
+expr-returns-in_err-first t c = told _ _ c.from_residual.result c.from_residual.ensures (fails_in _ c.args.tokens.now _ (noted started) c.in_err-first.ensures)
 
 pub expr-ors-init : goal.expr-ors-init
 expr-ors-init t c =
@@ -23,13 +23,13 @@ expr-ors-preserved t c =
     let before = c.ors.invariant in
     let sign = c.is_word.ensures.taken c.ors-test.true in
     let more = c.in_ok-part.ensures in
-    rw c.in_ok-push-2.ensures.ok (omega (arith, before.0, more.0), goes_on (λ x. x) before.1 (has_read c.in_ok-part.part (past_word (codes "or") started sign.2) more.1))
+    rw c.in_ok-push-2.ensures.ok (omega (arith, before.0, more.0), goes_on (λ x. x) (refl, λ z. refl) before.1 (has_read c.in_ok-part.part (past_word (codes "or") started sign.2) (read_from c.meet.ensures more.1)))
 
 pub expr-returns-in_err-part : goal.expr-returns-in_err-part
 expr-returns-in_err-part t c =
     let before = c.ors.invariant in
     let sign = c.is_word.ensures.taken c.ors-test.true in
-    told _ _ c.from_residual-in_err-part.result c.from_residual-in_err-part.ensures (fails_in c.args.tokens.now _ before.1 (fails_in c.args.tokens.now _ (past_word (codes "or") started sign.2) c.in_err-part.ensures))
+    told _ _ c.from_residual-in_err-part.result c.from_residual-in_err-part.ensures (fails_in _ c.args.tokens.now _ before.1 (fails_in _ c.args.tokens.now _ (past_word (codes "or") started sign.2) (failed_from _ _ _ _ _ _ _ c.meet.ensures c.in_err-part.ensures)))
 
 pub expr-returns : goal.expr-returns
 expr-returns t c =
@@ -37,7 +37,7 @@ expr-returns t c =
     rw c.place.ensures (before.0, is_done (closed before.1 (without started (sym c.is_word.ensures.seen ∙ c.ors-test.false))))
 
 pub conjunction-returns-in_err-first : goal.conjunction-returns-in_err-first
-conjunction-returns-in_err-first t c = told _ _ c.from_residual.result c.from_residual.ensures (fails_in c.args.tokens.now _ (noted started) c.in_err-first.ensures)
+conjunction-returns-in_err-first t c = told _ _ c.from_residual.result c.from_residual.ensures (fails_in _ c.args.tokens.now _ (noted started) c.in_err-first.ensures)
 
 pub conjunction-ands-init : goal.conjunction-ands-init
 conjunction-ands-init t c =
@@ -49,13 +49,13 @@ conjunction-ands-preserved t c =
     let before = c.ands.invariant in
     let sign = c.is_word.ensures.taken c.ands-test.true in
     let more = c.in_ok-part.ensures in
-    rw c.in_ok-push-2.ensures.ok (omega (arith, before.0, more.0), goes_on (λ x. x) before.1 (has_read c.in_ok-part.part (past_word (codes "and") started sign.2) more.1))
+    rw c.in_ok-push-2.ensures.ok (omega (arith, before.0, more.0), goes_on (λ x. x) (refl, λ z. refl) before.1 (has_read c.in_ok-part.part (past_word (codes "and") started sign.2) (read_from c.meet.ensures more.1)))
 
 pub conjunction-returns-in_err-part : goal.conjunction-returns-in_err-part
 conjunction-returns-in_err-part t c =
     let before = c.ands.invariant in
     let sign = c.is_word.ensures.taken c.ands-test.true in
-    told _ _ c.from_residual-in_err-part.result c.from_residual-in_err-part.ensures (fails_in c.args.tokens.now _ before.1 (fails_in c.args.tokens.now _ (past_word (codes "and") started sign.2) c.in_err-part.ensures))
+    told _ _ c.from_residual-in_err-part.result c.from_residual-in_err-part.ensures (fails_in _ c.args.tokens.now _ before.1 (fails_in _ c.args.tokens.now _ (past_word (codes "and") started sign.2) (failed_from _ _ _ _ _ _ _ c.meet.ensures c.in_err-part.ensures)))
 
 pub conjunction-returns : goal.conjunction-returns
 conjunction-returns t c =
@@ -63,7 +63,7 @@ conjunction-returns t c =
     rw c.place.ensures (before.0, is_done (closed before.1 (without started (sym c.is_word.ensures.seen ∙ c.ands-test.false))))
 
 pub cat-returns-in_err-first : goal.cat-returns-in_err-first
-cat-returns-in_err-first t c = told _ _ c.from_residual.result c.from_residual.ensures (fails_in c.args.tokens.now _ (noted started) c.in_err-first.ensures)
+cat-returns-in_err-first t c = told _ _ c.from_residual.result c.from_residual.ensures (fails_in _ c.args.tokens.now _ (noted started) c.in_err-first.ensures)
 
 pub cat-cats-init : goal.cat-cats-init
 cat-cats-init t c =
@@ -75,13 +75,13 @@ cat-cats-preserved t c =
     let before = c.cats.invariant in
     let sign = c.is_sign.ensures.taken c.cats-test.true in
     let more = c.in_ok-part.ensures in
-    rw c.in_ok-push-2.ensures.ok (omega (arith, before.0, more.0), goes_on (λ x. x) before.1 (has_read c.in_ok-part.part (past_sign (codes "||") started sign.2) more.1))
+    rw c.in_ok-push-2.ensures.ok (omega (arith, before.0, more.0), goes_on (λ x. x) (refl, λ z. refl) before.1 (has_read c.in_ok-part.part (past_sign (codes "||") started sign.2) (read_from c.meet.ensures more.1)))
 
 pub cat-returns-in_err-part : goal.cat-returns-in_err-part
 cat-returns-in_err-part t c =
     let before = c.cats.invariant in
     let sign = c.is_sign.ensures.taken c.cats-test.true in
-    told _ _ c.from_residual-in_err-part.result c.from_residual-in_err-part.ensures (fails_in c.args.tokens.now _ before.1 (fails_in c.args.tokens.now _ (past_sign (codes "||") started sign.2) c.in_err-part.ensures))
+    told _ _ c.from_residual-in_err-part.result c.from_residual-in_err-part.ensures (fails_in _ c.args.tokens.now _ before.1 (fails_in _ c.args.tokens.now _ (past_sign (codes "||") started sign.2) (failed_from _ _ _ _ _ _ _ c.meet.ensures c.in_err-part.ensures)))
 
 pub cat-returns : goal.cat-returns
 cat-returns t c =
@@ -89,7 +89,7 @@ cat-returns t c =
     rw c.place.ensures (before.0, is_done (closed before.1 (without started (sym c.is_sign.ensures.seen ∙ c.cats-test.false))))
 
 pub exprs-returns-in_err-first : goal.exprs-returns-in_err-first
-exprs-returns-in_err-first t c = told _ _ c.from_residual.result c.from_residual.ensures (fails_in c.args.tokens.now _ started c.in_err-first.ensures)
+exprs-returns-in_err-first t c = told _ _ c.from_residual.result c.from_residual.ensures (fails_in _ c.args.tokens.now _ started c.in_err-first.ensures)
 
 pub exprs-commas-init : goal.exprs-commas-init
 exprs-commas-init t c =
@@ -101,13 +101,13 @@ exprs-commas-preserved t c =
     let before = c.commas.invariant in
     let sign = c.is_sign.ensures.taken c.commas-test.true in
     let more = c.in_ok-more.ensures in
-    rw c.in_ok-push-2.ensures.ok (omega (arith, before.0, more.0), goes_on (λ x. x) before.1 (has_read c.in_ok-more.more (past_sign (codes ",") started sign.2) more.1))
+    rw c.in_ok-push-2.ensures.ok (omega (arith, before.0, more.0), goes_on (λ x. x) (refl, λ z. refl) before.1 (has_read c.in_ok-more.more (past_sign (codes ",") started sign.2) more.1))
 
 pub exprs-returns-in_err-more : goal.exprs-returns-in_err-more
 exprs-returns-in_err-more t c =
     let before = c.commas.invariant in
     let sign = c.is_sign.ensures.taken c.commas-test.true in
-    told _ _ c.from_residual-in_err-more.result c.from_residual-in_err-more.ensures (fails_in c.args.tokens.now _ before.1 (fails_in c.args.tokens.now _ (past_sign (codes ",") started sign.2) c.in_err-more.ensures))
+    told _ _ c.from_residual-in_err-more.result c.from_residual-in_err-more.ensures (fails_in _ c.args.tokens.now _ before.1 (fails_in _ c.args.tokens.now _ (past_sign (codes ",") started sign.2) c.in_err-more.ensures))
 
 pub exprs-returns : goal.exprs-returns
 exprs-returns t c =
@@ -115,7 +115,7 @@ exprs-returns t c =
     (before.0, is_done (closed before.1 (without started (sym c.is_sign.ensures.seen ∙ c.commas-test.false))))
 
 pub sum-returns-in_err-first : goal.sum-returns-in_err-first
-sum-returns-in_err-first t c = told _ _ c.from_residual.result c.from_residual.ensures (fails_in c.args.tokens.now _ (noted started) c.in_err-first.ensures)
+sum-returns-in_err-first t c = told _ _ c.from_residual.result c.from_residual.ensures (fails_in _ c.args.tokens.now _ (noted started) c.in_err-first.ensures)
 
 pub sum-sums-init : goal.sum-sums-init
 sum-sums-init t c =
@@ -127,13 +127,13 @@ sum-sums-preserved t c =
     let before = c.sums.invariant in
     let sign = c.in-Some.ensures in
     let part = c.in_ok-part.ensures in
-    rw (c.in_ok-push.ensures.ok, c.place.ensures) (omega (arith, before.0, part.0), goes_on (λ x. x) before.1 (sum_on c.in-Some.sign c.in_ok-part.part sign.2 part.1))
+    rw (c.in_ok-push.ensures.ok, c.place.ensures) (omega (arith, before.0, part.0), goes_on (λ x. x) (refl, λ z. refl) before.1 (sum_on c.in-Some.sign c.in_ok-part.part sign.2 (read_from c.meet.ensures part.1)))
 
 pub sum-returns-in_err-part : goal.sum-returns-in_err-part
 sum-returns-in_err-part t c =
     let before = c.sums.invariant in
     let sign = c.in-Some.ensures in
-    told _ _ c.from_residual-in_err-part.result c.from_residual-in_err-part.ensures (fails_in c.args.tokens.now _ before.1 (fails_in c.args.tokens.now _ (sum_begun c.in-Some.sign sign.2) c.in_err-part.ensures))
+    told _ _ c.from_residual-in_err-part.result c.from_residual-in_err-part.ensures (fails_in _ c.args.tokens.now _ before.1 (fails_in _ c.args.tokens.now _ (sum_begun c.in-Some.sign sign.2) (failed_from _ _ _ _ _ _ _ c.meet.ensures c.in_err-part.ensures)))
 
 pub sum-returns : goal.sum-returns
 sum-returns t c =
@@ -141,7 +141,7 @@ sum-returns t c =
     rw c.place-2.ensures (before.0, is_done (closed before.1 (without started c.in_default.ensures)))
 
 pub product-returns-in_err-first : goal.product-returns-in_err-first
-product-returns-in_err-first t c = told _ _ c.from_residual.result c.from_residual.ensures (fails_in c.args.tokens.now _ (noted started) c.in_err-first.ensures)
+product-returns-in_err-first t c = told _ _ c.from_residual.result c.from_residual.ensures (fails_in _ c.args.tokens.now _ (noted started) c.in_err-first.ensures)
 
 pub product-products-init : goal.product-products-init
 product-products-init t c =
@@ -153,13 +153,13 @@ product-products-preserved t c =
     let before = c.products.invariant in
     let sign = c.in-Some.ensures in
     let part = c.in_ok-part.ensures in
-    rw (c.in_ok-push.ensures.ok, c.place.ensures) (omega (arith, before.0, part.0), goes_on (λ x. x) before.1 (product_on c.in-Some.sign c.in_ok-part.part sign.2 part.1))
+    rw (c.in_ok-push.ensures.ok, c.place.ensures) (omega (arith, before.0, part.0), goes_on (λ x. x) (refl, λ z. refl) before.1 (product_on c.in-Some.sign c.in_ok-part.part sign.2 (read_from c.meet.ensures part.1)))
 
 pub product-returns-in_err-part : goal.product-returns-in_err-part
 product-returns-in_err-part t c =
     let before = c.products.invariant in
     let sign = c.in-Some.ensures in
-    told _ _ c.from_residual-in_err-part.result c.from_residual-in_err-part.ensures (fails_in c.args.tokens.now _ before.1 (fails_in c.args.tokens.now _ (product_begun c.in-Some.sign sign.2) c.in_err-part.ensures))
+    told _ _ c.from_residual-in_err-part.result c.from_residual-in_err-part.ensures (fails_in _ c.args.tokens.now _ before.1 (fails_in _ c.args.tokens.now _ (product_begun c.in-Some.sign sign.2) (failed_from _ _ _ _ _ _ _ c.meet.ensures c.in_err-part.ensures)))
 
 pub product-returns : goal.product-returns
 product-returns t c =
@@ -167,7 +167,7 @@ product-returns t c =
     rw c.place-2.ensures (before.0, is_done (closed before.1 (without started c.in_default.ensures)))
 
 pub post-returns-in_err-value : goal.post-returns-in_err-value
-post-returns-in_err-value t c = told _ _ c.from_residual.result c.from_residual.ensures (fails_in c.args.tokens.now _ (noted started) c.in_err-value.ensures)
+post-returns-in_err-value t c = told _ _ c.from_residual.result c.from_residual.ensures (fails_in _ c.args.tokens.now _ (noted started) c.in_err-value.ensures)
 
 pub post-casts-init : goal.post-casts-init
 post-casts-init t c =
@@ -179,13 +179,13 @@ post-casts-preserved t c =
     let before = c.casts.invariant in
     let sign = c.is_sign.ensures.taken c.casts-test.true in
     let kind = c.in_ok-kind.ensures in
-    rw c.in_ok-push.ensures.ok (omega (arith, before.0, kind.0), goes_on (λ x. x) before.1 (cast_on sign.2 kind.2))
+    rw c.in_ok-push.ensures.ok (omega (arith, before.0, kind.0), goes_on (λ x. x) (refl, λ z. refl) before.1 (counted c.meet.ensures (cast_on sign.2 kind.2)))
 
 pub post-returns-in_err-kind : goal.post-returns-in_err-kind
 post-returns-in_err-kind t c =
     let before = c.casts.invariant in
     let sign = c.is_sign.ensures.taken c.casts-test.true in
-    told _ _ c.from_residual-in_err-kind.result c.from_residual-in_err-kind.ensures (fails_in c.args.tokens.now _ before.1 (lacks c.args.tokens.now (c.casts.at + 1) _ (past_sign (codes "::") started sign.2) c.in_err-kind.ensures))
+    told _ _ c.from_residual-in_err-kind.result c.from_residual-in_err-kind.ensures (fails_in _ c.args.tokens.now _ before.1 (lacks c.args.tokens.now (c.casts.at + 1) _ (counted c.meet.ensures (past_sign (codes "::") started sign.2)) c.in_err-kind.ensures))
 
 pub post-returns : goal.post-returns
 post-returns t c =
@@ -193,7 +193,7 @@ post-returns t c =
     rw c.place.ensures (before.0, is_done (closed before.1 (without started (sym c.is_sign.ensures.seen ∙ c.casts-test.false))))
 
 pub arms-returns-in_err-first : goal.arms-returns-in_err-first
-arms-returns-in_err-first t c = told _ _ c.from_residual.result c.from_residual.ensures (fails_in c.args.tokens.now _ started c.in_err-first.ensures.answers)
+arms-returns-in_err-first t c = told _ _ c.from_residual.result c.from_residual.ensures (fails_in _ c.args.tokens.now _ started c.in_err-first.ensures.answers)
 
 pub arms-whens-init : goal.arms-whens-init
 arms-whens-init t c =
@@ -204,12 +204,12 @@ pub arms-whens-preserved : goal.arms-whens-preserved
 arms-whens-preserved t c =
     let before = c.whens.invariant in
     let next = c.in_ok-next.ensures.answers in
-    rw c.in_ok-push-2.ensures.ok (omega (arith, before.0, next.0), goes_on (λ x. x) before.1 (has_read c.in_ok-next.next (saw started (sym c.is_word.ensures.seen ∙ c.whens-test.true)) next.1))
+    rw c.in_ok-push-2.ensures.ok (omega (arith, before.0, next.0), goes_on (λ x. x) (refl, λ z. refl) before.1 (has_read c.in_ok-next.next (saw started (sym c.is_word.ensures.seen ∙ c.whens-test.true)) next.1))
 
 pub arms-returns-in_err-next : goal.arms-returns-in_err-next
 arms-returns-in_err-next t c =
     let before = c.whens.invariant in
-    told _ _ c.from_residual-in_err-next.result c.from_residual-in_err-next.ensures (fails_in c.args.tokens.now _ before.1 (fails_in c.args.tokens.now _ (saw started (sym c.is_word.ensures.seen ∙ c.whens-test.true)) c.in_err-next.ensures.answers))
+    told _ _ c.from_residual-in_err-next.result c.from_residual-in_err-next.ensures (fails_in _ c.args.tokens.now _ before.1 (fails_in _ c.args.tokens.now _ (saw started (sym c.is_word.ensures.seen ∙ c.whens-test.true)) c.in_err-next.ensures.answers))
 
 pub arms-returns : goal.arms-returns
 arms-returns t c =
@@ -224,16 +224,16 @@ negation-returns-in_err-deeper t c =
 pub negation-returns-in_err-inner : goal.negation-returns-in_err-inner
 negation-returns-in_err-inner t c =
     let first = c.is_word.ensures.taken c.if-is_word.true in
-    told _ _ c.from_residual-in_err-inner.result c.from_residual-in_err-inner.ensures (fails_nested c.in_ok-deeper.deeper c.args.tokens.now _ (past_word (codes "not") (noted started) first.2) c.in_ok-deeper.ensures c.in_err-inner.ensures)
+    told _ _ c.from_residual-in_err-inner.result c.from_residual-in_err-inner.ensures (fails_nested _ c.in_ok-deeper.deeper c.args.tokens.now _ (past_word (codes "not") (noted started) first.2) c.in_ok-deeper.ensures (failed_from _ _ _ _ _ _ _ c.meet.ensures c.in_err-inner.ensures))
 
 pub negation-returns-then-is_word : goal.negation-returns-then-is_word
 negation-returns-then-is_word t c =
     let first = c.is_word.ensures.taken c.if-is_word.true in
     let inner = c.in_ok-inner.ensures in
-    rw (c.place-at.ensures, c.in_ok-inner-2.ensures) (omega (arith, inner.0), is_done (has_nested c.in_ok-inner.inner (past_word (codes "not") (noted started) first.2) c.in_ok-deeper.ensures inner.1))
+    rw (c.place-at.ensures, c.in_ok-inner-2.ensures) (omega (arith, inner.0), is_done (has_nested c.in_ok-inner.inner (past_word (codes "not") (noted started) first.2) c.in_ok-deeper.ensures (read_from c.meet.ensures inner.1)))
 
 pub negation-returns-in_err-pred : goal.negation-returns-in_err-pred
-negation-returns-in_err-pred t c = told _ _ c.from_residual-in_err-pred.result c.from_residual-in_err-pred.ensures (fails_in c.args.tokens.now _ (without (noted started) (sym c.is_word.ensures.seen ∙ c.if-is_word.false)) c.in_err-pred.ensures)
+negation-returns-in_err-pred t c = told _ _ c.from_residual-in_err-pred.result c.from_residual-in_err-pred.ensures (fails_in _ c.args.tokens.now _ (without (noted started) (sym c.is_word.ensures.seen ∙ c.if-is_word.false)) c.in_err-pred.ensures)
 
 pub negation-returns : goal.negation-returns
 negation-returns t c =
@@ -248,16 +248,16 @@ unary-returns-in_err-deeper t c =
 pub unary-returns-in_err-inner : goal.unary-returns-in_err-inner
 unary-returns-in_err-inner t c =
     let first = c.is_sign.ensures.taken c.if-is_sign.true in
-    told _ _ c.from_residual-in_err-inner.result c.from_residual-in_err-inner.ensures (fails_nested c.in_ok-deeper.deeper c.args.tokens.now _ (past_sign (codes "-") (noted started) first.2) c.in_ok-deeper.ensures c.in_err-inner.ensures)
+    told _ _ c.from_residual-in_err-inner.result c.from_residual-in_err-inner.ensures (fails_nested _ c.in_ok-deeper.deeper c.args.tokens.now _ (past_sign (codes "-") (noted started) first.2) c.in_ok-deeper.ensures (failed_from _ _ _ _ _ _ _ c.meet.ensures c.in_err-inner.ensures))
 
 pub unary-returns-then-is_sign : goal.unary-returns-then-is_sign
 unary-returns-then-is_sign t c =
     let first = c.is_sign.ensures.taken c.if-is_sign.true in
     let inner = c.in_ok-inner.ensures in
-    rw (c.place-at.ensures, c.in_ok-inner-2.ensures) (omega (arith, inner.0), is_done (has_nested c.in_ok-inner.inner (past_sign (codes "-") (noted started) first.2) c.in_ok-deeper.ensures inner.1))
+    rw (c.place-at.ensures, c.in_ok-inner-2.ensures) (omega (arith, inner.0), is_done (has_nested c.in_ok-inner.inner (past_sign (codes "-") (noted started) first.2) c.in_ok-deeper.ensures (read_from c.meet.ensures inner.1)))
 
 pub unary-returns-in_err-post : goal.unary-returns-in_err-post
-unary-returns-in_err-post t c = told _ _ c.from_residual-in_err-post.result c.from_residual-in_err-post.ensures (fails_in c.args.tokens.now _ (without (noted started) (sym c.is_sign.ensures.seen ∙ c.if-is_sign.false)) c.in_err-post.ensures)
+unary-returns-in_err-post t c = told _ _ c.from_residual-in_err-post.result c.from_residual-in_err-post.ensures (fails_in _ c.args.tokens.now _ (without (noted started) (sym c.is_sign.ensures.seen ∙ c.if-is_sign.false)) c.in_err-post.ensures)
 
 pub unary-returns : goal.unary-returns
 unary-returns t c =
@@ -265,12 +265,12 @@ unary-returns t c =
     rw c.place-at.ensures (plain.0, is_done (has_read c.in_ok-post.post (without (noted started) (sym c.is_sign.ensures.seen ∙ c.if-is_sign.false)) plain.1))
 
 pub pred-returns-in_err-left : goal.pred-returns-in_err-left
-pred-returns-in_err-left t c = told _ _ c.from_residual.result c.from_residual.ensures (fails_in c.args.tokens.now _ (noted started) c.in_err-left.ensures)
+pred-returns-in_err-left t c = told _ _ c.from_residual.result c.from_residual.ensures (fails_in _ c.args.tokens.now _ (noted started) c.in_err-left.ensures)
 
 pub pred-returns-in_err-test : goal.pred-returns-in_err-test
 pred-returns-in_err-test t c =
     let left = c.in_ok-left.ensures in
-    told _ _ c.from_residual-in_err-test.result c.from_residual-in_err-test.ensures (fails_in c.args.tokens.now _ (has_read c.in_ok-left.left (noted started) left.1) c.in_err-test.ensures)
+    told _ _ c.from_residual-in_err-test.result c.from_residual-in_err-test.ensures (fails_in _ c.args.tokens.now _ (has_read c.in_ok-left.left (noted started) left.1) c.in_err-test.ensures)
 
 pub pred-returns : goal.pred-returns
 pred-returns t c =
@@ -281,29 +281,29 @@ pred-returns t c =
 pub test-returns-then-is_word : goal.test-returns-then-is_word
 test-returns-then-is_word t c =
     let word = c.is_word.ensures.taken c.if-is_word.true in
-    handed _ _ _ _ c.null_test.result (λ x h. (omega (arith, h.0), h.1)) (λ e h. h) (c.null_test.ensures c.args.depth (drop c.args.from c.args.tokens.now) (past_word (codes "is") started word.2))
+    handed _ _ _ _ c.null_test.result (λ x h. (omega (arith, h.0), h.1)) (λ e h. h) (c.null_test.ensures c.args.depth _ (drop c.args.from c.args.tokens.now) _ (counted c.meet.ensures (past_word (codes "is") started word.2)))
 
 pub test-returns-then-is_word-2 : goal.test-returns-then-is_word-2
 test-returns-then-is_word-2 t c =
     let word = c.is_word-2.ensures.taken c.if-is_word-2.true in
     let I = past_word (codes "not") (without (started {n = c.args.depth} {r = tested} {s = (drop c.args.from c.args.tokens.now)}) (sym c.is_word.ensures.seen ∙ c.if-is_word.false)) word.2 in
-    handed _ _ _ _ c.range_test.result (λ x h. (omega (arith, h.0), is_done (closed_by x.0 I h.1))) (λ e h. fails_in c.args.tokens.now e I h) c.range_test.ensures
+    handed _ _ _ _ c.range_test.result (λ x h. (omega (arith, h.0), is_done (closed_by x.0 I h.1))) (λ e h. fails_in _ c.args.tokens.now e I h) c.range_test.ensures
 
 pub test-returns-then-is_range : goal.test-returns-then-is_range
 test-returns-then-is_range t c =
     let I = saw (without (without (started {n = c.args.depth} {r = tested} {s = (drop c.args.from c.args.tokens.now)}) (sym c.is_word.ensures.seen ∙ c.if-is_word.false)) (sym c.is_word-2.ensures.seen ∙ c.if-is_word-2.false)) (sym c.is_range.ensures ∙ c.if-is_range.true) in
-    handed _ _ _ _ c.range_test-then-is_range.result (λ x h. (h.0, is_done (closed_by x.0 I h.1))) (λ e h. fails_in c.args.tokens.now e I h) c.range_test-then-is_range.ensures
+    handed _ _ _ _ c.range_test-then-is_range.result (λ x h. (h.0, is_done (closed_by x.0 I h.1))) (λ e h. fails_in _ c.args.tokens.now e I h) c.range_test-then-is_range.ensures
 
 pub test-returns-in_err-right-in-Some : goal.test-returns-in_err-right-in-Some
 test-returns-in_err-right-in-Some t c =
     let J = past_cmp c.in-Some.cmp (λ o. read cat (λ r. done (the_test.Compare o r))) (missed (without (without (started {n = c.args.depth} {r = tested} {s = (drop c.args.from c.args.tokens.now)}) (sym c.is_word.ensures.seen ∙ c.if-is_word.false)) (sym c.is_word-2.ensures.seen ∙ c.if-is_word-2.false)) (sym c.is_range.ensures ∙ c.if-is_range.false)) c.in-Some.ensures.2 in
-    told _ _ c.from_residual.result c.from_residual.ensures (fails_in c.args.tokens.now _ J c.in_err-right-in-Some.ensures)
+    told _ _ c.from_residual.result c.from_residual.ensures (fails_in _ c.args.tokens.now _ J (failed_from _ _ _ _ _ _ _ c.meet-in-Some.ensures c.in_err-right-in-Some.ensures))
 
 pub test-returns-in_ok-right-in-Some : goal.test-returns-in_ok-right-in-Some
 test-returns-in_ok-right-in-Some t c =
     let right = c.in_ok-right-in-Some.ensures in
     let J = past_cmp c.in-Some.cmp (λ o. read cat (λ r. done (the_test.Compare o r))) (missed (without (without (started {n = c.args.depth} {r = tested} {s = (drop c.args.from c.args.tokens.now)}) (sym c.is_word.ensures.seen ∙ c.if-is_word.false)) (sym c.is_word-2.ensures.seen ∙ c.if-is_word-2.false)) (sym c.is_range.ensures ∙ c.if-is_range.false)) c.in-Some.ensures.2 in
-    (omega (arith, right.0), is_done (has_read c.in_ok-right-in-Some.right J right.1))
+    (omega (arith, right.0), is_done (has_read c.in_ok-right-in-Some.right J (read_from c.meet-in-Some.ensures right.1)))
 
 pub test-returns-in-None : goal.test-returns-in-None
 test-returns-in-None t c = (omega arith, is_done (without (missed (without (without (started {n = c.args.depth} {r = tested} {s = (drop c.args.from c.args.tokens.now)}) (sym c.is_word.ensures.seen ∙ c.if-is_word.false)) (sym c.is_word-2.ensures.seen ∙ c.if-is_word-2.false)) (sym c.is_range.ensures ∙ c.if-is_range.false)) c.in-None.ensures))
@@ -311,7 +311,7 @@ test-returns-in-None t c = (omega arith, is_done (without (missed (without (with
 pub range_test-returns-then-is_word : goal.range_test-returns-then-is_word
 range_test-returns-then-is_word t c =
     let word = c.is_word.ensures.taken c.if-is_word.true in
-    handed _ _ _ _ c.between.result (λ x h. (omega (arith, h.0), h.1)) (λ e h. h) (c.between.ensures (drop c.args.from c.args.tokens.now) (past_word (codes "between") started word.2))
+    handed _ _ _ _ c.between.result (λ x h. (omega (arith, h.0), h.1)) (λ e h. h) (c.between.ensures (drop c.args.from c.args.tokens.now) _ (counted c.meet.ensures (past_word (codes "between") started word.2)))
 
 pub range_test-returns-in_err-at : goal.range_test-returns-in_err-at
 range_test-returns-in_err-at t c = told _ _ c.from_residual.result c.from_residual.ensures (lacks c.args.tokens.now c.args.from _ (without started (sym c.is_word.ensures.seen ∙ c.if-is_word.false)) c.in_err-at.ensures)
@@ -319,52 +319,52 @@ range_test-returns-in_err-at t c = told _ _ c.from_residual.result c.from_residu
 pub range_test-returns : goal.range_test-returns
 range_test-returns t c =
     let word = c.in_ok-at.ensures in
-    handed _ _ _ _ c.one_of.result (λ x h. (omega (arith, word.0, h.0), h.1)) (λ e h. h) (c.one_of.ensures (drop c.args.from c.args.tokens.now) (past_word (codes "in") (without started (sym c.is_word.ensures.seen ∙ c.if-is_word.false)) word.2))
+    handed _ _ _ _ c.one_of.result (λ x h. (omega (arith, word.0, h.0), h.1)) (λ e h. h) (c.one_of.ensures (drop c.args.from c.args.tokens.now) _ (counted c.meet-2.ensures (past_word (codes "in") (without started (sym c.is_word.ensures.seen ∙ c.if-is_word.false)) word.2)))
 
 pub between-returns-in_err-low : goal.between-returns-in_err-low
-between-returns-in_err-low t c = λ s I.
-    told _ _ c.from_residual.result c.from_residual.ensures (fails_in c.args.tokens.now _ I c.in_err-low.ensures)
+between-returns-in_err-low t c = λ s b I.
+    told _ _ c.from_residual.result c.from_residual.ensures (fails_in _ c.args.tokens.now _ I c.in_err-low.ensures)
 
 pub between-returns-in_err-at : goal.between-returns-in_err-at
-between-returns-in_err-at t c = λ s I.
+between-returns-in_err-at t c = λ s b I.
     let low = c.in_ok-low.ensures in
     told _ _ c.from_residual-in_err-at.result c.from_residual-in_err-at.ensures (lacks c.args.tokens.now c.in_ok-low.at _ (has_read c.in_ok-low.low I low.1) c.in_err-at.ensures)
 
 pub between-returns-in_err-high : goal.between-returns-in_err-high
-between-returns-in_err-high t c = λ s I.
+between-returns-in_err-high t c = λ s b I.
     let low = c.in_ok-low.ensures in
     let word = c.in_ok-at.ensures in
-    told _ _ c.from_residual-in_err-high.result c.from_residual-in_err-high.ensures (fails_in c.args.tokens.now _ (past_word (codes "and") (has_read c.in_ok-low.low I low.1) word.2) c.in_err-high.ensures)
+    told _ _ c.from_residual-in_err-high.result c.from_residual-in_err-high.ensures (fails_in _ c.args.tokens.now _ (past_word (codes "and") (has_read c.in_ok-low.low I low.1) word.2) c.in_err-high.ensures)
 
 pub between-returns : goal.between-returns
-between-returns t c = λ s I.
+between-returns t c = λ s b I.
     let low = c.in_ok-low.ensures in
     let word = c.in_ok-at.ensures in
     let high = c.in_ok-high.ensures in
     (omega (arith, low.0, word.0, high.0), is_done (has_read c.in_ok-high.high (past_word (codes "and") (has_read c.in_ok-low.low I low.1) word.2) high.1))
 
 pub one_of-returns-in_err-at : goal.one_of-returns-in_err-at
-one_of-returns-in_err-at t c = λ s I.
+one_of-returns-in_err-at t c = λ s b I.
     told _ _ c.from_residual.result c.from_residual.ensures (lacks c.args.tokens.now c.args.from _ I c.in_err-at.ensures)
 
 pub one_of-returns-in_err-deeper : goal.one_of-returns-in_err-deeper
-one_of-returns-in_err-deeper t c = λ s I.
+one_of-returns-in_err-deeper t c = λ s b I.
     let open_ = c.in_ok-at.ensures in
     told _ _ c.from_residual-in_err-deeper.result c.from_residual-in_err-deeper.ensures (too_deep c.args.tokens.now _ (past_sign (codes "(") I open_.2) c.in_err-deeper.ensures)
 
 pub one_of-returns-in_err-of : goal.one_of-returns-in_err-of
-one_of-returns-in_err-of t c = λ s I.
+one_of-returns-in_err-of t c = λ s b I.
     let open_ = c.in_ok-at.ensures in
-    told _ _ c.from_residual-in_err-of.result c.from_residual-in_err-of.ensures (fails_nested c.in_ok-deeper.deeper c.args.tokens.now _ (past_sign (codes "(") I open_.2) c.in_ok-deeper.ensures c.in_err-of.ensures)
+    told _ _ c.from_residual-in_err-of.result c.from_residual-in_err-of.ensures (fails_nested _ c.in_ok-deeper.deeper c.args.tokens.now _ (past_sign (codes "(") I open_.2) c.in_ok-deeper.ensures c.in_err-of.ensures)
 
 pub one_of-returns-in_err-at-2 : goal.one_of-returns-in_err-at-2
-one_of-returns-in_err-at-2 t c = λ s I.
+one_of-returns-in_err-at-2 t c = λ s b I.
     let open_ = c.in_ok-at.ensures in
     let list = c.in_ok-of.ensures in
     told _ _ c.from_residual-in_err-at-2.result c.from_residual-in_err-at-2.ensures (lacks c.args.tokens.now c.in_ok-of.at _ (has_nested c.in_ok-of.of (past_sign (codes "(") I open_.2) c.in_ok-deeper.ensures list.1) c.in_err-at-2.ensures)
 
 pub one_of-returns : goal.one_of-returns
-one_of-returns t c = λ s I.
+one_of-returns t c = λ s b I.
     let open_ = c.in_ok-at.ensures in
     let list = c.in_ok-of.ensures in
     let close = c.in_ok-at-2.ensures in
@@ -373,29 +373,29 @@ one_of-returns t c = λ s I.
 pub primary-returns-then-is_sign : goal.primary-returns-then-is_sign
 primary-returns-then-is_sign t c =
     let I = saw (noted (started {n = c.args.depth} {r = value} {s = (drop c.args.from c.args.tokens.now)})) (sym c.is_sign.ensures.seen ∙ c.if-is_sign.true) in
-    handed _ _ _ _ c.group.result (λ x h. (h.0, is_done (closed_by x.0 I h.1))) (λ e h. fails_in c.args.tokens.now e I h) c.group.ensures
+    handed _ _ _ _ c.group.result (λ x h. (h.0, is_done (closed_by x.0 I h.1))) (λ e h. fails_in _ c.args.tokens.now e I h) c.group.ensures
 
 pub primary-returns-then-is_word : goal.primary-returns-then-is_word
 primary-returns-then-is_word t c =
     let I = saw (missed (noted (started {n = c.args.depth} {r = value} {s = (drop c.args.from c.args.tokens.now)})) (sym c.is_sign.ensures.seen ∙ c.if-is_sign.false)) (sym c.is_word.ensures.seen ∙ c.if-is_word.true) in
-    handed _ _ _ _ c.case.result (λ x h. (h.0, is_done (closed_by x.0 I h.1))) (λ e h. fails_in c.args.tokens.now e I h) c.case.ensures
+    handed _ _ _ _ c.case.result (λ x h. (h.0, is_done (closed_by x.0 I h.1))) (λ e h. fails_in _ c.args.tokens.now e I h) c.case.ensures
 
 pub primary-returns-then-is_word-2 : goal.primary-returns-then-is_word-2
 primary-returns-then-is_word-2 t c =
     let I = saw (missed (missed (noted (started {n = c.args.depth} {r = value} {s = (drop c.args.from c.args.tokens.now)})) (sym c.is_sign.ensures.seen ∙ c.if-is_sign.false)) (sym c.is_word.ensures.seen ∙ c.if-is_word.false)) (sym c.is_word-2.ensures.seen ∙ c.if-is_word-2.true) in
-    handed _ _ _ _ c.cast.result (λ x h. (h.0, is_done (closed_by x.0 I h.1))) (λ e h. fails_in c.args.tokens.now e I h) c.cast.ensures
+    handed _ _ _ _ c.cast.result (λ x h. (h.0, is_done (closed_by x.0 I (read_from c.meet.ensures h.1)))) (λ e h. fails_in _ c.args.tokens.now e I (failed_from _ _ _ _ _ _ _ c.meet.ensures h)) c.cast.ensures
 
 pub primary-returns-then-is_date : goal.primary-returns-then-is_date
-primary-returns-then-is_date t c = c.date.ensures c.args.depth (drop c.args.from c.args.tokens.now) (missed (missed (missed (noted (started {n = c.args.depth} {r = value} {s = (drop c.args.from c.args.tokens.now)})) (sym c.is_sign.ensures.seen ∙ c.if-is_sign.false)) (sym c.is_word.ensures.seen ∙ c.if-is_word.false)) (sym c.is_word-2.ensures.seen ∙ c.if-is_word-2.false))
+primary-returns-then-is_date t c = c.date.ensures c.args.depth (drop c.args.from c.args.tokens.now) _ (missed (missed (missed (noted (started {n = c.args.depth} {r = value} {s = (drop c.args.from c.args.tokens.now)})) (sym c.is_sign.ensures.seen ∙ c.if-is_sign.false)) (sym c.is_word.ensures.seen ∙ c.if-is_word.false)) (sym c.is_word-2.ensures.seen ∙ c.if-is_word-2.false))
 
 pub primary-returns : goal.primary-returns
-primary-returns t c = c.literal.ensures c.args.depth (drop c.args.from c.args.tokens.now) (without (missed (missed (missed (noted (started {n = c.args.depth} {r = value} {s = (drop c.args.from c.args.tokens.now)})) (sym c.is_sign.ensures.seen ∙ c.if-is_sign.false)) (sym c.is_word.ensures.seen ∙ c.if-is_word.false)) (sym c.is_word-2.ensures.seen ∙ c.if-is_word-2.false)) (sym c.is_name.ensures.seen ∙ c.if-is_name.false))
+primary-returns t c = c.literal.ensures c.args.depth (drop c.args.from c.args.tokens.now) _ (without (missed (missed (missed (noted (started {n = c.args.depth} {r = value} {s = (drop c.args.from c.args.tokens.now)})) (sym c.is_sign.ensures.seen ∙ c.if-is_sign.false)) (sym c.is_word.ensures.seen ∙ c.if-is_word.false)) (sym c.is_word-2.ensures.seen ∙ c.if-is_word-2.false)) (sym c.is_name.ensures.seen ∙ c.if-is_name.false))
 
 pub primary-returns-then-is_sign-2 : goal.primary-returns-then-is_sign-2
-primary-returns-then-is_sign-2 t c = c.call.ensures (drop c.args.from c.args.tokens.now) (missed (missed (missed (noted (started {n = c.args.depth} {r = value} {s = (drop c.args.from c.args.tokens.now)})) (sym c.is_sign.ensures.seen ∙ c.if-is_sign.false)) (sym c.is_word.ensures.seen ∙ c.if-is_word.false)) (sym c.is_word-2.ensures.seen ∙ c.if-is_word-2.false))
+primary-returns-then-is_sign-2 t c = c.call.ensures (drop c.args.from c.args.tokens.now) _ (missed (missed (missed (noted (started {n = c.args.depth} {r = value} {s = (drop c.args.from c.args.tokens.now)})) (sym c.is_sign.ensures.seen ∙ c.if-is_sign.false)) (sym c.is_word.ensures.seen ∙ c.if-is_word.false)) (sym c.is_word-2.ensures.seen ∙ c.if-is_word-2.false))
 
 pub primary-returns-then-is_name : goal.primary-returns-then-is_name
-primary-returns-then-is_name t c = c.column.ensures c.args.depth (drop c.args.from c.args.tokens.now) (missed (missed (missed (noted (started {n = c.args.depth} {r = value} {s = (drop c.args.from c.args.tokens.now)})) (sym c.is_sign.ensures.seen ∙ c.if-is_sign.false)) (sym c.is_word.ensures.seen ∙ c.if-is_word.false)) (sym c.is_word-2.ensures.seen ∙ c.if-is_word-2.false))
+primary-returns-then-is_name t c = c.column.ensures c.args.depth (drop c.args.from c.args.tokens.now) _ (missed (missed (missed (noted (started {n = c.args.depth} {r = value} {s = (drop c.args.from c.args.tokens.now)})) (sym c.is_sign.ensures.seen ∙ c.if-is_sign.false)) (sym c.is_word.ensures.seen ∙ c.if-is_word.false)) (sym c.is_word-2.ensures.seen ∙ c.if-is_word-2.false))
 
 pub group-returns-in_err-next : goal.group-returns-in_err-next
 group-returns-in_err-next t c = told _ _ c.from_residual.result c.from_residual.ensures (lacks c.args.tokens.now c.args.from _ (noted started) c.in_err-next.ensures)
@@ -408,7 +408,7 @@ group-returns-in_err-deeper t c =
 pub group-returns-in_err-inner : goal.group-returns-in_err-inner
 group-returns-in_err-inner t c =
     let open_ = c.in_ok-next.ensures in
-    told _ _ c.from_residual-in_err-inner.result c.from_residual-in_err-inner.ensures (fails_nested c.in_ok-deeper.deeper c.args.tokens.now _ (past_sign (codes "(") (noted started) open_.2) c.in_ok-deeper.ensures c.in_err-inner.ensures)
+    told _ _ c.from_residual-in_err-inner.result c.from_residual-in_err-inner.ensures (fails_nested _ c.in_ok-deeper.deeper c.args.tokens.now _ (past_sign (codes "(") (noted started) open_.2) c.in_ok-deeper.ensures c.in_err-inner.ensures)
 
 pub group-returns-in_err-next-2 : goal.group-returns-in_err-next-2
 group-returns-in_err-next-2 t c =
@@ -441,7 +441,7 @@ pub cast-returns-in_err-value : goal.cast-returns-in_err-value
 cast-returns-in_err-value t c =
     let word = c.in_ok-next.ensures in
     let open_ = c.in_ok-next-2.ensures in
-    told _ _ c.from_residual-in_err-value.result c.from_residual-in_err-value.ensures (fails_nested c.in_ok-deeper.deeper c.args.tokens.now _ (past_sign (codes "(") (past_word (codes "cast") (noted started) word.2) open_.2) c.in_ok-deeper.ensures c.in_err-value.ensures)
+    told _ _ c.from_residual-in_err-value.result c.from_residual-in_err-value.ensures (fails_nested _ c.in_ok-deeper.deeper c.args.tokens.now _ (past_sign (codes "(") (past_word (codes "cast") (noted started) word.2) open_.2) c.in_ok-deeper.ensures c.in_err-value.ensures)
 
 pub cast-returns-in_err-next-3 : goal.cast-returns-in_err-next-3
 cast-returns-in_err-next-3 t c =
@@ -488,20 +488,20 @@ case-returns-in_err-deeper t c =
 pub case-returns-in_err-operand : goal.case-returns-in_err-operand
 case-returns-in_err-operand t c =
     let word = c.in_ok-next.ensures in
-    told _ _ c.from_residual-in_err-operand.result c.from_residual-in_err-operand.ensures (fails_nested c.in_ok-deeper.deeper c.args.tokens.now _ (past_word (codes "case") (noted started) word.2) c.in_ok-deeper.ensures c.in_err-operand.ensures)
+    told _ _ c.from_residual-in_err-operand.result c.from_residual-in_err-operand.ensures (fails_nested _ c.in_ok-deeper.deeper c.args.tokens.now _ (past_word (codes "case") (noted started) word.2) c.in_ok-deeper.ensures (failed_from _ _ _ _ _ _ _ c.meet.ensures c.in_err-operand.ensures))
 
 pub case-returns-in_err-arms : goal.case-returns-in_err-arms
 case-returns-in_err-arms t c =
     let word = c.in_ok-next.ensures in
     let operand = c.in_ok-operand.ensures in
-    told _ _ c.from_residual-in_err-arms.result c.from_residual-in_err-arms.ensures (fails_nested c.in_ok-deeper.deeper c.args.tokens.now _ (has_nested c.in_ok-operand.operand (past_word (codes "case") (noted started) word.2) c.in_ok-deeper.ensures operand.1) c.in_ok-deeper.ensures c.in_err-arms.ensures)
+    told _ _ c.from_residual-in_err-arms.result c.from_residual-in_err-arms.ensures (fails_nested _ c.in_ok-deeper.deeper c.args.tokens.now _ (has_nested c.in_ok-operand.operand (past_word (codes "case") (noted started) word.2) c.in_ok-deeper.ensures (read_from c.meet.ensures operand.1)) c.in_ok-deeper.ensures c.in_err-arms.ensures)
 
 pub case-returns-in_err-otherwise : goal.case-returns-in_err-otherwise
 case-returns-in_err-otherwise t c =
     let word = c.in_ok-next.ensures in
     let operand = c.in_ok-operand.ensures in
     let arms = c.in_ok-arms.ensures in
-    told _ _ c.from_residual-in_err-otherwise.result c.from_residual-in_err-otherwise.ensures (fails_nested c.in_ok-deeper.deeper c.args.tokens.now _ (has_nested c.in_ok-arms.arms (has_nested c.in_ok-operand.operand (past_word (codes "case") (noted started) word.2) c.in_ok-deeper.ensures operand.1) c.in_ok-deeper.ensures arms.1) c.in_ok-deeper.ensures c.in_err-otherwise.ensures)
+    told _ _ c.from_residual-in_err-otherwise.result c.from_residual-in_err-otherwise.ensures (fails_nested _ c.in_ok-deeper.deeper c.args.tokens.now _ (has_nested c.in_ok-arms.arms (has_nested c.in_ok-operand.operand (past_word (codes "case") (noted started) word.2) c.in_ok-deeper.ensures (read_from c.meet.ensures operand.1)) c.in_ok-deeper.ensures arms.1) c.in_ok-deeper.ensures c.in_err-otherwise.ensures)
 
 pub case-returns-in_err-next-2 : goal.case-returns-in_err-next-2
 case-returns-in_err-next-2 t c =
@@ -509,7 +509,7 @@ case-returns-in_err-next-2 t c =
     let operand = c.in_ok-operand.ensures in
     let arms = c.in_ok-arms.ensures in
     let otherwise = c.in_ok-otherwise.ensures in
-    told _ _ c.from_residual-in_err-next-2.result c.from_residual-in_err-next-2.ensures (lacks c.args.tokens.now c.in_ok-otherwise.next _ (has_nested c.in_ok-otherwise.otherwise (has_nested c.in_ok-arms.arms (has_nested c.in_ok-operand.operand (past_word (codes "case") (noted started) word.2) c.in_ok-deeper.ensures operand.1) c.in_ok-deeper.ensures arms.1) c.in_ok-deeper.ensures otherwise.1) c.in_err-next-2.ensures)
+    told _ _ c.from_residual-in_err-next-2.result c.from_residual-in_err-next-2.ensures (lacks c.args.tokens.now c.in_ok-otherwise.next _ (has_nested c.in_ok-otherwise.otherwise (has_nested c.in_ok-arms.arms (has_nested c.in_ok-operand.operand (past_word (codes "case") (noted started) word.2) c.in_ok-deeper.ensures (read_from c.meet.ensures operand.1)) c.in_ok-deeper.ensures arms.1) c.in_ok-deeper.ensures otherwise.1) c.in_err-next-2.ensures)
 
 pub case-returns : goal.case-returns
 case-returns t c =
@@ -518,13 +518,13 @@ case-returns t c =
     let arms = c.in_ok-arms.ensures in
     let otherwise = c.in_ok-otherwise.ensures in
     let last = c.in_ok-next-2.ensures in
-    rw c.place-at.ensures (omega (arith, word.0, operand.0, arms.0, otherwise.0, last.0), is_done (past_word (codes "end") (has_nested c.in_ok-otherwise.otherwise (has_nested c.in_ok-arms.arms (has_nested c.in_ok-operand.operand (past_word (codes "case") (noted started) word.2) c.in_ok-deeper.ensures operand.1) c.in_ok-deeper.ensures arms.1) c.in_ok-deeper.ensures otherwise.1) last.2))
+    rw c.place-at.ensures (omega (arith, word.0, operand.0, arms.0, otherwise.0, last.0), is_done (past_word (codes "end") (has_nested c.in_ok-otherwise.otherwise (has_nested c.in_ok-arms.arms (has_nested c.in_ok-operand.operand (past_word (codes "case") (noted started) word.2) c.in_ok-deeper.ensures (read_from c.meet.ensures operand.1)) c.in_ok-deeper.ensures arms.1) c.in_ok-deeper.ensures otherwise.1) last.2))
 
 pub case_operand-returns-then-is_word : goal.case_operand-returns-then-is_word
 case_operand-returns-then-is_word t c = (omega arith, is_done (saw started (sym c.is_word.ensures.seen ∙ c.if-is_word.true)))
 
 pub case_operand-returns-in_err-operand : goal.case_operand-returns-in_err-operand
-case_operand-returns-in_err-operand t c = told _ _ c.from_residual.result c.from_residual.ensures (fails_in c.args.tokens.now _ (missed started (sym c.is_word.ensures.seen ∙ c.if-is_word.false)) c.in_err-operand.ensures)
+case_operand-returns-in_err-operand t c = told _ _ c.from_residual.result c.from_residual.ensures (fails_in _ c.args.tokens.now _ (missed started (sym c.is_word.ensures.seen ∙ c.if-is_word.false)) c.in_err-operand.ensures)
 
 pub case_operand-returns : goal.case_operand-returns
 case_operand-returns t c =
@@ -534,7 +534,7 @@ case_operand-returns t c =
 pub case_else-returns-in_err-otherwise : goal.case_else-returns-in_err-otherwise
 case_else-returns-in_err-otherwise t c =
     let word = c.is_word.ensures.taken c.if-is_word.true in
-    told _ _ c.from_residual.result c.from_residual.ensures (fails_in c.args.tokens.now _ (past_word (codes "else") started word.2) c.in_err-otherwise.ensures)
+    told _ _ c.from_residual.result c.from_residual.ensures (fails_in _ c.args.tokens.now _ (past_word (codes "else") started word.2) c.in_err-otherwise.ensures)
 
 pub case_else-returns-then-is_word : goal.case_else-returns-then-is_word
 case_else-returns-then-is_word t c =
@@ -551,7 +551,7 @@ arm-returns-in_err-next-clause-answers t c = told _ _ c.from_residual.result c.f
 pub arm-returns-in_err-test-clause-answers : goal.arm-returns-in_err-test-clause-answers
 arm-returns-in_err-test-clause-answers t c =
     let word = c.in_ok-next.ensures in
-    told _ _ c.from_residual-in_err-test.result c.from_residual-in_err-test.ensures (fails_in c.args.tokens.now _ (past_word (codes "when") (noted started) word.2) c.in_err-test.ensures)
+    told _ _ c.from_residual-in_err-test.result c.from_residual-in_err-test.ensures (fails_in _ c.args.tokens.now _ (past_word (codes "when") (noted started) word.2) c.in_err-test.ensures)
 
 pub arm-returns-in_err-next-2-clause-answers : goal.arm-returns-in_err-next-2-clause-answers
 arm-returns-in_err-next-2-clause-answers t c =
@@ -564,7 +564,7 @@ arm-returns-in_err-value-clause-answers t c =
     let word = c.in_ok-next.ensures in
     let test = c.in_ok-test.ensures in
     let then_ = c.in_ok-next-2.ensures in
-    told _ _ c.from_residual-in_err-value.result c.from_residual-in_err-value.ensures (fails_in c.args.tokens.now _ (past_word (codes "then") (has_read c.in_ok-test.test (past_word (codes "when") (noted started) word.2) test.1) then_.2) c.in_err-value.ensures)
+    told _ _ c.from_residual-in_err-value.result c.from_residual-in_err-value.ensures (fails_in _ c.args.tokens.now _ (past_word (codes "then") (has_read c.in_ok-test.test (past_word (codes "when") (noted started) word.2) test.1) then_.2) c.in_err-value.ensures)
 
 pub arm-returns-clause-answers : goal.arm-returns-clause-answers
 arm-returns-clause-answers t c =
@@ -592,7 +592,7 @@ pub args-returns-in-Nullif : goal.args-returns-in-Nullif
 args-returns-in-Nullif t c = rw c.in-Nullif.is c.nullif_args.ensures
 
 pub args-returns-in_default : goal.args-returns-in_default
-args-returns-in_default t c = c.one_arg.ensures c.args.function (drop c.args.from c.args.tokens.now) (alone c.args.function c.in_default.not-Count c.in_default.not-Coalesce c.in_default.not-Nullif)
+args-returns-in_default t c = c.one_arg.ensures c.args.function (drop c.args.from c.args.tokens.now) _ (alone c.args.function c.in_default.not-Count c.in_default.not-Coalesce c.in_default.not-Nullif)
 
 pub count_args-returns-then-is_sign : goal.count_args-returns-then-is_sign
 count_args-returns-then-is_sign t c = rw c.place-at.ensures (omega arith, is_done (past_sign (codes "*") (noted started) (c.is_sign.ensures.taken c.if-is_sign.true).2))
@@ -600,7 +600,7 @@ count_args-returns-then-is_sign t c = rw c.place-at.ensures (omega arith, is_don
 pub count_args-returns-in_err-value : goal.count_args-returns-in_err-value
 count_args-returns-in_err-value t c =
     let word = c.is_word.ensures.taken c.if-is_word.true in
-    told _ _ c.from_residual.result c.from_residual.ensures (fails_in c.args.tokens.now _ (past_word (codes "distinct") (without (noted started) (sym c.is_sign.ensures.seen ∙ c.if-is_sign.false)) word.2) c.in_err-value.ensures)
+    told _ _ c.from_residual.result c.from_residual.ensures (fails_in _ c.args.tokens.now _ (past_word (codes "distinct") (without (noted started) (sym c.is_sign.ensures.seen ∙ c.if-is_sign.false)) word.2) c.in_err-value.ensures)
 
 pub count_args-returns-then-is_word : goal.count_args-returns-then-is_word
 count_args-returns-then-is_word t c =
@@ -609,19 +609,19 @@ count_args-returns-then-is_word t c =
     rw (c.place-at.ensures, c.in_ok-value-2.ensures) (omega (arith, value.0), is_done (has_read c.in_ok-value.value (past_word (codes "distinct") (without (noted started) (sym c.is_sign.ensures.seen ∙ c.if-is_sign.false)) word.2) value.1))
 
 pub count_args-returns : goal.count_args-returns
-count_args-returns t c = c.one_arg.ensures Count (drop c.args.from c.args.tokens.now) (without (without (noted started) (sym c.is_sign.ensures.seen ∙ c.if-is_sign.false)) (sym c.is_word.ensures.seen ∙ c.if-is_word.false))
+count_args-returns t c = c.one_arg.ensures Count (drop c.args.from c.args.tokens.now) _ (without (without (noted started) (sym c.is_sign.ensures.seen ∙ c.if-is_sign.false)) (sym c.is_word.ensures.seen ∙ c.if-is_word.false))
 
 pub one_arg-returns-in_err-value : goal.one_arg-returns-in_err-value
-one_arg-returns-in_err-value t c = λ f s I.
-    told _ _ c.from_residual.result c.from_residual.ensures (fails_in c.args.tokens.now _ I c.in_err-value.ensures)
+one_arg-returns-in_err-value t c = λ f s b I.
+    told _ _ c.from_residual.result c.from_residual.ensures (fails_in _ c.args.tokens.now _ I c.in_err-value.ensures)
 
 pub one_arg-returns : goal.one_arg-returns
-one_arg-returns t c = λ f s I.
+one_arg-returns t c = λ f s b I.
     let value = c.in_ok-value.ensures in
     rw (c.place-at.ensures, c.in_ok-push.ensures.ok, c.new-values.ensures) (value.0, is_done (has_read c.in_ok-value.value I value.1))
 
 pub coalesce_args-returns-in_err-values : goal.coalesce_args-returns-in_err-values
-coalesce_args-returns-in_err-values t c = told _ _ c.from_residual.result c.from_residual.ensures (fails_in c.args.tokens.now _ (noted started) c.in_err-values.ensures)
+coalesce_args-returns-in_err-values t c = told _ _ c.from_residual.result c.from_residual.ensures (fails_in _ c.args.tokens.now _ (noted started) c.in_err-values.ensures)
 
 pub coalesce_args-returns : goal.coalesce_args-returns
 coalesce_args-returns t c =
@@ -629,7 +629,7 @@ coalesce_args-returns t c =
     rw c.place-at.ensures (values.0, is_done (has_read c.in_ok-values.values (noted started) values.1))
 
 pub nullif_args-returns-in_err-first : goal.nullif_args-returns-in_err-first
-nullif_args-returns-in_err-first t c = told _ _ c.from_residual.result c.from_residual.ensures (fails_in c.args.tokens.now _ (noted started) c.in_err-first.ensures)
+nullif_args-returns-in_err-first t c = told _ _ c.from_residual.result c.from_residual.ensures (fails_in _ c.args.tokens.now _ (noted started) c.in_err-first.ensures)
 
 pub nullif_args-returns-in_err-next : goal.nullif_args-returns-in_err-next
 nullif_args-returns-in_err-next t c =
@@ -640,7 +640,7 @@ pub nullif_args-returns-in_err-second : goal.nullif_args-returns-in_err-second
 nullif_args-returns-in_err-second t c =
     let first = c.in_ok-first.ensures in
     let comma = c.in_ok-next.ensures in
-    told _ _ c.from_residual-in_err-second.result c.from_residual-in_err-second.ensures (fails_in c.args.tokens.now _ (past_sign (codes ",") (has_read c.in_ok-first.first (noted started) first.1) comma.2) c.in_err-second.ensures)
+    told _ _ c.from_residual-in_err-second.result c.from_residual-in_err-second.ensures (fails_in _ c.args.tokens.now _ (past_sign (codes ",") (has_read c.in_ok-first.first (noted started) first.1) comma.2) c.in_err-second.ensures)
 
 pub nullif_args-returns : goal.nullif_args-returns
 nullif_args-returns t c =
@@ -650,48 +650,48 @@ nullif_args-returns t c =
     rw (c.place-at.ensures, c.in_ok-push-2.ensures.ok, c.in_ok-push.ensures.ok, c.new-values.ensures) (omega (arith, first.0, comma.0, second.0), is_done (has_read c.in_ok-second.second (past_sign (codes ",") (has_read c.in_ok-first.first (noted started) first.1) comma.2) second.1))
 
 pub call-returns-in-None : goal.call-returns-in-None
-call-returns-in-None t c = λ s I.
+call-returns-in-None t c = λ s b I.
     let name = name_here c.args.tokens.now c.args.from c.requires.name in
-    let J = past_name (λ x. read (named (place (drop c.args.from c.args.tokens.now)) x) done) I name.1 in
+    let J = counted c.meet.ensures (past_name (λ x. read (named (place (drop c.args.from c.args.tokens.now)) x) done) I name.1) in
     let K = call_left {n = c.args.depth} {at = place (drop c.args.from c.args.tokens.now)} c.args.tokens.now c.args.from None c.in-None.ensures name.1 c.requires.undated c.requires.opened in
-    fails_in c.args.tokens.now (Syntax (c.args.from + 1)) J (stuck_here c.args.tokens.now (c.args.from + 1) K)
+    fails_in _ c.args.tokens.now (Syntax (c.args.from + 1)) J (stuck_here c.args.tokens.now (c.args.from + 1) K)
 
 pub call-returns-in_err-next-in-Some : goal.call-returns-in_err-next-in-Some
-call-returns-in_err-next-in-Some t c = λ s I.
+call-returns-in_err-next-in-Some t c = λ s b I.
     let name = name_here c.args.tokens.now c.args.from c.requires.name in
-    let J = past_name (λ x. read (named (place (drop c.args.from c.args.tokens.now)) x) done) I name.1 in
+    let J = counted c.meet.ensures (past_name (λ x. read (named (place (drop c.args.from c.args.tokens.now)) x) done) I name.1) in
     let K = call_left {n = c.args.depth} {at = place (drop c.args.from c.args.tokens.now)} c.args.tokens.now c.args.from (Some c.in-Some.function) c.in-Some.ensures name.1 c.requires.undated c.requires.opened in
-    told _ _ c.from_residual.result c.from_residual.ensures (fails_in c.args.tokens.now _ J (lacks c.args.tokens.now (c.args.from + 1) _ K c.in_err-next-in-Some.ensures))
+    told _ _ c.from_residual.result c.from_residual.ensures (fails_in _ c.args.tokens.now _ J (lacks c.args.tokens.now (c.args.from + 1) _ K c.in_err-next-in-Some.ensures))
 
 pub call-returns-in_err-deeper-in-Some : goal.call-returns-in_err-deeper-in-Some
-call-returns-in_err-deeper-in-Some t c = λ s I.
+call-returns-in_err-deeper-in-Some t c = λ s b I.
     let name = name_here c.args.tokens.now c.args.from c.requires.name in
-    let J = past_name (λ x. read (named (place (drop c.args.from c.args.tokens.now)) x) done) I name.1 in
+    let J = counted c.meet.ensures (past_name (λ x. read (named (place (drop c.args.from c.args.tokens.now)) x) done) I name.1) in
     let K = call_left {n = c.args.depth} {at = place (drop c.args.from c.args.tokens.now)} c.args.tokens.now c.args.from (Some c.in-Some.function) c.in-Some.ensures name.1 c.requires.undated c.requires.opened in
     let open_ = c.in_ok-next-in-Some.ensures in
-    told _ _ c.from_residual-in_err-deeper-in-Some.result c.from_residual-in_err-deeper-in-Some.ensures (fails_in c.args.tokens.now _ J (too_deep c.args.tokens.now _ (past_sign (codes "(") K open_.2) c.in_err-deeper-in-Some.ensures))
+    told _ _ c.from_residual-in_err-deeper-in-Some.result c.from_residual-in_err-deeper-in-Some.ensures (fails_in _ c.args.tokens.now _ J (too_deep c.args.tokens.now _ (past_sign (codes "(") K open_.2) c.in_err-deeper-in-Some.ensures))
 
 pub call-returns-in_err-args-in-Some : goal.call-returns-in_err-args-in-Some
-call-returns-in_err-args-in-Some t c = λ s I.
+call-returns-in_err-args-in-Some t c = λ s b I.
     let name = name_here c.args.tokens.now c.args.from c.requires.name in
-    let J = past_name (λ x. read (named (place (drop c.args.from c.args.tokens.now)) x) done) I name.1 in
+    let J = counted c.meet.ensures (past_name (λ x. read (named (place (drop c.args.from c.args.tokens.now)) x) done) I name.1) in
     let K = call_left {n = c.args.depth} {at = place (drop c.args.from c.args.tokens.now)} c.args.tokens.now c.args.from (Some c.in-Some.function) c.in-Some.ensures name.1 c.requires.undated c.requires.opened in
     let open_ = c.in_ok-next-in-Some.ensures in
-    told _ _ c.from_residual-in_err-args-in-Some.result c.from_residual-in_err-args-in-Some.ensures (fails_in c.args.tokens.now _ J (fails_nested c.in_ok-deeper-in-Some.deeper c.args.tokens.now _ (past_sign (codes "(") K open_.2) c.in_ok-deeper-in-Some.ensures c.in_err-args-in-Some.ensures))
+    told _ _ c.from_residual-in_err-args-in-Some.result c.from_residual-in_err-args-in-Some.ensures (fails_in _ c.args.tokens.now _ J (fails_nested _ c.in_ok-deeper-in-Some.deeper c.args.tokens.now _ (past_sign (codes "(") K open_.2) c.in_ok-deeper-in-Some.ensures c.in_err-args-in-Some.ensures))
 
 pub call-returns-in_err-next-in-Some-2 : goal.call-returns-in_err-next-in-Some-2
-call-returns-in_err-next-in-Some-2 t c = λ s I.
+call-returns-in_err-next-in-Some-2 t c = λ s b I.
     let name = name_here c.args.tokens.now c.args.from c.requires.name in
-    let J = past_name (λ x. read (named (place (drop c.args.from c.args.tokens.now)) x) done) I name.1 in
+    let J = counted c.meet.ensures (past_name (λ x. read (named (place (drop c.args.from c.args.tokens.now)) x) done) I name.1) in
     let K = call_left {n = c.args.depth} {at = place (drop c.args.from c.args.tokens.now)} c.args.tokens.now c.args.from (Some c.in-Some.function) c.in-Some.ensures name.1 c.requires.undated c.requires.opened in
     let open_ = c.in_ok-next-in-Some.ensures in
     let args = c.in_ok-args-in-Some.ensures in
-    told _ _ c.from_residual-in_err-next-in-Some-2.result c.from_residual-in_err-next-in-Some-2.ensures (fails_in c.args.tokens.now _ J (lacks c.args.tokens.now c.in_ok-args-in-Some.next _ (has_nested c.in_ok-args-in-Some.args (past_sign (codes "(") K open_.2) c.in_ok-deeper-in-Some.ensures args.1) c.in_err-next-in-Some-2.ensures))
+    told _ _ c.from_residual-in_err-next-in-Some-2.result c.from_residual-in_err-next-in-Some-2.ensures (fails_in _ c.args.tokens.now _ J (lacks c.args.tokens.now c.in_ok-args-in-Some.next _ (has_nested c.in_ok-args-in-Some.args (past_sign (codes "(") K open_.2) c.in_ok-deeper-in-Some.ensures args.1) c.in_err-next-in-Some-2.ensures))
 
 pub call-returns-in_ok-next-in-Some-2 : goal.call-returns-in_ok-next-in-Some-2
-call-returns-in_ok-next-in-Some-2 t c = λ s I.
+call-returns-in_ok-next-in-Some-2 t c = λ s b I.
     let name = name_here c.args.tokens.now c.args.from c.requires.name in
-    let J = past_name (λ x. read (named (place (drop c.args.from c.args.tokens.now)) x) done) I name.1 in
+    let J = counted c.meet.ensures (past_name (λ x. read (named (place (drop c.args.from c.args.tokens.now)) x) done) I name.1) in
     let K = call_left {n = c.args.depth} {at = place (drop c.args.from c.args.tokens.now)} c.args.tokens.now c.args.from (Some c.in-Some.function) c.in-Some.ensures name.1 c.requires.undated c.requires.opened in
     let open_ = c.in_ok-next-in-Some.ensures in
     let args = c.in_ok-args-in-Some.ensures in

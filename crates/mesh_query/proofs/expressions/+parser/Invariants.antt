@@ -1,8 +1,8 @@
-use Rattle.std.proofs.Common.{◌+◌, ◌*◌, ◌-◌, ◌≤◌, drop, length}
+use Rattle.std.proofs.Common.{true, ◌+◌, ◌*◌, ◌-◌, ◌≤◌, drop, length}
 use Rattle.mesh_grammar.specs.Signs.{place}
 use Rattle.mesh_grammar.specs.Rules.{expr, more_ors, conjunction, more_ands, cat, more_cats, sum, more_sums, product, more_products, post, more_casts, arms, more_arms, exprs, more_exprs}
 use Rattle.mesh_grammar.specs.Plans.{done, read}
-use Rattle.mesh_words.specs.Answers.{Onward}
+use Rattle.mesh_query.specs.Answers.{Onward}
 use Rattle.mesh_query.proofs.expressions.+parser.Given as goal
 
 abbrev pub decreases-call : goal.decreases-call
@@ -90,49 +90,49 @@ abbrev pub decreases-nullif_args : goal.decreases-nullif_args
 decreases-nullif_args l = 20 * l.depth + 19
 
 abbrev pub invariant-expr-ors : goal.invariant-expr-ors
-invariant-expr-ors l = (l.from ≤ l.at) × Onward l.depth expr (drop l.from l.tokens) (read (more_ors (place (drop l.from l.tokens)) l.parts) done) (drop l.at l.tokens)
+invariant-expr-ors l = (l.from ≤ l.at) × Onward true l.depth expr (drop l.from l.tokens) (read (more_ors (place (drop l.from l.tokens)) l.parts) done) (drop l.at l.tokens) l.fn.nodes.left l.nodes.left
 
 abbrev pub decreases-expr-ors : goal.decreases-expr-ors
 decreases-expr-ors l = length l.initial.tokens - l.at
 
 abbrev pub invariant-conjunction-ands : goal.invariant-conjunction-ands
-invariant-conjunction-ands l = (l.from ≤ l.at) × Onward l.depth conjunction (drop l.from l.tokens) (read (more_ands (place (drop l.from l.tokens)) l.parts) done) (drop l.at l.tokens)
+invariant-conjunction-ands l = (l.from ≤ l.at) × Onward true l.depth conjunction (drop l.from l.tokens) (read (more_ands (place (drop l.from l.tokens)) l.parts) done) (drop l.at l.tokens) l.fn.nodes.left l.nodes.left
 
 abbrev pub decreases-conjunction-ands : goal.decreases-conjunction-ands
 decreases-conjunction-ands l = length l.initial.tokens - l.at
 
 abbrev pub invariant-cat-cats : goal.invariant-cat-cats
-invariant-cat-cats l = (l.from ≤ l.at) × Onward l.depth cat (drop l.from l.tokens) (read (more_cats (place (drop l.from l.tokens)) l.parts) done) (drop l.at l.tokens)
+invariant-cat-cats l = (l.from ≤ l.at) × Onward true l.depth cat (drop l.from l.tokens) (read (more_cats (place (drop l.from l.tokens)) l.parts) done) (drop l.at l.tokens) l.fn.nodes.left l.nodes.left
 
 abbrev pub decreases-cat-cats : goal.decreases-cat-cats
 decreases-cat-cats l = length l.initial.tokens - l.at
 
 abbrev pub invariant-sum-sums : goal.invariant-sum-sums
-invariant-sum-sums l = (l.from ≤ l.at) × Onward l.depth sum (drop l.from l.tokens) (read (more_sums (place (drop l.from l.tokens)) l.first l.rest) done) (drop l.at l.tokens)
+invariant-sum-sums l = (l.from ≤ l.at) × Onward true l.depth sum (drop l.from l.tokens) (read (more_sums (place (drop l.from l.tokens)) l.first l.rest) done) (drop l.at l.tokens) l.fn.nodes.left l.nodes.left
 
 abbrev pub decreases-sum-sums : goal.decreases-sum-sums
 decreases-sum-sums l = length l.initial.tokens - l.at
 
 abbrev pub invariant-product-products : goal.invariant-product-products
-invariant-product-products l = (l.from ≤ l.at) × Onward l.depth product (drop l.from l.tokens) (read (more_products (place (drop l.from l.tokens)) l.first l.rest) done) (drop l.at l.tokens)
+invariant-product-products l = (l.from ≤ l.at) × Onward true l.depth product (drop l.from l.tokens) (read (more_products (place (drop l.from l.tokens)) l.first l.rest) done) (drop l.at l.tokens) l.fn.nodes.left l.nodes.left
 
 abbrev pub decreases-product-products : goal.decreases-product-products
 decreases-product-products l = length l.initial.tokens - l.at
 
 abbrev pub invariant-post-casts : goal.invariant-post-casts
-invariant-post-casts l = (l.from ≤ l.at) × Onward l.depth post (drop l.from l.tokens) (read (more_casts (place (drop l.from l.tokens)) l.value l.casts) done) (drop l.at l.tokens)
+invariant-post-casts l = (l.from ≤ l.at) × Onward true l.depth post (drop l.from l.tokens) (read (more_casts (place (drop l.from l.tokens)) l.value l.casts) done) (drop l.at l.tokens) l.fn.nodes.left l.nodes.left
 
 abbrev pub decreases-post-casts : goal.decreases-post-casts
 decreases-post-casts l = length l.initial.tokens - l.at
 
 abbrev pub invariant-arms-whens : goal.invariant-arms-whens
-invariant-arms-whens l = (l.from ≤ l.at) × Onward l.depth arms (drop l.from l.tokens) (read (more_arms l.arms) done) (drop l.at l.tokens)
+invariant-arms-whens l = (l.from ≤ l.at) × Onward true l.depth arms (drop l.from l.tokens) (read (more_arms l.arms) done) (drop l.at l.tokens) l.fn.nodes.left l.nodes.left
 
 abbrev pub decreases-arms-whens : goal.decreases-arms-whens
 decreases-arms-whens l = length l.initial.tokens - l.at
 
 abbrev pub invariant-exprs-commas : goal.invariant-exprs-commas
-invariant-exprs-commas l = (l.from ≤ l.at) × Onward l.depth exprs (drop l.from l.tokens) (read (more_exprs l.list) done) (drop l.at l.tokens)
+invariant-exprs-commas l = (l.from ≤ l.at) × Onward true l.depth exprs (drop l.from l.tokens) (read (more_exprs l.list) done) (drop l.at l.tokens) l.fn.nodes.left l.nodes.left
 
 abbrev pub decreases-exprs-commas : goal.decreases-exprs-commas
 decreases-exprs-commas l = length l.initial.tokens - l.at

@@ -2,7 +2,7 @@ use Rattle.std.proofs.Common.{codes, drop, arith}
 use Rattle.mesh_grammar.specs.Signs.{place}
 use Rattle.mesh_grammar.specs.Rules.{union}
 use Rattle.mesh_grammar.specs.Plans.{take, nest, done, is_word, is_sign}
-use Rattle.mesh_words.proofs.Steps.{started, noted, past_word, past_sign, past_name, has_nested, is_done}
+use Rattle.mesh_query.proofs.Steps.{started, noted, past_word, past_sign, past_name, has_nested, is_done}
 use Rattle.mesh_query.proofs.Descent.{told, lacks, fails_nested, too_deep}
 use Rattle.mesh_query.proofs.queries.cte.Goals as goal
 
@@ -32,7 +32,7 @@ returns-in_err-body c =
     let name = c.in_ok-name.ensures in
     let as_ = c.in_ok-next.ensures in
     let open_ = c.in_ok-next-2.ensures in
-    told _ _ c.from_residual-in_err-body.result c.from_residual-in_err-body.ensures (fails_nested c.in_ok-deeper.deeper c.args.tokens.now _ (past_sign (codes "(") (past_word (codes "as") (past_name (λ x. take (is_word (codes "as")) (λ j. take (is_sign (codes "(")) (λ i. nest union (λ u. take (is_sign (codes ")")) (λ h. done (record { at = place (drop c.args.from c.args.tokens.now); name = x; body = u })))))) (noted started) name.2) as_.2) open_.2) c.in_ok-deeper.ensures c.in_err-body.ensures)
+    told _ _ c.from_residual-in_err-body.result c.from_residual-in_err-body.ensures (fails_nested _ c.in_ok-deeper.deeper c.args.tokens.now _ (past_sign (codes "(") (past_word (codes "as") (past_name (λ x. take (is_word (codes "as")) (λ j. take (is_sign (codes "(")) (λ i. nest union (λ u. take (is_sign (codes ")")) (λ h. done (record { at = place (drop c.args.from c.args.tokens.now); name = x; body = u })))))) (noted started) name.2) as_.2) open_.2) c.in_ok-deeper.ensures c.in_err-body.ensures)
 
 pub returns-in_err-next-3 : goal.returns-in_err-next-3
 returns-in_err-next-3 c =

@@ -1,18 +1,18 @@
 use Rattle.std.proofs.Common.{codes, arith, sym, ◌∙◌}
-use Rattle.mesh_words.proofs.Steps.{started, past_word, without, has_read, is_done}
-use Rattle.mesh_query.proofs.Descent.{told, fails_in}
+use Rattle.mesh_query.proofs.Steps.{started, past_word, without, has_read, is_done, read_from}
+use Rattle.mesh_query.proofs.Descent.{told, fails_in, failed_from}
 use Rattle.mesh_query.proofs.queries.having.Goals as goal
 
 pub returns-in_err-having : goal.returns-in_err-having
 returns-in_err-having c =
     let word = c.is_word.ensures.taken c.if-is_word.true in
-    told _ _ c.from_residual.result c.from_residual.ensures (fails_in c.args.tokens.now _ (past_word (codes "having") started word.2) c.in_err-having.ensures)
+    told _ _ c.from_residual.result c.from_residual.ensures (fails_in _ c.args.tokens.now _ (past_word (codes "having") started word.2) (failed_from _ _ _ _ _ _ _ c.begin.ensures c.in_err-having.ensures))
 
 pub returns-then-is_word : goal.returns-then-is_word
 returns-then-is_word c =
     let word = c.is_word.ensures.taken c.if-is_word.true in
     let value = c.in_ok-having.ensures in
-    (omega (arith, value.0), is_done (has_read c.in_ok-having.having (past_word (codes "having") started word.2) value.1))
+    (omega (arith, value.0), is_done (has_read c.in_ok-having.having (past_word (codes "having") started word.2) (read_from c.begin.ensures value.1)))
 
 pub returns : goal.returns
 returns c = (omega arith, is_done (without started (sym c.is_word.ensures.seen ∙ c.if-is_word.false)))

@@ -5,5 +5,5 @@ use Rattle.mesh_query.proofs.Refused.{syntax_refused}
 use Rattle.mesh_query.proofs.reader.refusal.Goals as goal
 
 pub returns-in-Syntax : goal.returns-in-Syntax
-returns-in-Syntax c = λ from h.
-    syntax_refused c.args.tokens.now from c.in-Syntax.token c.end_before.result (subst (λ (e : Fault). IsAmiss c.args.tokens.now (drop from c.args.tokens.now) e) c.in-Syntax.is h) c.end_before.ensures
+returns-in-Syntax c = λ from left p h.
+    syntax_refused c.args.tokens.now from c.in-Syntax.token c.end_before.result left p (subst (λ (e : Fault). IsAmiss c.args.tokens.now (drop from c.args.tokens.now) left e) c.in-Syntax.is h) c.end_before.ensures

@@ -1,26 +1,26 @@
-use Rattle.std.proofs.Common.{arith, sym, ◌∙◌}
-use Rattle.mesh_words.proofs.Steps.{started, noted, saw, missed, has_read, is_done}
+use Rattle.std.proofs.Common.{refl, arith, sym, ◌∙◌}
+use Rattle.mesh_query.proofs.Steps.{started, noted, saw, missed, has_read, is_done}
 use Rattle.mesh_query.proofs.Descent.{told, fails_in, closed, goes_on}
 use Rattle.mesh_query.proofs.relations.relations.Goals as goal
 
 pub returns-in_err-first : goal.returns-in_err-first
-returns-in_err-first c = told _ _ c.from_residual.result c.from_residual.ensures (fails_in c.args.tokens.now _ (noted started) (c.in_err-first.ensures c.args.depth))
+returns-in_err-first c = told _ _ c.from_residual.result c.from_residual.ensures (fails_in _ c.args.tokens.now _ (noted started) (c.in_err-first.ensures c.args.depth _))
 
 pub joins-init : goal.joins-init
 joins-init c =
-    let first = c.in_ok-first.ensures c.args.depth in
+    let first = c.in_ok-first.ensures c.args.depth _ in
     rw c.new-joins.ensures (first.0, has_read c.in_ok-first.first (noted started) first.1)
 
 pub joins-preserved : goal.joins-preserved
 joins-preserved c =
     let before = c.joins.invariant in
     let more = c.in_ok-more.ensures.answers in
-    rw c.in_ok-push.ensures.ok (omega (arith, before.0, more.0), goes_on (λ x. x) before.1 (has_read c.in_ok-more.more (saw started (sym c.begins_join.ensures.seen ∙ c.joins-test.true)) more.1))
+    rw c.in_ok-push.ensures.ok (omega (arith, before.0, more.0), goes_on (λ x. x) (refl, λ z. refl) before.1 (has_read c.in_ok-more.more (saw started (sym c.begins_join.ensures.seen ∙ c.joins-test.true)) more.1))
 
 pub returns-in_err-more : goal.returns-in_err-more
 returns-in_err-more c =
     let before = c.joins.invariant in
-    told _ _ c.from_residual-in_err-more.result c.from_residual-in_err-more.ensures (fails_in c.args.tokens.now _ before.1 (fails_in c.args.tokens.now _ (saw started (sym c.begins_join.ensures.seen ∙ c.joins-test.true)) c.in_err-more.ensures.answers))
+    told _ _ c.from_residual-in_err-more.result c.from_residual-in_err-more.ensures (fails_in _ c.args.tokens.now _ before.1 (fails_in _ c.args.tokens.now _ (saw started (sym c.begins_join.ensures.seen ∙ c.joins-test.true)) c.in_err-more.ensures.answers))
 
 pub returns : goal.returns
 returns c =
