@@ -8,10 +8,9 @@ use Rattle.mesh_io.specs.declared.files.File.{File}
 use Rattle.mesh_query.proofs.OneRefusal.{one_refusal, short}
 use Rattle.mesh_statement.specs.Statement.{Read, statement}
 use Rattle.mesh_surface.specs.declared.queries.Surface.{Surface}
-use Rattle.mesh_text.specs.declared.model.ModelText.{ModelText}
 use Rattle.mesh_text.specs.declared.model.Whole.{Whole}
 use Rattle.mesh_text.specs.Lexed.{file_tokens, file_fault}
-use Rattle.mesh_text.specs.ModelTexts.{is_seed_text, body, whole, with_tokens, finished, model_of, query_at}
+use Rattle.mesh_text.specs.ModelTexts.{is_seed_text, body, with_tokens, finished, query_at}
 use Rattle.mesh_text.specs.Reads.{IsQueryRead}
 use Rattle.mesh_tokens.specs.Gives.{◌>>=◌ as ◌onto◌}
 use Rattle.mesh_tokens.specs.declared.faults.FaultKind.{FaultKind}

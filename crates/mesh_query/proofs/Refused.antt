@@ -1,5 +1,5 @@
 -- From the answers of the descent to what is refused, and that what is read is the only tree.
-use Rattle.std.proofs.Common.{◌≡◌, ◌⊎◌, false, true, ℕ, ◌+◌, ◌<◌, [], ◌∷◌, ◌++◌, codes, inl, inr, List, length, drop, take, get_or, refl, ap, subst, sym, ◌∙◌, append_assoc}
+use Rattle.std.proofs.Common.{◌≡◌, ◌⊎◌, false, ℕ, ◌+◌, ◌<◌, [], ◌∷◌, ◌++◌, codes, inl, inr, List, length, drop, take, get_or, refl, ap, subst, sym, ◌∙◌, append_assoc}
 use Rattle.std.proofs.lemmas.List.{drop_more, take_more, take-append-drop, append_cancel_right}
 use Rattle.mesh_tokens.specs.declared.tokens.Token.{Token}
 use Rattle.mesh_tokens.specs.declared.tokens.TokenKind.TheVariants.{Number}

@@ -1,17 +1,17 @@
 -- Reading tokens ends in one way: one place, one cause and one number of nodes that are left.
-use Rattle.std.proofs.Common.{◌≡◌, ℕ, ℤ, ◌+◌, List, [], ◌∷◌, Bool, true, false, Some, None, ◌⊎◌, inl, inr, refl, ap, sym, ◌∙◌, subst, arith}
+use Rattle.std.proofs.Common.{◌≡◌, ℕ, ℤ, ◌+◌, List, [], ◌∷◌, Bool, true, false, ◌⊎◌, inl, inr, refl, ap, sym, ◌∙◌, subst, arith}
 use Rattle.mesh_tokens.specs.declared.tokens.Token.{Token}
 use Rattle.mesh_grammar.specs.Signs.{IsDay}
 use Rattle.mesh_grammar.specs.Rules.{Rule, Tree}
-use Rattle.mesh_grammar.specs.Plans.{Plan, done, stuck, accept, peek, note, read, nest, day, star, plan}
-use Rattle.mesh_grammar.specs.Machine.{next, begins, are_star, begins_star, Runs, ends, accepts, rejects, sees, misses, notes, reads, nests, days, stars, starless, Cause, syntax, nesting, Fails, fails_here, fails_deep, fails_day, fails_behind_day, fails_after, fails_without, fails_seen, fails_missed, fails_noted, fails_first, fails_then, fails_inside, fails_behind, fails_starred, fails_starless}
+use Rattle.mesh_grammar.specs.Plans.{Plan, plan}
+use Rattle.mesh_grammar.specs.Machine.{begins, are_star, begins_star, Runs, ends, accepts, rejects, sees, misses, notes, reads, nests, days, stars, starless, Cause, syntax, nesting, Fails, fails_here, fails_deep, fails_day, fails_behind_day, fails_after, fails_without, fails_seen, fails_missed, fails_noted, fails_first, fails_then, fails_inside, fails_behind, fails_starred, fails_starless}
 use Rattle.mesh_tokens.specs.declared.tokens.TokenKind.TheVariants.{Text}
 use Rattle.mesh_time.specs.Moments.{IsDayText}
 use Rattle.mesh_time.proofs.TextLaws.{one_day}
 use Rattle.mesh_grammar.proofs.Runs.{refused, Deep}
 use Rattle.mesh_grammar.proofs.Endings.{all}
 use Rattle.mesh_query.specs.Counts.{is_node, less, inside, entered, left_behind, left_at}
-use Rattle.mesh_query.proofs.Counted.{Count, Like, Run, Twice, Took, TookStar, Parts, parts, Fault, First, Then, FailsBehind, FailsBehindStar, Here, Faults, faults}
+use Rattle.mesh_query.proofs.Counted.{Count, Like, Run, Twice, Took, TookStar, parts, Fault, First, Then, FailsBehind, FailsBehindStar, Here, faults}
 use Rattle.mesh_query.proofs.Descent.{both}
 
 -- the same tree, the same rest, and as many nodes left
@@ -133,55 +133,55 @@ clash {c = c} {n = n} {o = o} {a = a} {e = e} {m = m} d k =
     as_deep nesting = refl
 
 -- the same cause and place, and as many nodes left
-abbrev pub Alike : Cause → Cause → List Token → List Token → Count → Count → Type 0
-Alike b k e g F G = (b ≡ k) × (e ≡ g) × Like F G
+abbrev pub SameFault : Cause → Cause → List Token → List Token → Count → Count → Type 0
+SameFault b k e g F G = (b ≡ k) × (e ≡ g) × Like F G
 
 -- two failed runs of one plan from one list are one
 abbrev OneFault : {r : Rule} → Plan r → Cause → ℕ → List Token → List Token → Count → Type 0
-OneFault {r = r} p b n s e F = (k : Cause) (g : List Token) (d : Fails k n r p s g) → Alike b k e g F (λ i c. left_at i d c)
+OneFault {r = r} p b n s e F = (k : Cause) (g : List Token) (d : Fails k n r p s g) → SameFault b k e g F (λ i c. left_at i d c)
 
-by_fault : {b k : Cause} {n : ℕ} {r : Rule} {p : Plan r} {s e g : List Token} {F G : Count} → OneFault p b n s e F → Fault p k n s g G → Alike b k e g F G
+by_fault : {b k : Cause} {n : ℕ} {r : Rule} {p : Plan r} {s e g : List Token} {F G : Count} → OneFault p b n s e F → Fault p k n s g G → SameFault b k e g F G
 by_fault {k = k} {g = g} I y = let z = I k g y.0 in (z.0, z.1, λ i c. z.2 i c ∙ sym (y.1 i c))
 
 fault_behind : {b k : Cause} {n : ℕ} {r : Rule} (test : Token → Bool) (f : Token → Plan r) (q : Plan r) {x : Token} {s e g : List Token} {F G : Count} → test x ≡ true → OneFault (f x) b n s e F →
-    FailsBehind test f k n (x ∷ s) g G ⊎ ((begins test (x ∷ s) ≡ false) × Fault q k n (x ∷ s) g G) → Alike b k e g (λ i c. F i (less (is_node r x.kind) c)) G
+    FailsBehind test f k n (x ∷ s) g G ⊎ ((begins test (x ∷ s) ≡ false) × Fault q k n (x ∷ s) g G) → SameFault b k e g (λ i c. F i (less (is_node r x.kind) c)) G
 fault_behind {k = k} {r = r} test f q {x = x} {g = g} h I (inl y) = let z = I k g y.1.0 in (z.0, z.1, λ i c. z.2 i (less (is_node r x.kind) c) ∙ sym (y.1.1 i c))
 fault_behind test f q h I (inr y) = absurd (both h y.0)
 
 fault_without : {b k : Cause} {n : ℕ} {r : Rule} (test : Token → Bool) (f : Token → Plan r) (q : Plan r) {s e g : List Token} {F G : Count} → begins test s ≡ false → OneFault q b n s e F →
-    FailsBehind test f k n s g G ⊎ ((begins test s ≡ false) × Fault q k n s g G) → Alike b k e g F G
+    FailsBehind test f k n s g G ⊎ ((begins test s ≡ false) × Fault q k n s g G) → SameFault b k e g F G
 fault_without {k = k} {n = n} test f q {s = s} {g = g} {G = G} h I (inl y) = absurd (both (failed_begins test f k n s g G y) h)
 fault_without test f q h I (inr y) = by_fault I y.1
 
 fault_seen : {b k : Cause} {n : ℕ} {r : Rule} (test : Token → Bool) (p q : Plan r) {s e g : List Token} {F G : Count} → begins test s ≡ true → OneFault p b n s e F →
-    ((begins test s ≡ true) × Fault p k n s g G) ⊎ ((begins test s ≡ false) × Fault q k n s g G) → Alike b k e g F G
+    ((begins test s ≡ true) × Fault p k n s g G) ⊎ ((begins test s ≡ false) × Fault q k n s g G) → SameFault b k e g F G
 fault_seen test p q h I (inl y) = by_fault I y.1
 fault_seen test p q h I (inr y) = absurd (both h y.0)
 
 fault_missed : {b k : Cause} {n : ℕ} {r : Rule} (test : Token → Bool) (p q : Plan r) {s e g : List Token} {F G : Count} → begins test s ≡ false → OneFault q b n s e F →
-    ((begins test s ≡ true) × Fault p k n s g G) ⊎ ((begins test s ≡ false) × Fault q k n s g G) → Alike b k e g F G
+    ((begins test s ≡ true) × Fault p k n s g G) ⊎ ((begins test s ≡ false) × Fault q k n s g G) → SameFault b k e g F G
 fault_missed test p q h I (inl y) = absurd (both y.0 h)
 fault_missed test p q h I (inr y) = by_fault I y.1
 
 fault_starred : {b k : Cause} {n : ℕ} {r : Rule} (f : Token → Plan r) (q : Plan r) {x d m : Token} {s e g : List Token} {F G : Count} → are_star x d m ≡ true → OneFault (f x) b n s e F →
-    FailsBehindStar f k n (x ∷ d ∷ m ∷ s) g G ⊎ ((begins_star (x ∷ d ∷ m ∷ s) ≡ false) × Fault q k n (x ∷ d ∷ m ∷ s) g G) → Alike b k e g F G
+    FailsBehindStar f k n (x ∷ d ∷ m ∷ s) g G ⊎ ((begins_star (x ∷ d ∷ m ∷ s) ≡ false) × Fault q k n (x ∷ d ∷ m ∷ s) g G) → SameFault b k e g F G
 fault_starred f q h I (inl y) = by_fault I y.1
 fault_starred f q h I (inr y) = absurd (both h y.0)
 
 fault_starless : {b k : Cause} {n : ℕ} {r : Rule} (f : Token → Plan r) (q : Plan r) {s e g : List Token} {F G : Count} → begins_star s ≡ false → OneFault q b n s e F →
-    FailsBehindStar f k n s g G ⊎ ((begins_star s ≡ false) × Fault q k n s g G) → Alike b k e g F G
+    FailsBehindStar f k n s g G ⊎ ((begins_star s ≡ false) × Fault q k n s g G) → SameFault b k e g F G
 fault_starless {k = k} {n = n} f q {s = s} {g = g} {G = G} h I (inl y) = absurd (both (failed_star_begins f k n s g G y) h)
 fault_starless f q h I (inr y) = by_fault I y.1
 
 -- the part fails, and so do both
 fault_first : {b k : Cause} {n j : ℕ} (q : Rule) {r o : Rule} (f : Tree o → Plan r) {s e g : List Token} {D G : Count} → ((m : List Token) (a : Tree o) → Runs j o (plan o) a s m → ⊥) → OneFault (plan o) b j s e D → First q o k j s g G ⊎ Then q o f k n j s g G →
-    Alike b k e g (λ i c. D (inside i o) (entered i q o c)) G
+    SameFault b k e g (λ i c. D (inside i o) (entered i q o c)) G
 fault_first {k = k} q {o = o} f {g = g} h I (inl y) = let z = I k g y.0 in (z.0, z.1, λ i c. z.2 (inside i o) (entered i q o c) ∙ sym (y.1 i c))
 fault_first q f h I (inr y) = absurd (h y.1 y.0 y.2)
 
 -- the part is read, and the rest fails
 fault_then : {b k : Cause} {n j : ℕ} (q : Rule) {r o : Rule} (f : Tree o → Plan r) {a : Tree o} {s m e g : List Token} {D F G : Count} → Runs j o (plan o) a s m → One (plan o) j a s m D → OneFault (f a) b n m e F → First q o k j s g G ⊎ Then q o f k n j s g G →
-    Alike b k e g (λ i c. F i (D (inside i o) (entered i q o c))) G
+    SameFault b k e g (λ i c. F i (D (inside i o) (entered i q o c))) G
 fault_then q f d I J (inl y) = absurd (clash y.0 d)
 fault_then {k = k} {n = n} q {r = r} {o = o} f {a = a} {m = m} {g = g} {F = F} d I J (inr y) =
     let x = I y.0 y.1 y.2 in
@@ -198,7 +198,7 @@ fault_then {k = k} {n = n} q {r = r} {o = o} f {a = a} {m = m} {g = g} {F = F} d
 abbrev Deeper : {r : Rule} (q o : Rule) (f : Tree o → Plan r) → Cause → ℕ → List Token → List Token → Count → Type 0
 Deeper q o f k n s g G = ((n ≡ 0) × Here nesting k s g G) ⊎ ((j : ℕ) × (n ≡ j + 1) × (First q o k j s g G ⊎ Then q o f k n j s g G))
 
-fault_deep : {k : Cause} {n : ℕ} (q : Rule) {r o : Rule} (f : Tree o → Plan r) {s g : List Token} {G : Count} → n ≡ 0 → Deeper q o f k n s g G → Alike nesting k s g (λ i c. c) G
+fault_deep : {k : Cause} {n : ℕ} (q : Rule) {r o : Rule} (f : Tree o → Plan r) {s g : List Token} {G : Count} → n ≡ 0 → Deeper q o f k n s g G → SameFault nesting k s g (λ i c. c) G
 fault_deep q f h (inl y) = (sym y.1.0, sym y.1.1, λ i c. sym (y.1.2 i c))
 fault_deep q f h (inr y) = absurd (omega (arith, h, y.1))
 
@@ -210,12 +210,12 @@ inner {k = k} {n = n} {j = j} q {o = o} f {s = s} {g = g} {G = G} h (inr y) =
     subst (λ (z : ℕ). First q o k z s g G ⊎ Then q o f k n z s g G) same y.2
 
 fault_no_day : {k : Cause} {n : ℕ} {r : Rule} (f : ℤ → Plan r) {s g : List Token} {G : Count} → ((d : ℤ) (m : List Token) → IsDay d s m → ⊥) →
-    (((d : ℤ) (m : List Token) → IsDay d s m → ⊥) × Here syntax k s g G) ⊎ ((d : ℤ) × (m : List Token) × IsDay d s m × Fault (f d) k n m g G) → Alike syntax k s g (λ i c. c) G
+    (((d : ℤ) (m : List Token) → IsDay d s m → ⊥) × Here syntax k s g G) ⊎ ((d : ℤ) × (m : List Token) × IsDay d s m × Fault (f d) k n m g G) → SameFault syntax k s g (λ i c. c) G
 fault_no_day f h (inl y) = (sym y.1.0, sym y.1.1, λ i c. sym (y.1.2 i c))
 fault_no_day f h (inr y) = absurd (h y.0 y.1 y.2)
 
 fault_behind_day : {b k : Cause} {n : ℕ} {r : Rule} (f : ℤ → Plan r) {d : ℤ} {s m e g : List Token} {F G : Count} → IsDay d s m → OneFault (f d) b n m e F →
-    (((d : ℤ) (m : List Token) → IsDay d s m → ⊥) × Here syntax k s g G) ⊎ ((d : ℤ) × (m : List Token) × IsDay d s m × Fault (f d) k n m g G) → Alike b k e g F G
+    (((d : ℤ) (m : List Token) → IsDay d s m → ⊥) × Here syntax k s g G) ⊎ ((d : ℤ) × (m : List Token) × IsDay d s m × Fault (f d) k n m g G) → SameFault b k e g F G
 fault_behind_day f h I (inl y) = absurd (y.0 _ _ h)
 fault_behind_day {k = k} {n = n} f {d = d} {g = g} {G = G} h I (inr y) =
     let z = one_day_of h y.2 in

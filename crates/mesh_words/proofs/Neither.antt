@@ -1,5 +1,5 @@
 -- A token that is none of several signs is no operator.
-use Rattle.std.proofs.Common.{◌≡◌, List, [], ◌∷◌, codes, Bool, true, false, ◌||◌, refl}
+use Rattle.std.proofs.Common.{◌≡◌, List, [], ◌∷◌, codes, Bool, false, ◌||◌, refl}
 use Rattle.mesh_tokens.specs.declared.tokens.Token.{Token}
 use Rattle.mesh_grammar.specs.Plans.{is_sign, is_cmp, is_add, is_mul}
 use Rattle.mesh_grammar.specs.Machine.{begins}

@@ -1,5 +1,4 @@
 use Rattle.std.proofs.Common.{◌+◌, codes, drop, arith, sym, ◌∙◌}
-use Rattle.mesh_grammar.specs.Rules.{join}
 use Rattle.mesh_query.proofs.Steps.{started, noted, past_word, past_sign, without, has_read, is_done}
 use Rattle.mesh_query.proofs.Descent.{told, lacks, fails_in}
 use Rattle.mesh_query.proofs.relations.join.Goals as goal
