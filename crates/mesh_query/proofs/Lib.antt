@@ -4,3 +4,5 @@ pub mod Counted
 pub mod Steps
 pub mod Stops
 pub mod OneRefusal
+pub mod Weights
+pub mod Layers

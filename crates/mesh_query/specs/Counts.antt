@@ -1,5 +1,6 @@
 -- How many nodes of an expression are left when reading has come so far. A node is met where the first token stands that
--- shows it. An expression begins with one node more than it may have, so that none is left where it has too many.
+-- shows it. An expression begins with one node more than it may have, so that none is left where it has too many. Behind a
+-- query as many have been met as its tree has: that is a law of this crate.
 use Rattle.std.specs.Prelude.{◌≡◌, ℕ, ◌+◌, ◌-◌, List, codes, Bool, true, false, ◌||◌, if◌then◌else◌, nat_le}
 use Rattle.mesh_tokens.specs.declared.tokens.Token.{Token}
 use Rattle.mesh_tokens.specs.declared.tokens.TokenKind.{TokenKind}

@@ -14,10 +14,9 @@ mod reader;
 mod relations;
 #[cfg(test)]
 mod shown;
-mod sizes;
 #[cfg(test)]
 mod tests;
 
-pub use laws::one_refusal;
+pub use laws::{one_refusal, what_is_counted_is_in_the_tree};
 pub use mesh_tokens::tokens_of as tokens;
 pub use reader::parse;

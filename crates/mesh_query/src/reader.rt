@@ -5,15 +5,14 @@ ghost use Rattle.mesh_tokens.specs.declared.tokens.Token.{Token as Tokens};
 ghost use Rattle.mesh_tokens.specs.declared.faults.ReadFault.TheVariants.{Memory as NoMemory};
 ghost use Rattle.mesh_query.specs.Refusals.{end_of, IsLimit, IsAmiss, IsRefusal};
 ghost use Rattle.mesh_query.specs.Sizes.{is_within, most_nodes};
+ghost use Rattle.mesh_query.specs.Counts.{Reads};
 ghost use Rattle.mesh_grammar.specs.Rules.{query as the_query};
-ghost use Rattle.mesh_grammar.specs.Machine.{Reads};
 ghost use Rattle.mesh_grammar.specs.Grammar.{Spells, query as a_query};
 ghost use Rattle.mesh_grammar.specs.Beginnings.{IsQuery};
 ghost use Rattle.mesh_words.specs.Places.{deepest};
 
 use crate::nodes::Nodes;
 use crate::queries::query;
-use crate::sizes::is_within;
 use mesh_base::{DEEPEST_NESTING, LARGEST_EXPRESSION, Str};
 use mesh_list::{Duplicate, Memory, Seq};
 use mesh_surface::Surface;
@@ -46,10 +45,10 @@ pub fn parse(tokens: &Tokens, from: u32) -> Result<Surface, ReadFault>
     let found = whole_query(alloc, tokens, &mut nodes, from as usize);
     match found {
         Ok(surface) => {
-            if is_within(&surface) {
-                return Ok(surface);
+            if nodes.are_too_many() {
+                return Err(too_large(alloc, b"expression", LARGEST_EXPRESSION));
             }
-            Err(too_large(alloc, b"expression", LARGEST_EXPRESSION))
+            Ok(surface)
         }
         Err(fault) => {
             if nodes.are_too_many() {
@@ -96,7 +95,7 @@ fn whole_query(
     from: usize,
 ) -> Result<Surface, Fault>
     requires fresh { nodes.old.left ≡ most_nodes + 1 }
-    ensures { MatchResult result (λ tree. Reads deepest the_query tree (drop from tokens.now) []) (IsAmiss tokens.now (drop from tokens.now) nodes.new.left) }
+    ensures { MatchResult result (λ tree. Reads false deepest the_query tree (drop from tokens.now) [] (most_nodes + 1) nodes.new.left) (IsAmiss tokens.now (drop from tokens.now) nodes.new.left) }
 {
     let (surface, at) = query(alloc, tokens, nodes, NESTING, from)?;
     if at < tokens.len() {

@@ -1,9 +1,9 @@
-use Rattle.std.proofs.Common.{List, drop, subst}
+use Rattle.std.proofs.Common.{List, drop, subst, false}
 use Rattle.std.proofs.lemmas.List.{drop_all}
 use Rattle.mesh_tokens.specs.declared.tokens.Token.{Token}
 use Rattle.mesh_words.specs.Places.{deepest}
 use Rattle.mesh_grammar.specs.Rules.{query}
-use Rattle.mesh_grammar.specs.Machine.{Reads}
+use Rattle.mesh_query.specs.Counts.{Reads}
 use Rattle.mesh_query.proofs.Steps.{read_from}
 use Rattle.mesh_query.proofs.Descent.{told, failed_from}
 use Rattle.mesh_query.proofs.Refused.{amiss, amiss_behind}
@@ -17,4 +17,4 @@ returns-then-at-tokens c = amiss_behind c.args.tokens.now (drop c.args.from c.ar
 
 pub returns-else-at-tokens : goal.returns-else-at-tokens
 returns-else-at-tokens c =
-    subst (λ (z : List Token). Reads deepest query c.in_ok-surface.surface (drop c.args.from c.args.tokens.now) z) (drop_all c.in_ok-surface.at c.args.tokens.now c.if-at-tokens.false) c.in_ok-surface.ensures.1.0
+    subst (λ (z : List Token). Reads false deepest query c.in_ok-surface.surface (drop c.args.from c.args.tokens.now) z 4097 c.query.new.nodes.left) (drop_all c.in_ok-surface.at c.args.tokens.now c.if-at-tokens.false) (read_from c.requires.fresh c.in_ok-surface.ensures.1)
