@@ -10,6 +10,7 @@ ghost use Rattle.mesh_grammar.specs.Machine.{begins};
 ghost use Rattle.mesh_query.specs.Answers.{Answers, AnswersOn};
 ghost use Rattle.mesh_query.specs.Rests.{behind_is, behind_between, behind_in, unopened, one_alone};
 
+use crate::lists::one;
 use crate::literals::{column, date, function_at, literal};
 use crate::nodes::Nodes;
 use mesh_list::{Boxed, Seq};
@@ -36,8 +37,7 @@ pub fn expr(
     ensures { Answers true depth an_expr tokens.now from nodes.old.left nodes.new.left result }
 {
     let (first, mut at) = conjunction(alloc, tokens, nodes, depth, from)?;
-    let mut parts = Seq::new(alloc);
-    parts.push(first)?;
+    let mut parts = one(alloc, first)?;
     'ors: while is_word(tokens, at, b"or") {
         nodes.meet();
         let (part, next) = conjunction(alloc, tokens, nodes, depth, at + 1)?;
@@ -63,8 +63,7 @@ fn conjunction(
     ensures { Answers true depth a_conjunction tokens.now from nodes.old.left nodes.new.left result }
 {
     let (first, mut at) = negation(alloc, tokens, nodes, depth, from)?;
-    let mut parts = Seq::new(alloc);
-    parts.push(first)?;
+    let mut parts = one(alloc, first)?;
     'ands: while is_word(tokens, at, b"and") {
         nodes.meet();
         let (part, next) = negation(alloc, tokens, nodes, depth, at + 1)?;
@@ -242,8 +241,7 @@ fn cat(
     ensures { Answers true depth a_cat tokens.now from nodes.old.left nodes.new.left result }
 {
     let (first, mut at) = sum(alloc, tokens, nodes, depth, from)?;
-    let mut parts = Seq::new(alloc);
-    parts.push(first)?;
+    let mut parts = one(alloc, first)?;
     'cats: while is_sign(tokens, at, b"||") {
         nodes.meet();
         let (part, next) = sum(alloc, tokens, nodes, depth, at + 1)?;
@@ -672,8 +670,7 @@ fn one_arg(
 {
     let at = place(tokens, from);
     let (value, next) = expr(alloc, tokens, nodes, depth, from)?;
-    let mut values = Seq::new(alloc);
-    values.push(value)?;
+    let values = one(alloc, value)?;
     Ok((Args::List { at, values }, next))
 }
 

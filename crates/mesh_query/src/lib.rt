@@ -7,6 +7,7 @@
 
 mod expressions;
 mod laws;
+mod lists;
 mod literals;
 mod nodes;
 mod queries;

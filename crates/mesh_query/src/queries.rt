@@ -7,6 +7,7 @@ ghost use Rattle.mesh_grammar.specs.Machine.{begins, begins_star};
 ghost use Rattle.mesh_query.specs.Answers.{Answers, Onward};
 
 use crate::expressions::expr;
+use crate::lists::one;
 use crate::nodes::Nodes;
 use crate::relations::source;
 use mesh_base::Str;
@@ -111,8 +112,7 @@ fn union(
     ensures { Answers false depth a_union tokens.now from nodes.old.left nodes.new.left result }
 {
     let (first, mut at) = select(alloc, tokens, nodes, depth, from)?;
-    let mut selects = Seq::new(alloc);
-    selects.push(first)?;
+    let mut selects = one(alloc, first)?;
     'unions: while is_word(tokens, at, b"union") {
         let behind = word(tokens, at + 1, b"all")?;
         let (more, next) = select(alloc, tokens, nodes, depth, behind)?;

@@ -16,14 +16,14 @@ expr-returns-in_err-first t c = told _ _ c.from_residual.result c.from_residual.
 pub expr-ors-init : goal.expr-ors-init
 expr-ors-init t c =
     let first = c.in_ok-first.ensures in
-    rw (c.in_ok-push.ensures.ok, c.new-parts.ensures) (first.0, has_read c.in_ok-first.first (noted started) first.1)
+    rw c.in_ok-parts.ensures (first.0, has_read c.in_ok-first.first (noted started) first.1)
 
 pub expr-ors-preserved : goal.expr-ors-preserved
 expr-ors-preserved t c =
     let before = c.ors.invariant in
     let sign = c.is_word.ensures.taken c.ors-test.true in
     let more = c.in_ok-part.ensures in
-    rw c.in_ok-push-2.ensures.ok (omega (arith, before.0, more.0), goes_on (λ x. x) (refl, λ z. refl) before.1 (has_read c.in_ok-part.part (past_word (codes "or") started sign.2) (read_from c.meet.ensures more.1)))
+    rw c.in_ok-push.ensures.ok (omega (arith, before.0, more.0), goes_on (λ x. x) (refl, λ z. refl) before.1 (has_read c.in_ok-part.part (past_word (codes "or") started sign.2) (read_from c.meet.ensures more.1)))
 
 pub expr-returns-in_err-part : goal.expr-returns-in_err-part
 expr-returns-in_err-part t c =
@@ -42,14 +42,14 @@ conjunction-returns-in_err-first t c = told _ _ c.from_residual.result c.from_re
 pub conjunction-ands-init : goal.conjunction-ands-init
 conjunction-ands-init t c =
     let first = c.in_ok-first.ensures in
-    rw (c.in_ok-push.ensures.ok, c.new-parts.ensures) (first.0, has_read c.in_ok-first.first (noted started) first.1)
+    rw c.in_ok-parts.ensures (first.0, has_read c.in_ok-first.first (noted started) first.1)
 
 pub conjunction-ands-preserved : goal.conjunction-ands-preserved
 conjunction-ands-preserved t c =
     let before = c.ands.invariant in
     let sign = c.is_word.ensures.taken c.ands-test.true in
     let more = c.in_ok-part.ensures in
-    rw c.in_ok-push-2.ensures.ok (omega (arith, before.0, more.0), goes_on (λ x. x) (refl, λ z. refl) before.1 (has_read c.in_ok-part.part (past_word (codes "and") started sign.2) (read_from c.meet.ensures more.1)))
+    rw c.in_ok-push.ensures.ok (omega (arith, before.0, more.0), goes_on (λ x. x) (refl, λ z. refl) before.1 (has_read c.in_ok-part.part (past_word (codes "and") started sign.2) (read_from c.meet.ensures more.1)))
 
 pub conjunction-returns-in_err-part : goal.conjunction-returns-in_err-part
 conjunction-returns-in_err-part t c =
@@ -68,14 +68,14 @@ cat-returns-in_err-first t c = told _ _ c.from_residual.result c.from_residual.e
 pub cat-cats-init : goal.cat-cats-init
 cat-cats-init t c =
     let first = c.in_ok-first.ensures in
-    rw (c.in_ok-push.ensures.ok, c.new-parts.ensures) (first.0, has_read c.in_ok-first.first (noted started) first.1)
+    rw c.in_ok-parts.ensures (first.0, has_read c.in_ok-first.first (noted started) first.1)
 
 pub cat-cats-preserved : goal.cat-cats-preserved
 cat-cats-preserved t c =
     let before = c.cats.invariant in
     let sign = c.is_sign.ensures.taken c.cats-test.true in
     let more = c.in_ok-part.ensures in
-    rw c.in_ok-push-2.ensures.ok (omega (arith, before.0, more.0), goes_on (λ x. x) (refl, λ z. refl) before.1 (has_read c.in_ok-part.part (past_sign (codes "||") started sign.2) (read_from c.meet.ensures more.1)))
+    rw c.in_ok-push.ensures.ok (omega (arith, before.0, more.0), goes_on (λ x. x) (refl, λ z. refl) before.1 (has_read c.in_ok-part.part (past_sign (codes "||") started sign.2) (read_from c.meet.ensures more.1)))
 
 pub cat-returns-in_err-part : goal.cat-returns-in_err-part
 cat-returns-in_err-part t c =
@@ -618,7 +618,7 @@ one_arg-returns-in_err-value t c = λ f s b I.
 pub one_arg-returns : goal.one_arg-returns
 one_arg-returns t c = λ f s b I.
     let value = c.in_ok-value.ensures in
-    rw (c.place-at.ensures, c.in_ok-push.ensures.ok, c.new-values.ensures) (value.0, is_done (has_read c.in_ok-value.value I value.1))
+    rw (c.place-at.ensures, c.in_ok-values.ensures) (value.0, is_done (has_read c.in_ok-value.value I value.1))
 
 pub coalesce_args-returns-in_err-values : goal.coalesce_args-returns-in_err-values
 coalesce_args-returns-in_err-values t c = told _ _ c.from_residual.result c.from_residual.ensures (fails_in _ c.args.tokens.now _ (noted started) c.in_err-values.ensures)

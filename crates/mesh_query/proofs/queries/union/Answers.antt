@@ -9,7 +9,7 @@ returns-in_err-first c = told _ _ c.from_residual.result c.from_residual.ensures
 pub unions-init : goal.unions-init
 unions-init c =
     let first = c.in_ok-first.ensures in
-    rw (c.in_ok-push.ensures.ok, c.new-selects.ensures) (first.0, has_read c.in_ok-first.first (noted started) first.1)
+    rw c.in_ok-selects.ensures (first.0, has_read c.in_ok-first.first (noted started) first.1)
 
 pub returns-in_err-behind : goal.returns-in_err-behind
 returns-in_err-behind c =
@@ -30,7 +30,7 @@ unions-preserved c =
     let word = c.is_word.ensures.taken c.unions-test.true in
     let all = c.in_ok-behind.ensures in
     let more = c.in_ok-more.ensures in
-    rw c.in_ok-push-2.ensures.ok (omega (arith, before.0, all.0, more.0), goes_on (λ x. x) (refl, λ z. refl) before.1 (has_read c.in_ok-more.more (past_word (codes "all") (past_word (codes "union") started word.2) all.2) more.1))
+    rw c.in_ok-push.ensures.ok (omega (arith, before.0, all.0, more.0), goes_on (λ x. x) (refl, λ z. refl) before.1 (has_read c.in_ok-more.more (past_word (codes "all") (past_word (codes "union") started word.2) all.2) more.1))
 
 pub returns : goal.returns
 returns c =
