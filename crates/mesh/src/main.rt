@@ -1,7 +1,7 @@
 //! The program: it hands its words, the host's files, clock and streams, and a warehouse in memory to the top call of
-//! `mesh_cli`, and ends with the status that the call answers. Where it finds no memory for its own words, it prints
-//! `want of memory` and ends with 4. What lies here is trusted, not proved: which house is made and where the words
-//! come from.
+//! `mesh_cli`, and ends with the status that the call answers. Where memory is out for these words,
+//! all that is printed is `want of memory`, and the status is 4. What lies here is trusted, not proved: which house is
+//! made and where the words come from.
 #![tactic(auto)]
 
 use mesh_base::Str;

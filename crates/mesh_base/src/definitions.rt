@@ -24,7 +24,7 @@ pub enum Kind {
     Incremental { time: Str },
 }
 
-/// The declaration of a source. One with a time column is timed, another is static.
+/// The declaration of a source, which is timed if it declares a time column, and static if it declares none.
 #[derive(Debug, Drop)]
 pub struct Decl {
     pub name: Name,

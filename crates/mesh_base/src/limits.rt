@@ -18,7 +18,7 @@ pub const LONGEST_NAME: u64 = 128;
 /// The value of a number in a query.
 pub const LARGEST_NUMBER: u64 = 9_223_372_036_854_775_807;
 
-/// Parentheses, CASEs, NOTs and unary minus signs that are open round a token.
+/// How deep a token may stand: each parenthesis, CASE, NOT and unary minus that is still open at it counts one.
 pub const DEEPEST_NESTING: u64 = 64;
 
 /// Nodes of one expression.

@@ -16,7 +16,7 @@ pub fn cell_cmp(a: &Cell, b: &Cell) -> Ordering
     a.cmp(b)
 }
 
-/// Cell by cell, and a proper prefix is less.
+/// The first place where the cells differ decides. A row that the other one continues is less.
 #[tactic(auto, using(crate::proofs::Total::row_exact, crate::proofs::Total::row_total))]
 pub fn row_cmp(a: &Row, b: &Row) -> Ordering
     ensures order { result ≡ row_order a.now b.now }

@@ -1,5 +1,5 @@
--- What each kind of change makes of a book. What a change doesn't name stays, and one that needs a version or an
--- environment that isn't there leaves the book.
+-- What each kind of change makes of a book. All that a change doesn't speak of is as before, and where the book lacks
+-- the version or the environment that it needs, so is the book.
 use Rattle.std.specs.Prelude.{ℕ, ℤ, pos, true, false, List, [], ◌∷◌, Some, None, if◌then◌else◌}
 use Rattle.std.specs.declared.option.Option.{Option}
 use Rattle.std.specs.declared.cmp.Ordering.{Ordering}
@@ -36,7 +36,7 @@ version_object v = v.object
 abbrev pub new_version : Name → Version
 new_version object = record { object = object; made = false; ranges = []; marks = None }
 
--- the moment becomes the greater of it and this one
+-- the moment is raised to this one, and never goes back
 abbrev pub raise_moment : Book → ℤ → Book
 raise_moment b t = record b { moment = int_max b.moment t }
 
@@ -45,7 +45,7 @@ abbrev pub with_version : Option Version → Name → List Version → List Vers
 with_version None object versions = placed name_cmp version_object (new_version object) versions
 with_version (Some v) object versions = versions
 
--- the snapshot stands instead of the one of its name and fingerprint, or is added; a version of its object is there
+-- the snapshot takes the place of the one with its name and fingerprint, or joins the others; its object has a version
 abbrev pub put_snapshot : Book → Snapshot → Book
 put_snapshot b s = record b {
   snapshots = put ref_cmp snapshot_ref s b.snapshots;
@@ -57,7 +57,7 @@ abbrev pub at_version : Option Version → (Version → Version) → Book → Bo
 at_version None f b = b
 at_version (Some v) f b = record b { versions = exchanged name_cmp version_object (f v) b.versions }
 
--- the version is made, without ranges and marks
+-- the version is made, and has no ranges and no marks
 abbrev pub as_table : Version → Version
 as_table v = record v { made = true; ranges = []; marks = None }
 

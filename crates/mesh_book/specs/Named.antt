@@ -1,4 +1,4 @@
--- Parents as references: whether they are the relations that a definition names and doesn't declare as sources.
+-- Parents as references, and whether they are just the names in a definition that none of its sources has.
 use Rattle.std.specs.Prelude.{Bool, ◌&&◌, ◌||◌, not, List}
 use Rattle.std.specs.List.{list_all, list_any}
 use Rattle.std.specs.Ordering.{is_eq}
@@ -28,6 +28,6 @@ is_named own r = is_among (defn_names own.defn) r.name && not (is_declared own.s
 abbrev pub are_named : Own → List Ref → Bool
 are_named own refs = list_all (is_named own) refs
 
--- the parents are, ascending by name, the relations that the definition names and doesn't declare as sources
+-- the names of the parents ascend, and are just those in the definition that none of its sources has
 abbrev pub are_parents : List Ref → Own → Bool
 are_parents refs own = ascends name_cmp ref_name refs && (are_named own refs && are_known refs own (defn_names own.defn))

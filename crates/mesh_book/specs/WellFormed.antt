@@ -94,8 +94,8 @@ has_parents all list r = list_all (is_listed list) (parents_at (snapshot_at all 
 abbrev pub have_parents : List Snapshot → List Ref → List Ref → Bool
 have_parents all list refs = list_all (has_parents all list) refs
 
--- The environment stands above the one before it. The entries of its lists are snapshots of the book. Its list has at
--- most 4,096 entries, at most one for each model, by name, and has the parents of its entries.
+-- The environment stands above the one before it. The entries of its lists are snapshots of the book. Its list is no
+-- longer than 4,096, the names of the entries ascend, so that a model has one, and with an entry it has its parents.
 abbrev pub is_env_fit : List Snapshot → Option Env → Env → Bool
 is_env_fit all before e =
     is_above text_cmp env_name before e

@@ -23,15 +23,15 @@ impl Book {
         }
     }
 
-    /// The moment becomes the greater of it and this one.
+    /// The moment is raised to this one. It never goes back.
     pub fn raise_moment(&mut self, moment: i64)
         ensures { self.new ≡ raise_moment self.old moment }
     {
         self.moment = self.moment.max(moment);
     }
 
-    /// The snapshot stands instead of the one of its name and fingerprint, or is added. A version of its object, not
-    /// made, is added where there is none.
+    /// The snapshot takes the place of the one with its name and fingerprint, or joins the others. Its object has a
+    /// version from now on: a new one isn't made yet.
     pub fn put_snapshot(&mut self, snapshot: Snapshot) -> Result<(), Memory>
         ensures ok { OnOk result (self.new ≡ put_snapshot self.old snapshot) }
         ensures err { OnErr result (self.new ≡ self.old) }
@@ -55,7 +55,7 @@ impl Book {
         }
     }
 
-    /// The object is a table: its version, where there is one, is made, without ranges and marks.
+    /// The object is a new table: its version, where there is one, is made and has no ranges and no marks.
     pub fn make_table(&mut self, object: &Name) -> Result<(), Memory>
         ensures ok { OnOk result (self.new ≡ make_table self.old object.now) }
         ensures err { OnErr result (self.new ≡ self.old) }
@@ -176,21 +176,21 @@ impl Book {
         }
     }
 
-    /// The version goes, if it is there.
+    /// Takes the version of this object out, where there is one.
     pub fn forget_version(&mut self, object: &Name)
         ensures { self.new ≡ forget_version self.old object.now }
     {
         self.versions.remove(object);
     }
 
-    /// The snapshot goes, if it is there.
+    /// Takes the snapshot of this key out, where there is one.
     pub fn delete_snapshot(&mut self, key: &Ref)
         ensures { self.new ≡ delete_snapshot self.old key.now }
     {
         self.snapshots.remove(key);
     }
 
-    /// The environment goes, if it is there.
+    /// Takes the environment of this name out, where there is one.
     pub fn delete_env(&mut self, name: &Str)
         ensures { self.new ≡ delete_env self.old name.now }
     {

@@ -159,7 +159,7 @@ pub fn ascend(refs: &[Ref]) -> bool
     true
 }
 
-/// Whether the parents are, ascending by name, the relations that the definition names and doesn't declare as sources.
+/// Whether the names of the parents ascend, and are just those in the definition that none of its sources has.
 pub fn are_parents(parents: &[Ref], own: &Own) -> bool
     ensures { result ≡ are_parents parents.now own.now }
 {

@@ -78,7 +78,7 @@ pub fn are_distinct(own: &Own) -> bool
     }
 }
 
-/// Whether an incremental definition has a start, and its time column among its columns.
+/// Whether a definition, if it is incremental, has a start and a column of the name that its kind gives for the time.
 pub fn has_its_time(own: &Own) -> bool
     ensures { result ≡ has_its_time own.now.kind own.now.start (columns_of own.now) }
 {

@@ -7,7 +7,7 @@ ghost use Rattle.mesh_list.specs.Keyed.{ascends};
 ghost use Rattle.mesh_external.specs.Externals.{decl_name, external_text};
 ghost use Rattle.mesh_external.specs.Proper.{is_proper};
 
-/// The columns of a source have distinct names, and its time column is one of them.
+/// The columns of a source have distinct names, and a timed source has the column that its time is in.
 #[tactic(auto, using(crate::proofs::Sound::sources_proper))]
 pub fn sources_are_proper()
     ensures { (bytes : List ℕ) (sources : List Decl) → external_text bytes ≡ Ok sources → list_all is_proper sources ≡ true }

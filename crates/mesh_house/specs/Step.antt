@@ -1,4 +1,4 @@
--- What each kind of change makes of a world. What a change doesn't name stays.
+-- What each kind of change makes of a world. All that a change doesn't speak of is as before.
 use Rattle.std.specs.Prelude.{ℕ, Bool, List, [], ◌∷◌, ◌++◌, Some, None, ℤ, if◌then◌else◌}
 use Rattle.std.specs.declared.option.Option.{Option}
 use Rattle.mesh_list.specs.Keyed.{placed, without, exchanged}

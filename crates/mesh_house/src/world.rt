@@ -26,7 +26,7 @@ pub struct World {
     pub book: Book,
 }
 
-/// One change of a world. One that needs a thing that isn't there leaves the world as it is. Seconds count from
+/// One change of a world. Where the world lacks what a change needs, nothing in it changes. Seconds count from
 /// 1970-01-01T00:00:00 UTC.
 #[derive(Debug, Drop)]
 pub enum Change {

@@ -1,4 +1,4 @@
--- The calls of an object in memory, which are numbered from 0: a call fails exactly where its number is listed.
+-- The calls of an object in memory, which are numbered from 0: the calls with listed numbers fail, and no others.
 use Rattle.std.specs.Prelude.{ℕ, Bool, ◌==◌, List, if◌then◌else◌}
 use Rattle.std.specs.List.{list_any}
 use Rattle.mesh_list.specs.Counts.{risen}

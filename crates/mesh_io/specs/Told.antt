@@ -58,7 +58,7 @@ pub record SourceTakes (most : ℕ) (old new : SourceTold) (result : Result (Lis
   pub at_end : IfOk result (λ piece. IfSome old.left (λ bytes. (piece ≡ []) ↔ (bytes ≡ [])))
   pub refused : OnErr result (new.left ≡ old.left)
 
--- A piece was written to a sink, or at a refusal a prefix of it.
+-- A piece was written to a sink, and where the call is refused, none, some or all of it from its first byte on.
 pub record SinkPuts {T : Type 0} (piece : List ℕ) (old new : SinkTold) (result : Result T IoFail) : Type 0 where
   pub counts : CountsFaults old.faults new.faults result
   pub ok : OnOk result (new.written ≡ option_map (λ bytes. bytes ++ piece) old.written)

@@ -9,7 +9,7 @@ use crate::fails::IoFail;
 use crate::outside::Clock;
 use std::marker::Model;
 
-/// A clock that stands still. It tells its moment, and a call fails exactly where its number is listed.
+/// A clock that stands still. It tells its moment, and the calls with listed numbers fail, and no others.
 #[derive(Debug, Drop)]
 pub struct MemClock {
     moment: i64,

@@ -15,7 +15,7 @@ use mesh_list::{Memory, Seq};
 use std::alloc::Global;
 use std::marker::Model;
 
-/// Files in memory, no two of one path. It tells them, and a call fails exactly where its number is listed.
+/// Files in memory, no two of one path. It tells them, and the calls with listed numbers fail, and no others.
 #[derive(Debug, Drop)]
 pub struct MemFolder {
     files: Vec<File>,

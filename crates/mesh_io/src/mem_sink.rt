@@ -14,7 +14,7 @@ use std::alloc::Global;
 use std::marker::Model;
 use std::mem;
 
-/// Bytes that were written. It tells them, and a call fails exactly where its number is listed.
+/// Bytes that were written. It tells them, and the calls with listed numbers fail, and no others.
 #[derive(Debug, Drop)]
 pub struct MemSink {
     bytes: Str,

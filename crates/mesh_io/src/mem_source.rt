@@ -12,7 +12,7 @@ use mesh_base::Str;
 use std::alloc::Global;
 use std::marker::Model;
 
-/// Bytes to be taken. It tells those that are left, and a call fails exactly where its number is listed.
+/// Bytes to be taken. It tells those that are left, and the calls with listed numbers fail, and no others.
 #[derive(Debug, Drop)]
 pub struct MemSource {
     bytes: Str,

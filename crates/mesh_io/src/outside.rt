@@ -66,7 +66,7 @@ pub trait Sink {
     fn faults(&self) -> u64
         ensures { result ≡ (told self.now).faults };
 
-    /// Writes the piece. At a refusal a prefix of it was written.
+    /// Writes the piece. A refused call has written none, some or all of it, from its first byte on.
     fn put(&mut self, piece: &[u8]) -> Result<(), IoFail>
         ensures { SinkPuts piece.now (told self.old) (told self.new) result };
 }

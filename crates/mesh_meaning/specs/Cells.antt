@@ -1,5 +1,5 @@
--- The values of operators and functions whose operands are cells. NULL is also the value of an operand of another type
--- than the form asks.
+-- The values of operators and functions whose operands are cells. Where an operand isn't of the type that a form takes,
+-- the value is NULL too.
 use Rattle.std.specs.Prelude.{ℕ, zero, ℤ, pos, negsuc, ◌^◌, ◌+ℤ◌, ◌-ℤ◌, ◌*ℤ◌, neg_ℤ, nat_lt, Bool, true, false, not, ◌&&◌, ◌||◌, if◌then◌else◌, List, [], ◌∷◌, ◌++◌, map, unsigned_abs, int_div, int_rem}
 use Rattle.std.specs.Option.{unwrap_or}
 use Rattle.std.specs.Char.{to_ascii_uppercase, to_ascii_lowercase}

@@ -2,7 +2,7 @@
 //! through the top call of `mesh_cli` over a folder and a warehouse in memory. What each command answers and leaves is
 //! printed, and is compared with the crate's `stdout`, whose values were worked out by hand.
 //!
-//! A script has one step a line; empty lines and lines that begin with `#` are passed over:
+//! A script has one step a line, and a line that has nothing or begins with `#` is no step:
 //! - `mesh WORD..` runs a command; the words are separated by blanks;
 //! - `write PATH FILE` gives the project a file with the bytes of `rows/NAME/FILE`, and `delete PATH` removes one;
 //! - `cut PATH FILE N` gives the project a file with the first N bytes of `rows/NAME/FILE`;

@@ -34,7 +34,7 @@ is_body_of SeedKind (Sql query) = false
 is_body_of other (Seed columns rows) = false
 is_body_of other (Sql query) = true
 
--- an incremental model has a start, and its time column is one of its columns
+-- an incremental model has a start, and a column of the name that its kind gives for the time
 abbrev pub has_its_time : Kind → Option ℤ → List Column → Bool
 has_its_time (Incremental time) start columns = is_some start && has_column columns time
 has_its_time other start columns = true
@@ -84,7 +84,7 @@ are_named parents own names = list_all (λ (p : Decl). is_among names p.name && 
 abbrev pub are_known : List Decl → Own → List Name → Bool
 are_known parents own names = list_all (λ name. is_declared own.sources name || is_declared parents name) names
 
--- The parents are, ascending by name, the relations that the definition names and doesn't declare as sources.
+-- The names of the parents ascend, and are just those in the definition that none of its sources has.
 abbrev pub are_its_parents : List Decl → Own → Bool
 are_its_parents parents own =
     ascends name_cmp decl_name parents
@@ -108,7 +108,7 @@ abbrev pub has_lower_rank : Option Node → ℕ → Bool
 has_lower_rank None rank = false
 has_lower_rank (Some n) rank = nat_lt n.rank rank
 
--- the parents are places of nodes of smaller rank
+-- at the place of each parent there is a node, with a lower rank than this
 abbrev pub are_lower : List Node → ℕ → List ℕ → Bool
 are_lower nodes rank places = list_all (λ i. has_lower_rank (slice_get nodes i) rank) places
 
@@ -132,8 +132,8 @@ abbrev pub relations_at : List Node → List Decl → List ℕ → List Decl
 relations_at nodes relations [] = relations
 relations_at nodes relations (i ∷ is) = relations_at nodes (with_parent relations (slice_get nodes i)) is
 
--- The parents of a node are places of nodes of smaller rank. Its rank is 0 without parents, else one more than their
--- greatest rank, and its definition is well formed with them.
+-- At the place of each parent of a node there is a node of lower rank. The node's own rank is 0 where it has no parents,
+-- and otherwise the one after their highest. Its definition is well formed with them.
 abbrev pub is_fit : List Node → Node → Bool
 is_fit nodes n =
     are_lower nodes n.rank n.parents

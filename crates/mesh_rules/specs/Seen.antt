@@ -38,7 +38,7 @@ has_in (Some columns) name = has_column columns name
 abbrev pub column_at : List (List Column) → ℕ → List ℕ → Bool
 column_at tables item name = has_in (slice_get tables item) name
 
--- each column that an expression names is a column of that FROM item: one node, with the answer for each part
+-- the columns in an expression are there, each in its FROM item: one node, with the answer for each part
 abbrev pub sees_here : List (List Column) → Expr-F Bool Bool → Bool
 sees_here tables (Literal cell) = true
 sees_here tables (Col item name) = column_at tables item name
@@ -122,7 +122,7 @@ are_ctes_seen relations before [] = true
 are_ctes_seen relations before (c ∷ cs) =
     are_selects_seen relations before c && are_ctes_seen relations (before ++ c ∷ []) cs
 
--- each relation and each column that a query names is there, and each CTE that it names stands earlier
+-- all that a query names is there: relations, columns, and CTEs among those before
 abbrev pub is_query_seen : List Decl → Query → Bool
 is_query_seen relations q =
     are_ctes_seen relations [] q.ctes && are_selects_seen relations q.ctes q.selects

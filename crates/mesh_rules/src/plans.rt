@@ -4,8 +4,8 @@ use mesh_base::{Dues, Entries, Pairs, Str};
 use mesh_list::{Duplicate, Memory, Same};
 
 /// What a command will do to an environment at a moment. `run` computes what the environment lists, and plans no
-/// change of it. `entries` has one entry for each node of the project. `removed` pairs each model that goes with a name
-/// whose model part is the word of its kind, and `unsteady` pairs a model with one that it reads.
+/// change of it. `entries` has one entry for each node of the project. A pair of `removed` is a model that goes and a
+/// name that has the word of its kind as its model part; one of `unsteady` is a model and one that it reads.
 #[derive(Debug, Drop)]
 pub struct Plan {
     pub env: Str,

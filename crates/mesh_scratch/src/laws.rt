@@ -34,8 +34,8 @@ pub fn projects_are_closed_under_parents()
         × (each_of parents ≡ flat_map (λ i. option_to_list (slice_get (closures (before ++ n ∷ after)) i)) n.parents) }
 {}
 
-/// A seed has its rows. A view and a FULL model have those of their query. An incremental model has, for each unit of
-/// its schedule, those of its query for that unit which lie in it.
+/// The rows of a seed are its file's, and those of a view or a FULL model its query's. An incremental model's are taken
+/// unit by unit of its schedule: what its query gives for the unit and lies in it.
 pub fn rows_go_by_the_kind()
     ensures seed { (sources : List Input) (clock : Clock) (own : Own) (parents : Closures) (columns : List Column) (rows : List (List Cell)) → own.kind ≡ kind.Seed → own.defn ≡ defn.Seed columns rows →
         from_scratch sources clock (Model own parents) ≡ rows }
@@ -60,8 +60,8 @@ pub fn rows_lie_in_the_schedule()
         All (λ row. list_any (λ u. lies_in (columns_of own) time u row) (schedule clock (Model own parents)) ≡ true) (from_scratch sources clock (Model own parents)) }
 {}
 
-/// An incremental model's horizon is the least of its own last tick and the horizons of its incremental ancestors. That
-/// of any other model is its own last tick.
+/// The horizon of an incremental model is the earliest of these: its own last tick, and its incremental ancestors'
+/// horizons. Any other model's is its own last tick.
 pub fn horizons_go_by_ancestors()
     ensures incremental { (clock : Clock) (own : Own) (parents : Closures) → is_incremental own.kind ≡ true →
         horizon clock (Model own parents) ≡ least_of (clock own) (map (horizon clock) (filter is_timed (ancestors parents))) }

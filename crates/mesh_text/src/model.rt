@@ -3,7 +3,7 @@ use mesh_base::{Columns, Cron, Kind, Name, Str, Unit};
 use mesh_statement::Parts;
 use mesh_surface::Surface;
 
-/// A model as it is written. `start` is a day counted from 1970-01-01. `columns` is empty where the property is absent.
+/// A model as it is written. `start` is a day counted from 1970-01-01. Without the property, `columns` is empty.
 /// `path` is that of a SEED's file in the project, and `path_at` the byte at which its text begins, 0 where there is none.
 /// A SEED has no query.
 #[derive(Debug, Drop)]

@@ -18,7 +18,7 @@ calendar_day day =
 abbrev pub weekday : ℤ → ℕ
 weekday day = (weekday_number day + 1) % 7
 
--- where neither day field is `*`, either one matching is enough; else both must match
+-- with a `*` among the two day fields both have to hold the day; without one, the day is in one of them
 abbrev pub day_matches : CronSets → ℕ → ℕ → Bool
 day_matches c dom dow =
     if c.dom_star || c.dow_star then has c.dom dom && has c.dow dow else has c.dom dom || has c.dow dow

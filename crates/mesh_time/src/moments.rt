@@ -6,8 +6,8 @@ ghost use Rattle.mesh_time.specs.Moments.{moment, minute_text, second_text, IsMo
 use crate::days::{day_of, day_text, same_bytes, two_at, two_digits};
 use mesh_base::Cell;
 
-/// The moment of a text `YYYY-MM-DD`, `YYYY-MM-DDTHH:MM` or `YYYY-MM-DDTHH:MM:SS`, each with an optional `Z`, in seconds
-/// since 1970-01-01T00:00:00. `None` is for other texts, and for moments outside 1970-01-01T00:00:00 to
+/// The moment that a text writes, in seconds since 1970-01-01T00:00:00: a day `YYYY-MM-DD`, then nothing, `THH:MM` or
+/// `THH:MM:SS`, and last a `Z` or none. `None` is for other texts, and for moments outside 1970-01-01T00:00:00 to
 /// 9999-12-31T23:59:59.
 pub fn moment_of(text: &[u8]) -> Option<i64>
     ensures { MatchOption result ((t : ℤ) → ¬ IsMomentText t text.now) (λ t. IsMomentText t text.now) }

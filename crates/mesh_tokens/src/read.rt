@@ -26,7 +26,7 @@ fn file_too_large(alloc: Global) -> Result<Tokens, ReadFault>
 }
 
 /// The tokens of a model file or of a query (at most 1,048,576 bytes of UTF-8), each with its place in bytes. Blanks
-/// and comments, `--` to the end of the line and `/*` to the next `*/`, stand between tokens. `Syntax` comes where no
+/// and comments, from `--` until the line ends or from `/*` through `*/`, stand between tokens. `Syntax` comes where no
 /// token begins, at the opening of a text or comment that isn't closed, and at the first byte that can't stand in UTF-8;
 /// `TooLarge` of a `number` or `name` at its first byte, and of the `file` at 0.
 #[tactic(auto, unfolding(crate::specs::Text::tokens))]
