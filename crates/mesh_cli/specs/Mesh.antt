@@ -48,18 +48,18 @@ pub record Printed (line : List ℕ) (status : ℕ) (old new : SinkTold) : Type 
   pub risen : status ≡ 6 → Rose old.faults new.faults
   pub cut : IsBegun line old new
 
--- the line of the files' first fault was printed
-pub record IsRefused (files : List File) (old new : SinkTold) : Type 0 where
+-- A line was printed, and where the folder tells its files it is that of their first fault.
+pub record IsRefused (files : Option (List File)) (old new : SinkTold) : Type 0 where
   pub file : List ℕ
   pub at : ℕ
   pub kind : FaultKind
-  pub first : IsFirstFault files file at kind
+  pub first : ForSome files (λ fs. IsFirstFault fs file at kind)
   pub printed : IsWritten (fault_line file at kind) old new
 
--- the beginning of that line was printed
-pub record IsCut (files : List File) (old new : SinkTold) : Type 0 where
+-- the beginning of such a line was printed
+pub record IsCut (files : Option (List File)) (old new : SinkTold) : Type 0 where
   pub file : List ℕ
   pub at : ℕ
   pub kind : FaultKind
-  pub first : IsFirstFault files file at kind
+  pub first : ForSome files (λ fs. IsFirstFault fs file at kind)
   pub printed : IsBegun (fault_line file at kind) old new

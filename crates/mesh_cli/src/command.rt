@@ -1,6 +1,5 @@
 // The top call: one command, from its words to its exit status.
 ghost use Rattle.std.specs.Prelude.{◌≡◌, ◌↔◌, ◌⊎◌, ◌≤◌, true, false};
-ghost use Rattle.std.specs.Option.{ForSome};
 ghost use Rattle.mesh_list.specs.Counts.{Rose};
 ghost use Rattle.mesh_list.specs.Keyed.{ascends};
 ghost use Rattle.mesh_base.specs.Names.{name_cmp};
@@ -81,8 +80,8 @@ pub fn mesh<R: Threads + Sync, W: Warehouse, F: Folder, C: Clock, S: Source, O: 
     // Done: exactly the project's changes were made, and each view shows its model's value.
     ensures done { result ≡ 0 → Applied (F.told folder.old).files (W.told house.old) (W.told house.new) }
 
-    // Refused, with no call of the house: the project breaks a rule, whose line was printed, or the words aren't `apply`.
-    ensures broken { result ≡ 1 → ForSome (F.told folder.old).files (λ fs. IsRefused fs (E.told err.old) (E.told err.new)) }
+    // Refused, and the house is as it was: the project breaks a rule, whose line was printed, or the words aren't `apply`.
+    ensures broken { result ≡ 1 → IsRefused (F.told folder.old).files (E.told err.old) (E.told err.new) }
     ensures words { (result ≡ 2) ↔ (is_apply words.now ≡ false) }
     ensures unchanged { (result ≡ 1) ⊎ (result ≡ 2) ⊎ (result ≡ 5) ⊎ (result ≡ 6) → W.told house.new ≡ W.told house.old }
 
@@ -92,7 +91,8 @@ pub fn mesh<R: Threads + Sync, W: Warehouse, F: Folder, C: Clock, S: Source, O: 
     ensures wanting { result ≡ 4 → (W.told house.new ≡ W.told house.old) ⊎ Halted (F.told folder.old).files (W.told house.old) (W.told house.new) }
     ensures folder { result ≡ 5 → Rose (F.told folder.old).faults (F.told folder.new).faults }
     ensures unprinted { result ≡ 6 → Rose (E.told err.old).faults (E.told err.new).faults }
-    ensures cut { (result ≡ 4) ⊎ (result ≡ 6) → (E.told err.new ≡ E.told err.old) ⊎ ForSome (F.told folder.old).files (λ fs. IsCut fs (E.told err.old) (E.told err.new)) }
+    ensures cut { result ≡ 6 → IsCut (F.told folder.old).files (E.told err.old) (E.told err.new) }
+    ensures unsaid { result ≡ 4 → (E.told err.new ≡ E.told err.old) ⊎ IsCut (F.told folder.old).files (E.told err.old) (E.told err.new) }
 
     // What the command doesn't need is as it was.
     ensures unread { result ≡ 2 → F.told folder.new ≡ F.told folder.old }

@@ -16,6 +16,9 @@ use std::{fs, io};
 /// How deep below the listed folder another may lie.
 const MOST_DEEP: u32 = 64;
 
+/// The bytes of the longest name that a folder of the host has.
+const LONGEST_NAME: u32 = 255;
+
 /// The host's files. It tells nothing of them. Contracts see it as the count of its faults.
 #[derive(Drop)]
 pub struct DirFolder<'a> {
@@ -159,6 +162,22 @@ fn list_files(rt: &HostRuntime, alloc: Global, dir: &[u8]) -> io::Result<Strs> {
     Ok(Seq::from_vec(found))
 }
 
+/// Whether a file of the host can have the path: none has a NUL byte in it, or a part of more than 255 bytes.
+fn names_a_file(path: &[u8]) -> bool {
+    let mut part = 0_u32;
+    for byte in path {
+        part = if *byte == b'/' {
+            0
+        } else {
+            part.saturating_add(1)
+        };
+        if *byte == 0 || part > LONGEST_NAME {
+            return false;
+        }
+    }
+    true
+}
+
 fn read_file(rt: &HostRuntime, alloc: Global, path: &[u8], most: u64) -> io::Result<Str> {
     let mut bytes = Vec::new(alloc);
     File::open(rt, text_of(path)?)?
@@ -182,6 +201,9 @@ impl Folder for DirFolder<'_> {
     }
 
     fn read(&mut self, alloc: Global, path: &Str, most: u64) -> Result<Option<Str>, IoFail> {
+        if !names_a_file(path.as_slice()) {
+            return Ok(None);
+        }
         match read_file(self.rt, alloc, path.as_slice(), most) {
             Ok(bytes) => Ok(Some(bytes)),
             Err(error) => {

@@ -19,10 +19,13 @@ pub fn refused(faults: &mut u64, kind: ErrorKind) -> IoFail
     }
 }
 
-/// Whether the error says that nothing of that kind stands at the path.
+/// Whether the error says that nothing of that kind stands at the path, or a link that leads nowhere.
 pub fn is_absent(kind: ErrorKind) -> bool {
     match kind {
-        ErrorKind::NotFound | ErrorKind::NotADirectory | ErrorKind::IsADirectory => true,
+        ErrorKind::NotFound
+        | ErrorKind::NotADirectory
+        | ErrorKind::IsADirectory
+        | ErrorKind::FilesystemLoop => true,
         _ => false,
     }
 }

@@ -131,6 +131,8 @@ fn a_folder_of_the_host(rt: HostRuntime) -> Result<(), Fail> {
     assert!(rt; lists(rt.alloc(), &mut folder, b"listed", b"a/c.sql")?);
     assert!(rt; reads(rt.alloc(), &mut folder, b"listed/b.sql", 3, b"sec")?);
     assert!(rt; !reads(rt.alloc(), &mut folder, b"listed/none.sql", 3, b"")?);
+    assert!(rt; !reads(rt.alloc(), &mut folder, b"listed/b.sql\0", 3, b"sec")?);
+    assert!(rt; !reads(rt.alloc(), &mut folder, &[b'n'; 256], 3, b"")?);
     assert_eq!(rt; folder.faults(), 0);
     fs::remove_dir_all(&rt, "listed")?;
     Ok(())
