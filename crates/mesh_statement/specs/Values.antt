@@ -130,8 +130,8 @@ many_columns = Fault 0 (TooLarge (codes "columns") most_columns)
 abbrev pub sized : ℕ → Option (List Column) → Result (List Column) ReadFault
 sized at None = Err (bad at (codes "columns"))
 sized at (Some columns) =
-    if not (are_distinct columns) then Err (bad at (codes "columns"))
-    else provided (nat_le (length columns) most_columns) columns many_columns
+    if not (nat_le (length columns) most_columns) then Err many_columns
+    else provided (are_distinct columns) columns (bad at (codes "columns"))
 
 -- `(name TYPE, ..)`
 abbrev pub columns_open : List Token → Option (List Column)

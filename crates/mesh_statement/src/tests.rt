@@ -334,6 +334,40 @@ fn columns_at_fault(rt: HostRuntime) -> Result<(), Fail> {
     Ok(())
 }
 
+// These columns and so many more.
+fn columns(alloc: Global, first: &[u8], more: u32) -> Result<Vec<u8>, Fail> {
+    let mut text = Vec::from_slice(alloc, b"columns (")?;
+    text.extend_from_slice(first)?;
+    for number in 0..more {
+        let column = format!(in alloc; ", c{number} INT")?;
+        text.extend_from_slice(column.as_bytes())?;
+    }
+    text.push(b')')?;
+    Ok(text)
+}
+
+// More than 1,024 columns are too many, whatever their names.
+#[test]
+fn too_many_columns(rt: HostRuntime) -> Result<(), Fail> {
+    let a = rt.alloc();
+    assert!(rt; with(a, columns(a, b"a INT", 1024)?.as_slice(), "M2 columns 0 ")?);
+    assert!(rt;
+        with(
+            a,
+            columns(a, b"a INT, a INT", 1023)?.as_slice(),
+            "M2 columns 0 "
+        )?
+    );
+    assert!(rt;
+        with(
+            a,
+            columns(a, b"a INT, a INT", 1022)?.as_slice(),
+            "M4 columns 23 "
+        )?
+    );
+    Ok(())
+}
+
 // A value of so many parentheses inside one another.
 fn nested(alloc: Global, depth: u32) -> Result<Vec<u8>, Fail> {
     let mut text = Vec::from_slice(alloc, b"tags ")?;

@@ -205,11 +205,12 @@ fn columns_from(alloc: Global, tokens: &[Token]) -> Result<Option<Columns>, Memo
 fn is_among(columns: &[Column], name: &[u8]) -> bool
     ensures { result ≡ is_among columns.now name.now }
 {
-    let mut found = false;
     for column in columns {
-        found = found || is_same(column.name.as_slice(), name);
+        if is_same(column.name.as_slice(), name) {
+            return true;
+        }
     }
-    found
+    false
 }
 
 fn are_distinct(columns: &[Column]) -> bool
@@ -265,11 +266,11 @@ fn sized(alloc: Global, at: u64, columns: Option<Columns>) -> Result<Columns, Re
     let Some(columns) = columns else {
         return Err(bad(alloc, at, b"columns"));
     };
-    if !are_distinct(columns.as_slice()) {
-        return Err(bad(alloc, at, b"columns"));
-    }
     if columns.len() as u64 > MOST_COLUMNS {
         return Err(many_columns(alloc));
+    }
+    if !are_distinct(columns.as_slice()) {
+        return Err(bad(alloc, at, b"columns"));
     }
     Ok(columns)
 }
