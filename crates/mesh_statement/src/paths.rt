@@ -7,25 +7,26 @@ use mesh_list::{Duplicate, Memory, Seq};
 use mesh_words::is_same;
 use std::alloc::Global;
 
-// What stands before the last slash, or nothing where there is none.
-fn folder_of(path: &[u8]) -> &[u8]
-    ensures { result.now ≡ folder_of path.now }
+// What stands before the last slash, or nothing where there is none. What stands behind is taken off from the end.
+fn folder_of(path: Str) -> Str
+    ensures { result ≡ folder_of path }
 {
-    let mut end = 0;
-    for i in 0..path.len() {
-        if path[i] == b'/' {
-            end = i;
+    let mut folder = path;
+    while let Some(byte) = folder.pop() {
+        if byte == b'/' {
+            return folder;
         }
     }
-    &path[..end]
+    folder
 }
 
-fn within(alloc: Global, folder: &[u8], part: &[u8]) -> Result<Str, Memory>
-    ensures { IfOk result (λ made. made ≡ within folder.now part.now) }
+// The folder grows by the part.
+fn within(folder: Str, part: &[u8]) -> Result<Str, Memory>
+    ensures { IfOk result (λ made. made ≡ within folder part.now) }
 {
-    let mut made = Vec::from_slice(alloc, folder)?;
-    if !folder.is_empty() {
-        made.extend_from_slice(b"/")?;
+    let mut made = folder.into_vec();
+    if !made.is_empty() {
+        made.push(b'/')?;
     }
     made.extend_from_slice(part)?;
     Ok(Seq::from_vec(made))
@@ -46,35 +47,35 @@ fn is_up(part: &[u8]) -> bool
     is_same(part, b"..")
 }
 
-fn above(alloc: Global, folder: &[u8]) -> Result<Option<Str>, Memory>
-    ensures { IfOk result (λ found. found ≡ above folder.now) }
+fn above(folder: Str) -> Option<Str>
+    ensures { result ≡ above folder }
 {
-    match folder {
-        [] => Ok(None),
-        [_, ..] => Ok(Some(u8::copy_items(alloc, folder_of(folder))?)),
+    match folder.as_slice() {
+        [] => None,
+        [_, ..] => Some(folder_of(folder)),
     }
 }
 
 // The folder that a part of a path leads to.
-fn next_folder(alloc: Global, folder: Str, part: &[u8]) -> Result<Option<Str>, Memory>
+fn next_folder(folder: Str, part: &[u8]) -> Result<Option<Str>, Memory>
     ensures { IfOk result (λ found. found ≡ next_folder folder part.now) }
 {
     if is_here(part) {
         return Ok(Some(folder));
     }
     if is_up(part) {
-        return above(alloc, folder.as_slice());
+        return Ok(above(folder));
     }
-    Ok(Some(within(alloc, folder.as_slice(), part)?))
+    Ok(Some(within(folder, part)?))
 }
 
-fn file_in(alloc: Global, folder: &[u8], part: &[u8]) -> Result<Option<Str>, Memory>
-    ensures { IfOk result (λ found. found ≡ file_in folder.now part.now) }
+fn file_in(folder: Str, part: &[u8]) -> Result<Option<Str>, Memory>
+    ensures { IfOk result (λ found. found ≡ file_in folder part.now) }
 {
     if is_here(part) || is_up(part) {
         Ok(None)
     } else {
-        Ok(Some(within(alloc, folder, part)?))
+        Ok(Some(within(folder, part)?))
     }
 }
 
@@ -88,7 +89,7 @@ fn behind_byte(
     ensures { IfOk result (λ found. found ≡ behind_byte folder part byte) }
 {
     if byte == b'/' {
-        return match next_folder(alloc, folder, part.as_slice())? {
+        return match next_folder(folder, part.as_slice())? {
             Some(next) => Ok(Some((next, Seq::new(alloc)))),
             None => Ok(None),
         };
@@ -110,7 +111,7 @@ fn file_from(alloc: Global, folder: Str, path: &[u8]) -> Result<Option<Str>, Mem
         folder = next;
         part = more;
     }
-    file_in(alloc, folder.as_slice(), part.as_slice())
+    file_in(folder, part.as_slice())
 }
 
 /// The path in the project of the file that `path`, which stands in the model's file `file`, leads to. There is none
@@ -121,6 +122,6 @@ pub(crate) fn file_at(alloc: Global, file: &[u8], path: &[u8]) -> Result<Option<
     if path.starts_with(b"/") {
         return Ok(None);
     }
-    let folder = u8::copy_items(alloc, folder_of(file))?;
+    let folder = folder_of(u8::copy_items(alloc, file)?);
     file_from(alloc, folder, path)
 }

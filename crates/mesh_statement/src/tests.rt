@@ -182,6 +182,13 @@ fn paths_of_seeds(rt: HostRuntime) -> Result<(), Fail> {
             "a.b seed s/t/x.csv 31 54 0 "
         )?
     );
+    assert!(rt;
+        with(
+            a,
+            b"kind SEED (path 'a/b/../c.csv')",
+            "a.b seed models/m/a/c.csv 31 48 0 "
+        )?
+    );
     assert!(rt; with(a, b"kind SEED (path '../../../m/x')", "M4 path 31 ")?);
     assert!(rt; with(a, b"kind SEED (path '/x'), what 1", "M4 path 31 ")?);
     Ok(())

@@ -16,4 +16,4 @@ loop-i-preserved c =
 pub returns : goal.returns
 returns c =
     let all = all_read c.args.path.now c.loop-i.i c.loop-i.folder c.loop-i.part (file_from c.args.folder [] c.args.path.now) (omega arith) c.loop-i.invariant in
-    rw (sym all) (rw (c.as_slice.ensures, c.as_slice-2.ensures) at c.file_in.ensures)
+    rw (sym all) (rw (c.as_slice.ensures) at c.file_in.ensures)

@@ -1,6 +1,9 @@
-use Rattle.std.proofs.Common.{◌≡◌, ◌≤◌, take}
+use Rattle.std.proofs.Common.{◌≡◌, length}
 use Rattle.mesh_statement.specs.Paths.{folder_of}
 use Rattle.mesh_statement.proofs.paths.folder_of.Given as goal
 
-abbrev pub invariant-loop-i : goal.invariant-loop-i
-invariant-loop-i l = record { within : l.end ≤ l.i; folder : take l.end l.path ≡ folder_of (take l.i l.path) }
+abbrev pub invariant-loop-byte : goal.invariant-loop-byte
+invariant-loop-byte l = folder_of l.folder ≡ folder_of l.fn.path
+
+abbrev pub decreases-loop-byte : goal.decreases-loop-byte
+decreases-loop-byte l = length l.folder
