@@ -56,6 +56,6 @@ pub some_length : (ts : List Token) → (length ts == 0) ≡ false → 0 < lengt
 some_length [] e = cc e
 some_length (k ∷ ks) e = omega arith
 
-pub refused_is : (x fault : ReadFault) (total : Result Entries ReadFault) → total ≡ Err fault → Refused x fault → Refuses x total
+pub refused_is : {A : Type 0} (x fault : ReadFault) (total : Result A ReadFault) → total ≡ Err fault → Refused x fault → Refuses x total
 refused_is faults.Memory fault total e is = tt
 refused_is (faults.Fault at kind) fault total e is = e ∙ ap Err is

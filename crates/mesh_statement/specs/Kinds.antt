@@ -88,6 +88,43 @@ is_entry the_kind.Seed name = bytes_eq name (codes "path") || is_one_of words_id
 is_entry the_kind.Incremental name = bytes_eq name (codes "time_column") || is_one_of words_idle name
 is_entry kind name = is_one_of words_idle name
 
+-- the name of an entry, and what stands behind the entry
+abbrev pub one_name : ReadFault → List Token → Result (List ℕ × List Token) ReadFault
+one_name fault [] = Err fault
+one_name fault (k ∷ ks) = do
+  name ← or_fault fault (word k)
+  n ← value_len true k.end [] ks
+  rest ← or_fault fault (behind (drop n ks))
+  Ok (name, rest)
+
+-- the names of all entries; so many tokens are left at most
+unfoldable pub names_from : ℕ → ReadFault → List Token → Result (List (List ℕ)) ReadFault
+names_from most fault [] = Ok []
+names_from zero fault (k ∷ ks) = Err fault
+names_from (suc most) fault (k ∷ ks) = do
+  r ← one_name fault (k ∷ ks)
+  names ← names_from most fault r.1
+  Ok (r.0 ∷ names)
+
+-- the names of the entries in parentheses, if there are any
+abbrev pub names_in : ReadFault → List Token → Result (List (List ℕ)) ReadFault
+names_in fault [] = Ok []
+names_in fault (p ∷ []) = Err fault
+names_in fault (p ∷ q ∷ ks) = if is_sign (codes "(") p then names_from (length (q ∷ ks)) fault (q ∷ ks) else Err fault
+
+-- a SEED needs an entry `path`, and an incremental kind `time_column`
+abbrev pub has_needed : KindWord → List (List ℕ) → Bool
+has_needed the_kind.Seed names = is_one_of names (codes "path")
+has_needed the_kind.Incremental names = is_one_of names (codes "time_column")
+has_needed kind names = true
+
+abbrev pub complete : ReadFault → KindWord → Result (List (List ℕ)) ReadFault → Result KindWord ReadFault
+complete fault kind names = names >>= λ names. provided (has_needed kind names) kind fault
+
+-- the kind, where what stands behind its word has the form of entries, and the one that the kind needs is among them
+abbrev pub formed : ReadFault → KindWord → List Token → Result KindWord ReadFault
+formed fault kind ks = complete fault kind (names_in fault ks)
+
 abbrev pub noted : Entries → List ℕ → Entries
 noted e name = record e { seen = e.seen ++ name ∷ [] }
 
@@ -164,11 +201,12 @@ whole fault the_kind.Incremental e = incremental fault e.time
 abbrev pub kind_word : List ℕ
 kind_word = codes "kind"
 
--- the kind that a value means in a model's file, which begins at this place
+-- the kind that a value means in a model's file, which begins at this place; its form is judged before its entries
 abbrev pub kind_value : List ℕ → ℕ → List Token → Result KindText ReadFault
 kind_value file at [] = Err (bad at (codes "kind"))
 kind_value file at (k ∷ ks) = do
   word ← or_fault (bad at (codes "kind")) (word k)
   kind ← kind_or_fault at word
+  kind ← formed (bad at (codes "kind")) kind ks
   entries ← entries_in file (bad at (codes "kind")) kind ks
   whole (bad at (codes "kind")) kind entries

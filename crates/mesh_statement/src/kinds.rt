@@ -10,6 +10,7 @@ ghost use Rattle.mesh_statement.specs.Views.{seen};
 
 use crate::brackets::value_len;
 use crate::faults::{bad, outside, unknown};
+use crate::forms::formed;
 use crate::look::{is_number, is_sign, is_word, text, word};
 use crate::paths::file_at;
 use crate::values::behind;
@@ -381,6 +382,7 @@ pub(crate) fn kind_value(
         return Err(bad(alloc, at, b"kind"));
     };
     let kind = kind_or_fault(alloc, at, name)?;
+    let kind = formed(alloc, at, kind, more)?;
     let entries = entries_in(alloc, file, at, kind, more)?;
     whole(alloc, at, kind, entries)
 }

@@ -5,6 +5,7 @@
 
 mod brackets;
 mod faults;
+mod forms;
 mod kinds;
 mod laws;
 mod look;

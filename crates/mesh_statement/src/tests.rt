@@ -292,6 +292,35 @@ fn kinds_at_fault(rt: HostRuntime) -> Result<(), Fail> {
     assert!(rt; with(a, b"kind scd_type_2 (x 1)", "M20 SCD_TYPE_2 20 ")?);
     assert!(rt; with(a, b"kind table", "M4 kind 20 ")?);
     assert!(rt; with(a, b"kind FULL (lookback 0,)", "M4 kind 20 ")?);
+    assert!(rt; with(a, b"kind FULL (lookback 0) x", "M4 kind 20 ")?);
+    assert!(rt; with(a, b"kind FULL x (lookback 0)", "M4 kind 20 ")?);
+    assert!(rt; with(a, b"kind FULL (0)", "M4 kind 20 ")?);
+    Ok(())
+}
+
+// A value without the form of a kind is at fault at its word, before any of its entries is.
+#[test]
+fn forms_before_entries(rt: HostRuntime) -> Result<(), Fail> {
+    let a = rt.alloc();
+    assert!(rt; with(a, b"kind SEED (foo 1)", "M4 kind 20 ")?);
+    assert!(rt; with(a, b"kind INCREMENTAL_BY_TIME_RANGE (foo 1)", "M4 kind 20 ")?);
+    assert!(rt; with(a, b"kind FULL (foo 1,)", "M4 kind 20 ")?);
+    assert!(rt; with(a, b"kind FULL (foo 1, 'x' 1)", "M4 kind 20 ")?);
+    assert!(rt; with(a, b"kind FULL (lookback 1) x", "M4 kind 20 ")?);
+    assert!(rt; with(a, b"kind SEED (path '/x',)", "M4 kind 20 ")?);
+    assert!(rt; with(a, b"kind EMBEDDED (foo 1,)", "M20 EMBEDDED 20 ")?);
+    assert!(rt; with(a, b"kind table (foo 1,)", "M4 kind 20 ")?);
+    Ok(())
+}
+
+// The first entry at fault is told.
+#[test]
+fn entries_in_order(rt: HostRuntime) -> Result<(), Fail> {
+    let a = rt.alloc();
+    assert!(rt; with(a, b"kind SEED (path '/x', foo 1)", "M4 path 31 ")?);
+    assert!(rt; with(a, b"kind SEED (foo 1, path '/x')", "M3 foo 26 ")?);
+    assert!(rt; with(a, b"kind SEED (foo 1, path)", "M3 foo 26 ")?);
+    assert!(rt; with(a, b"kind FULL (foo 1, lookback 1)", "M3 foo 26 ")?);
     Ok(())
 }
 
@@ -299,6 +328,8 @@ fn kinds_at_fault(rt: HostRuntime) -> Result<(), Fail> {
 fn entries_at_fault(rt: HostRuntime) -> Result<(), Fail> {
     let a = rt.alloc();
     assert!(rt; with(a, b"kind FULL (lookback 1)", "M20 lookback 26 ")?);
+    assert!(rt; with(a, b"kind FULL (forward_only true)", "M20 forward_only 26 ")?);
+    assert!(rt; with(a, b"kind VIEW (materialized true)", "M20 materialized 26 ")?);
     assert!(rt; with(a, b"kind FULL (path 'x')", "M3 path 26 ")?);
     assert!(rt; with(a, b"kind FULL (lookback 0, lookback 0)", "M4 lookback 38 ")?);
     assert!(rt; with(a, b"kind SEED (path)", "M4 path 26 ")?);
@@ -314,6 +345,13 @@ fn time_columns_at_fault(rt: HostRuntime) -> Result<(), Fail> {
         with(
             a,
             b"kind INCREMENTAL_BY_TIME_RANGE (time_column (d, '%Y'))",
+            "M4 time_column 59 "
+        )?
+    );
+    assert!(rt;
+        with(
+            a,
+            b"kind INCREMENTAL_BY_TIME_RANGE (time_column (c))",
             "M4 time_column 59 "
         )?
     );

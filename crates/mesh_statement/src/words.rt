@@ -1,6 +1,6 @@
 // The words of a statement.
-ghost use Rattle.std.specs.Prelude.{◌≡◌};
-ghost use Rattle.mesh_statement.specs.Kinds.{is_left_out, kind_named, is_one_of, words_idle, is_entry};
+ghost use Rattle.std.specs.Prelude.{◌≡◌, [], ◌∷◌};
+ghost use Rattle.mesh_statement.specs.Kinds.{is_left_out, kind_named, is_one_of, words_idle, is_entry, has_needed};
 ghost use Rattle.mesh_statement.specs.Statement.{is_free, is_property, words_read};
 
 use crate::kinds::KindWord;
@@ -62,6 +62,26 @@ pub(crate) fn is_entry(kind: KindWord, name: &[u8]) -> bool
         KindWord::Seed => is_same(name, b"path") || is_idle_word(name),
         KindWord::Incremental => is_same(name, b"time_column") || is_idle_word(name),
         KindWord::Full | KindWord::View => is_idle_word(name),
+    }
+}
+
+/// Whether the kind needs the entry of this name, or none.
+pub(crate) fn is_needed(kind: KindWord, name: &[u8]) -> bool
+    ensures { result ≡ has_needed kind (name.now ∷ []) }
+{
+    match kind {
+        KindWord::Seed => is_same(b"path", name),
+        KindWord::Incremental => is_same(b"time_column", name),
+        KindWord::Full | KindWord::View => true,
+    }
+}
+
+pub(crate) fn needs_none(kind: KindWord) -> bool
+    ensures { result ≡ has_needed kind [] }
+{
+    match kind {
+        KindWord::Seed | KindWord::Incremental => false,
+        KindWord::Full | KindWord::View => true,
     }
 }
 
