@@ -118,6 +118,7 @@ has_needed the_kind.Seed names = is_one_of names (codes "path")
 has_needed the_kind.Incremental names = is_one_of names (codes "time_column")
 has_needed kind names = true
 
+-- the kind, where the entry that it needs is among those of these names
 abbrev pub complete : ReadFault → KindWord → Result (List (List ℕ)) ReadFault → Result KindWord ReadFault
 complete fault kind names = names >>= λ names. provided (has_needed kind names) kind fault
 
