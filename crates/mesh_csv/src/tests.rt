@@ -165,6 +165,18 @@ fn layouts(rt: HostRuntime) -> Result<(), Fail> {
     );
     assert!(rt; says(a, b"a", "at")?);
     assert!(rt; says(a, b"a,b\n1,2", "aibi; 1 2")?);
+    assert!(rt; says(a, b"a,b\r1,2\r3,4\r", "aibi; 1 2; 3 4")?);
+    assert!(rt; says(a, b"a\n1\n\"\"\n2\n", "ai; 1; -; 2")?);
+    Ok(())
+}
+
+#[test]
+fn quotes_out_of_place(rt: HostRuntime) -> Result<(), Fail> {
+    let a = rt.alloc();
+    assert!(rt; says(a, b"a\na\"b\n", "at; a\"b")?);
+    assert!(rt; says(a, b"a\n\"a\"b\n", "at; ab")?);
+    assert!(rt; says(a, b"a,b\n1,\"2\n3,4\n", "aibt; 1 2\n3,4\n")?);
+    assert!(rt; says(a, b"a\n\"", "at; -")?);
     Ok(())
 }
 
@@ -184,6 +196,7 @@ fn records_at_fault(rt: HostRuntime) -> Result<(), Fail> {
     assert!(rt; says(a, b"a,b\n1,2\n3\n", "3.0")?);
     assert!(rt; says(a, b"a,b\n1,2,3\n", "2.0")?);
     assert!(rt; says(a, b"a,b\n1,x\n2,\xFF\n3\n", "3.2")?);
+    assert!(rt; says(a, b"a,b\n\n1,2\n\r\n3\n", "3.0")?);
     Ok(())
 }
 
