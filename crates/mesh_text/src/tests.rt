@@ -82,21 +82,27 @@ fn put_back(alloc: Global, line: &mut Vec<u8>, model: &ModelText) -> Result<(), 
     Ok(())
 }
 
-fn put_named(line: &mut Vec<u8>, fault: &[u8], name: &Str) -> Result<(), Fail> {
-    put(line, fault)?;
-    put(line, name.as_slice())
+fn word(kind: &FaultKind) -> &'static str {
+    match kind {
+        FaultKind::Syntax => "M1",
+        FaultKind::TooLarge { what: _, limit: _ } => "M2",
+        FaultKind::UnknownProperty { name: _ } => "M3",
+        FaultKind::BadProperty { name: _ } => "M4",
+        FaultKind::BadCron { fault: _ } => "M13",
+        FaultKind::NoStart => "M14",
+        FaultKind::Outside { name: _ } => "M20",
+        _ => "another",
+    }
 }
 
 fn put_fault(line: &mut Vec<u8>, kind: &FaultKind) -> Result<(), Fail> {
+    put(line, word(kind).as_bytes())?;
     match kind {
-        FaultKind::Syntax => put(line, b"M1"),
-        FaultKind::TooLarge { what, limit: _ } => put_named(line, b"M2", what),
-        FaultKind::UnknownProperty { name } => put_named(line, b"M3", name),
-        FaultKind::BadProperty { name } => put_named(line, b"M4", name),
-        FaultKind::BadCron { fault: _ } => put(line, b"M13"),
-        FaultKind::NoStart => put(line, b"M14"),
-        FaultKind::Outside { name } => put_named(line, b"M20", name),
-        _ => put(line, b"another"),
+        FaultKind::TooLarge { what, limit: _ } => put(line, what.as_slice()),
+        FaultKind::UnknownProperty { name } => put(line, name.as_slice()),
+        FaultKind::BadProperty { name } => put(line, name.as_slice()),
+        FaultKind::Outside { name } => put(line, name.as_slice()),
+        _ => Ok(()),
     }
 }
 
@@ -257,7 +263,7 @@ fn large_files(rt: HostRuntime) -> Result<(), Fail> {
 }
 
 // The places of the faults of a text that is cut behind `from` bytes, one more and so on up to `to`, and a line where it
-// has none.
+// has none. A fault's kind stands before the first place of each run of its kind.
 pub(crate) fn cuts_say(
     alloc: Global,
     text: &[u8],
@@ -267,24 +273,37 @@ pub(crate) fn cuts_say(
 ) -> Result<bool, Fail> {
     let file: Str = u8::copy_items(alloc, b"models/a.sql")?;
     let mut line = Vec::new(alloc);
+    let mut kind = "";
     for length in from..to {
         if length > text.len() {
             return Ok(false);
         }
-        put_place(alloc, &mut line, &read_model(&file, &text[..length]))?;
+        kind = put_place(alloc, &mut line, kind, &read_model(&file, &text[..length]))?;
     }
     Ok(line.as_slice() == expected.as_bytes())
 }
 
+// The kind that the line named last.
 fn put_place(
     alloc: Global,
     line: &mut Vec<u8>,
+    before: &'static str,
     answer: &Result<ModelText, ReadFault>,
-) -> Result<(), Fail> {
+) -> Result<&'static str, Fail> {
     match answer {
-        Err(ReadFault::Fault { at, kind: _ }) => put_count(alloc, line, *at),
+        Err(ReadFault::Fault { at, kind }) => {
+            let found = word(kind);
+            if found != before {
+                put(line, found.as_bytes())?;
+            }
+            put_count(alloc, line, *at)?;
+            Ok(found)
+        }
         Err(ReadFault::Memory) => Err("no memory")?,
-        Ok(_) => put(line, b"-"),
+        Ok(_) => {
+            put(line, b"-")?;
+            Ok(before)
+        }
     }
 }
 
@@ -297,7 +316,7 @@ fn a_seed_that_is_cut(rt: HostRuntime) -> Result<(), Fail> {
             b"MODEL (name a.s, kind SEED (path '../s.csv'));",
             0,
             46,
-            "0 0 0 0 0 5 5 7 7 7 7 11 11 13 14 15 16 16 17 17 17 21 21 23 24 25 26 26 28 29 30 31 32 32 33 33 33 33 33 33 33 33 33 43 44 45 "
+            "M1 0 0 0 0 0 5 5 7 M3 7 7 7 M1 11 11 13 14 15 16 16 M3 17 17 17 M1 21 21 23 24 25 26 26 28 29 30 31 32 32 33 33 33 33 33 33 33 33 33 43 44 45 "
         )?
     );
     Ok(())
@@ -312,7 +331,7 @@ fn a_query_that_is_cut(rt: HostRuntime) -> Result<(), Fail> {
             b"MODEL (name a.b, kind FULL); SELECT x, FROM a.s",
             26,
             47,
-            "26 27 28 28 28 28 28 28 28 35 35 - - - - - - 43 43 - 46 "
+            "M1 26 27 28 28 28 28 28 28 28 35 35 - - - - - - 43 43 - 46 "
         )?
     );
     Ok(())
@@ -331,7 +350,7 @@ fn the_name_and_kind_of_a_long_one_cut(rt: HostRuntime) -> Result<(), Fail> {
             LONG,
             0,
             60,
-            "0 0 0 0 0 5 5 7 7 7 7 11 11 13 14 15 16 17 18 19 20 21 22 23 24 25 26 27 28 29 30 31 32 33 34 35 36 37 38 39 39 40 40 40 44 44 46 47 48 49 50 50 51 51 51 55 55 56 56 56 "
+            "M1 0 0 0 0 0 5 5 7 M3 7 7 7 M1 11 11 13 14 15 16 17 18 19 20 21 22 23 24 25 26 27 28 29 30 31 32 33 34 35 36 37 38 39 39 M3 40 40 40 M1 44 44 46 47 48 49 50 50 M3 51 51 51 M1 55 55 56 56 56 "
         )?
     );
     Ok(())
@@ -346,7 +365,7 @@ fn other_properties_of_it_cut(rt: HostRuntime) -> Result<(), Fail> {
             LONG,
             60,
             128,
-            "56 56 56 56 64 65 65 66 66 66 66 71 71 73 74 75 76 77 78 79 80 80 80 80 83 83 83 83 83 89 89 91 92 93 94 95 96 97 98 99 100 101 102 103 104 105 106 107 108 109 110 111 112 113 114 115 116 117 118 119 120 120 120 120 120 120 120 127 "
+            "M1 56 56 56 56 64 65 65 M3 66 66 66 66 M1 71 71 73 74 75 76 77 78 79 80 80 80 80 M3 83 83 83 83 83 M1 89 89 91 92 93 94 95 96 97 98 99 100 101 102 103 104 105 106 107 108 109 110 111 112 113 114 115 116 117 118 119 120 120 120 120 120 120 120 127 "
         )?
     );
     Ok(())
@@ -361,7 +380,7 @@ fn its_items_cut(rt: HostRuntime) -> Result<(), Fail> {
             LONG,
             128,
             180,
-            "127 - - - - - - - - - - - - - - 143 144 145 146 147 148 149 150 151 151 153 154 - - - 158 158 - - - - - - - - - - - - - - - 175 175 - - - "
+            "M1 127 - - - - - - - - - - - - - - 143 144 145 146 147 148 149 150 151 151 153 154 - - - 158 158 - - - - - - - - - - - - - - - 175 175 - - - "
         )?
     );
     Ok(())
@@ -376,7 +395,7 @@ fn its_relation_and_keys_cut(rt: HostRuntime) -> Result<(), Fail> {
             LONG,
             180,
             226,
-            "- - - - - - - - - - - - 192 - 192 - - - - - - - - - - - - - - - - - - - - 215 215 215 218 218 - - - - - - "
+            "- - - - - - - - - - - - M1 192 - 192 - - - - - - - - - - - - - - - - - - - - 215 215 215 218 218 - - - - - - "
         )?
     );
     Ok(())
