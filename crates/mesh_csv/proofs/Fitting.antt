@@ -1,5 +1,5 @@
 -- The rows of a seed fit its columns.
-use Rattle.std.proofs.Common.{◌≡◌, ℕ, suc, ◌+◌, ◌==◌, Bool, true, false, cond, List, [], ◌∷◌, map, length, Result, Ok, Err, ℤ, refl, sym, ◌∙◌, ap, subst, arith}
+use Rattle.std.proofs.Common.{◌≡◌, ℕ, suc, ◌+◌, ◌==◌, Bool, true, false, cond, List, [], ◌∷◌, map, length, Result, Ok, ℤ, refl, sym, ap, subst, arith}
 use Rattle.std.proofs.lemmas.List.{length-map}
 use Rattle.std.specs.List.{list_all}
 use Rattle.std.specs.Option.{option_map}
@@ -8,7 +8,6 @@ use Rattle.std.specs.declared.option.Option.TheVariants.{None, Some}
 use borrow.Author.Tests.{eqb-true}
 use Rattle.csv.specs.Reading.{default_config, records, strip_bom}
 use Rattle.mesh_list.proofs.Ascends.{and_both}
-use Rattle.mesh_base.specs.declared.values.Cell.{Cell}
 use Rattle.mesh_base.specs.declared.values.Cell.TheVariants.{Int as Number, Date as Day, Bool as Truth}
 use Rattle.mesh_base.specs.declared.values.Column.{Column}
 use Rattle.mesh_base.specs.declared.values.ColType.{ColType}
@@ -17,7 +16,7 @@ use Rattle.mesh_tokens.specs.declared.faults.ReadFault.{ReadFault}
 use Rattle.mesh_meaning.specs.Casts.{number_named, truth_named}
 use Rattle.mesh_meaning.specs.Dates.{day_named}
 use Rattle.mesh_csv.specs.declared.seed.Seed.{Seed}
-use Rattle.mesh_csv.specs.Cells.{Record, is_used, are_read, kind_found, value_of, cell_of, row_of, or_null}
+use Rattle.mesh_csv.specs.Cells.{Record, value_of, cell_of, row_of, or_null}
 use Rattle.mesh_csv.specs.Fits.{is_of, fits}
 use Rattle.mesh_csv.specs.Headers.{bad_row, first_of, header_fault, header_names}
 use Rattle.mesh_csv.specs.Seeds.{unread_field, record_fault, records_fault, shape_fault, kinds, kinds_found, columns_of, seed_rows, seed_under, seed_of, seed_text, unless}
@@ -41,7 +40,7 @@ value_is Text f = refl
 value_is Date f = day_is (day_named f)
 value_is Logical f = truth_is (truth_named f)
 
-cell_is : (k : ColType) (f : List ℕ) → is_of k (cell_of k f) ≡ true
+pub cell_is : (k : ColType) (f : List ℕ) → is_of k (cell_of k f) ≡ true
 cell_is k [] = refl
 cell_is k (b ∷ bs) = value_is k (b ∷ bs)
 
@@ -54,14 +53,14 @@ row_fits (n ∷ ns) (k ∷ ks) [] e h = absurd (omega (h, arith))
 row_fits (n ∷ ns) (k ∷ ks) (f ∷ fs) e h = and_both _ _ (cell_is k f) (row_fits ns ks fs (omega (e, arith)) (omega (h, arith)))
 
 -- a record without a fault has a field for each column
-fields_are : (r : ℕ) (ks : List ColType) (fields : Record) → record_fault r ks fields ≡ None → length fields ≡ length ks
+pub fields_are : (r : ℕ) (ks : List ColType) (fields : Record) → record_fault r ks fields ≡ None → length fields ≡ length ks
 fields_are r ks fields e = by (length fields == length ks) refl e
   where
     by : (b : Bool) → b ≡ (length fields == length ks) → cond b (option_map (bad_row r) (unread_field 1 ks fields)) (Some (bad_row r 0)) ≡ None → length fields ≡ length ks
     by true is h = eqb-true (length fields) (length ks) (sym is)
     by false is h = cc h
 
-first_none : (a b : Option ReadFault) → first_of a b ≡ None → (a ≡ None) × (b ≡ None)
+pub first_none : (a b : Option ReadFault) → first_of a b ≡ None → (a ≡ None) × (b ≡ None)
 first_none None b e = (refl, e)
 first_none (Some x) b e = cc e
 
@@ -81,7 +80,7 @@ kinds_length : (declared : List Column) (names : List (List ℕ)) (rs : List Rec
 kinds_length [] names rs = found_length 0 names rs
 kinds_length (c ∷ cs) names rs = sym (length-map names _)
 
-unless_ok : {A : Type 0} (fault : Option ReadFault) (answer : Result A ReadFault) (x : A) → unless fault answer ≡ Ok x → (fault ≡ None) × (answer ≡ Ok x)
+pub unless_ok : {A : Type 0} (fault : Option ReadFault) (answer : Result A ReadFault) (x : A) → unless fault answer ≡ Ok x → (fault ≡ None) × (answer ≡ Ok x)
 unless_ok None answer x e = (refl, e)
 unless_ok (Some f) answer x e = cc e
 
@@ -100,12 +99,3 @@ records_fit declared (header ∷ rs) seed e =
 
 pub rows_fit : (declared : List Column) (bytes : List ℕ) (seed : Seed) → seed_text declared bytes ≡ Ok seed → list_all (fits seed.columns) seed.rows ≡ true
 rows_fit declared bytes seed e = records_fit declared (records default_config (strip_bom bytes)) seed e
-
-pub numbers_are : (c : ℕ) (rs : List Record) → kind_found c rs ≡ Int → (is_used c rs ≡ true) × (are_read Int c rs ≡ true)
-numbers_are c rs e = by (is_used c rs) (are_read Int c rs) (are_read Date c rs) e
-  where
-    by : (used number day : Bool) → cond used (cond number Int (cond day Date Text)) Text ≡ Int → (used ≡ true) × (number ≡ true)
-    by true true day h = (refl, refl)
-    by true false true h = cc h
-    by true false false h = cc h
-    by false number day h = cc h

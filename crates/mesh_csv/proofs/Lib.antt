@@ -4,3 +4,4 @@ pub mod RowSteps
 pub mod RecordSteps
 pub mod Utf8
 pub mod Fitting
+pub mod Numbers

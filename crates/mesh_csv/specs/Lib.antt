@@ -4,5 +4,5 @@ pub mod Cells
 pub mod Headers
 -- Seeds: what a seed's file says.
 pub mod Seeds
--- Fits: when rows fit columns.
+-- Fits: when rows fit columns, and when a column's cells are numbers.
 pub mod Fits

@@ -1,11 +1,10 @@
 // What holds of every seed that is read.
-ghost use Rattle.std.specs.Prelude.{◌≡◌, ℕ, List, true, Result, Ok};
+ghost use Rattle.std.specs.Prelude.{◌≡◌, ℕ, List, [], true, Result, Ok, Some};
 ghost use Rattle.std.specs.List.{list_all};
 ghost use Rattle.mesh_base.specs.declared.values.Column.{Column};
 ghost use Rattle.mesh_base.specs.declared.values.ColType.TheVariants.{Int};
 ghost use Rattle.mesh_csv.specs.declared.seed.Seed.{Seed as Seeds};
-ghost use Rattle.mesh_csv.specs.Cells.{Record, is_used, are_read, kind_found};
-ghost use Rattle.mesh_csv.specs.Fits.{fits};
+ghost use Rattle.mesh_csv.specs.Fits.{fits, kind_at, are_numbers};
 ghost use Rattle.mesh_csv.specs.Seeds.{seed_text};
 
 /// Each row of a seed has a cell for each of its columns, which is NULL or of the column's type.
@@ -14,8 +13,9 @@ pub fn rows_fit_columns()
     ensures { (declared : List Column) (bytes : List ℕ) (seed : Seeds) → seed_text declared bytes ≡ Ok seed → list_all (fits seed.columns) seed.rows ≡ true }
 {}
 
-/// A column that isn't declared is INT only where it has a cell that isn't empty and all its cells are read as INT.
-#[tactic(auto, using(crate::proofs::Fitting::numbers_are))]
+/// Where a file is read without declared columns, each column of INT has a row with a number in its place, and all its other
+/// rows have a number or NULL there.
+#[tactic(auto, using(crate::proofs::Numbers::numbers_found))]
 pub fn numbers_are_found()
-    ensures { (c : ℕ) (rs : List Record) → kind_found c rs ≡ Int → (is_used c rs ≡ true) × (are_read Int c rs ≡ true) }
+    ensures { (bytes : List ℕ) (seed : Seeds) (c : ℕ) → seed_text [] bytes ≡ Ok seed → kind_at c seed.columns ≡ Some Int → are_numbers c seed.rows ≡ true }
 {}
