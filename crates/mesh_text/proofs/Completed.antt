@@ -5,7 +5,6 @@ use Rattle.std.specs.declared.option.Option.{Option}
 use Rattle.std.specs.declared.option.Option.TheVariants.{None, Some}
 use Rattle.mesh_list.proofs.Ascends.{and_both}
 use Rattle.mesh_base.specs.Crons.{CronSets}
-use Rattle.mesh_base.specs.Names.{is_schema}
 use Rattle.mesh_base.specs.declared.definitions.Kind.{Kind}
 use Rattle.mesh_base.specs.declared.values.Name.{Name}
 use Rattle.mesh_tokens.specs.Gives.{◌>>=◌}
@@ -16,14 +15,15 @@ use Rattle.mesh_statement.specs.declared.kinds.KindText.{KindText}
 use Rattle.mesh_statement.specs.Brackets.{or_fault}
 use Rattle.mesh_statement.specs.Faults.{bad, broken, provided}
 use Rattle.mesh_statement.specs.Kinds.{is_empty}
-use Rattle.mesh_statement.specs.Named.{has_schema}
 use Rattle.mesh_statement.specs.Statement.{Read, statement}
 use Rattle.mesh_statement.proofs.Kept.{bound}
-use Rattle.mesh_statement.proofs.Stated.{name_is_proper}
 use Rattle.mesh_text.specs.declared.model.ModelText.{ModelText}
 use Rattle.mesh_text.specs.declared.model.Whole.{Whole as Text}
-use Rattle.mesh_text.specs.Complete.{is_complete}
+use Rattle.mesh_text.specs.Complete.{is_model_name, is_complete}
+use Rattle.mesh_text.specs.Lexed.{file_tokens, file_fault}
 use Rattle.mesh_text.specs.ModelTexts.{kind_of, is_seed_kind, is_seed_text, body, whole, is_want, with_tokens, is_timed, no_start, started, cron_or_daily, unit_of, finished, model_of}
+use Rattle.mesh_text.proofs.Named.{is_name_if_any, statement_named}
+use Rattle.mesh_text.proofs.Words.{have_words, file_words}
 
 -- without a faulty token
 unhurt : (ts : List Token) (token : Option ReadFault) (r : Result Text ReadFault) (w : Text) → with_tokens ts token r ≡ Ok w → r ≡ Ok w
@@ -37,7 +37,7 @@ unhurt ts (Some t) (Err f) w e = by (is_want ts f) e
 
 -- the name, and the query that fits the kind
 Sure : Text → Type 0
-Sure w = (has_schema w.parts.name ≡ true) × (cond (is_seed_text w.parts.kind) (not (is_some w.query)) (is_some w.query) ≡ true)
+Sure w = (is_name_if_any w.parts.name ≡ true) × (cond (is_seed_text w.parts.kind) (not (is_some w.query)) (is_some w.query) ≡ true)
 
 body_fits : (seed : Bool) (before : ℕ) (rest : List Token) (query : Result Surface ReadFault) (q : Option Surface) → body seed before rest query ≡ Ok q → cond seed (not (is_some q)) (is_some q) ≡ true
 body_fits true before rest query q e = by (is_empty rest) e
@@ -48,17 +48,17 @@ body_fits true before rest query q e = by (is_empty rest) e
 body_fits false before rest (Ok tree) q e = let same : Some tree ≡ q = cc e in subst (λ (q : Option Surface). is_some q ≡ true) same refl
 body_fits false before rest (Err f) q e = cc e
 
-whole_sure : (file : List ℕ) (ts : List Token) (query : Result Surface ReadFault) (w : Text) → whole file ts query ≡ Ok w → Sure w
+whole_sure : (file : List ℕ) (ts : List Token) (query : Result Surface ReadFault) (w : Text) → have_words ts ≡ true → whole file ts query ≡ Ok w → Sure w
 unfolding Sure
-whole_sure file ts query w e =
+whole_sure file ts query w words e =
     let r = bound (statement file ts) (λ (r : Read). body (is_seed_text r.parts.kind) r.before r.rest query >>= λ q. Ok (record { parts = r.parts; query = q })) w e in
     let q = bound (body (is_seed_text r.0.parts.kind) r.0.before r.0.rest query) (λ q. Ok (record { parts = r.0.parts; query = q })) w r.2 in
     let same : (record { parts = r.0.parts; query = q.0 }) ≡ w = cc q.2 in
-    subst Sure same (name_is_proper file ts r.0 r.1, body_fits (is_seed_text r.0.parts.kind) r.0.before r.0.rest query q.0 q.1)
+    subst Sure same (statement_named file ts r.0 words r.1, body_fits (is_seed_text r.0.parts.kind) r.0.before r.0.rest query q.0 q.1)
 
-schema_there : (fault : ReadFault) (found : Option Name) (name : Name) → has_schema found ≡ true → or_fault fault found ≡ Ok name → is_schema name.schema ≡ true
-schema_there fault None name h e = cc e
-schema_there fault (Some n) name h e = let same : n ≡ name = cc e in subst (λ (n : Name). is_schema n.schema ≡ true) same h
+name_there : (fault : ReadFault) (found : Option Name) (name : Name) → is_name_if_any found ≡ true → or_fault fault found ≡ Ok name → is_model_name name ≡ true
+name_there fault None name h e = cc e
+name_there fault (Some n) name h e = let same : n ≡ name = cc e in subst (λ (n : Name). is_model_name n ≡ true) same h
 
 start_there : (k : Kind) (start found : Option ℤ) → started k start ≡ Ok found → cond (is_timed k) (is_some found) true ≡ true
 start_there k start found e = by (is_timed k) start e
@@ -91,12 +91,13 @@ finished_complete file w m h e =
     let s = bound (started (kind_of w.parts.kind).kind w.parts.start) (λ start. cron_or_daily w.parts.cron >>= λ cron. Ok (text n.0 start cron)) m n.2 in
     let c = bound (cron_or_daily w.parts.cron) (λ cron. Ok (text n.0 s.0 cron)) m s.2 in
     let same : text n.0 s.0 c.0 ≡ m = cc c.2 in
-    subst (λ (m : ModelText). is_complete m ≡ true) same
-    (and_both _ _ (schema_there (bad 0 (codes "name")) w.parts.name n.0 h.0 n.1)
+    subst (λ (m : ModelText). is_complete m ≡ true) {x = text n.0 s.0 c.0} same
+    (and_both _ _ (name_there (bad 0 (codes "name")) w.parts.name n.0 h.0 n.1)
     (and_both _ _ (subst (λ (b : Bool). cond b (not (is_some w.query)) (is_some w.query) ≡ true) (one_kind w.parts.kind) h.1)
     (start_there (kind_of w.parts.kind).kind w.parts.start s.0 s.1)))
 
-pub model_complete : (file : List ℕ) (ts : List Token) (token : Option ReadFault) (query : Result Surface ReadFault) (m : ModelText) → model_of file ts token query ≡ Ok m → is_complete m ≡ true
-model_complete file ts token query m e =
-    let w = bound (with_tokens ts token (whole file ts query)) (finished file) m e in
-    finished_complete file w.0 m (whole_sure file ts query w.0 (unhurt ts token (whole file ts query) w.0 w.1)) w.2
+pub model_complete : (file bytes : List ℕ) (query : Result Surface ReadFault) (m : ModelText) → model_of file (file_tokens bytes) (file_fault bytes) query ≡ Ok m → is_complete m ≡ true
+model_complete file bytes query m e =
+    let ts = file_tokens bytes in
+    let w = bound (with_tokens ts (file_fault bytes) (whole file ts query)) (finished file) m e in
+    finished_complete file w.0 m (whole_sure file ts query w.0 (file_words bytes) (unhurt ts (file_fault bytes) (whole file ts query) w.0 w.1)) w.2

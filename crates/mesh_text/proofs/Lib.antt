@@ -1,2 +1,4 @@
 pub mod Refusing
+pub mod Words
+pub mod Named
 pub mod Completed
