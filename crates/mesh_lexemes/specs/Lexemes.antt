@@ -1,0 +1,63 @@
+-- The bytes that spell a token, and how tokens stand in a text.
+use Rattle.std.specs.Prelude.{◌≡◌, ℕ, ◌+◌, ◌≤◌, Bool, true, false, not, ◌&&◌, ◌||◌, ◌==◌, List, [], ◌∷◌, ◌++◌, length, codes, if◌then◌else◌}
+use Rattle.std.specs.List.{list_all, Contains}
+use Rattle.mesh_base.specs.Names.{is_identifier}
+use Rattle.mesh_tokens.specs.declared.tokens.Token.{Token}
+use Rattle.mesh_tokens.specs.declared.tokens.TokenKind.{TokenKind}
+use Rattle.mesh_tokens.specs.declared.tokens.TokenKind.TheVariants.{Ident, Number, Text, Macro, Sign}
+use Rattle.mesh_tokens.specs.Letters.{is_blank, is_digit, lowered, decimal}
+
+-- a text with each quote in it written twice
+abbrev pub doubled : List ℕ → List ℕ
+doubled [] = []
+doubled (b ∷ bs) = if b == 39 then 39 ∷ 39 ∷ doubled bs else b ∷ doubled bs
+
+-- the signs that mean themselves
+abbrev pub signs : List (List ℕ)
+signs =
+    codes "(" ∷ codes ")" ∷ codes "[" ∷ codes "]" ∷ codes "," ∷ codes ";" ∷ codes "." ∷ codes "*" ∷ codes "+" ∷ codes "-" ∷ codes "/" ∷ codes "%"
+    ∷ codes "=" ∷ codes "<>" ∷ codes "<" ∷ codes "<=" ∷ codes ">" ∷ codes ">=" ∷ codes "||" ∷ codes "::" ∷ codes ":=" ∷ []
+
+-- these bytes spell a token of this kind
+pub data Lexeme : TokenKind → List ℕ → Type 0 where
+  word : {bytes : List ℕ} → is_identifier bytes ≡ true → Lexeme (Ident (lowered bytes)) bytes
+  number : {digit : ℕ} {digits : List ℕ} → list_all is_digit (digit ∷ digits) ≡ true → Lexeme (Number (decimal (digit ∷ digits))) (digit ∷ digits)
+  quoted : {said : List ℕ} → Lexeme (Text said) (codes "'" ++ doubled said ++ codes "'")
+  macro : {bytes : List ℕ} → is_identifier bytes ≡ true → Lexeme (Macro (lowered bytes)) (codes "@" ++ bytes)
+  sign : {bytes : List ℕ} → Contains signs bytes → Lexeme (Sign bytes) bytes
+  unequal : Lexeme (Sign (codes "<>")) (codes "!=")
+
+-- a line ends in front of a line feed, and where the text ends
+abbrev pub ends_line : List ℕ → Bool
+ends_line [] = true
+ends_line (b ∷ bs) = b == 10
+
+-- the first `*/` in these bytes and a `*/` behind them is the one behind them
+abbrev pub IsInFrontOfFirst : List ℕ → Type 0
+IsInFrontOfFirst said = (front behind : List ℕ) → front ++ codes "*/" ++ behind ≡ said ++ codes "*/" → length said ≤ length front
+
+-- the first bytes, in front of the others, are blanks and comments
+pub data AreBetween : List ℕ → List ℕ → Type 0 where
+  nothing : {behind : List ℕ} → AreBetween [] behind
+  blank : {b : ℕ} {bytes behind : List ℕ} → is_blank b ≡ true → AreBetween bytes behind → AreBetween (b ∷ bytes) behind
+  line : (said : List ℕ) {bytes behind : List ℕ} → list_all (λ b. not (b == 10)) said ≡ true → ends_line (bytes ++ behind) ≡ true
+      → AreBetween bytes behind → AreBetween (codes "--" ++ said ++ bytes) behind
+  note : (said : List ℕ) {bytes behind : List ℕ} → IsInFrontOfFirst said
+      → AreBetween bytes behind → AreBetween (codes "/*" ++ said ++ codes "*/" ++ bytes) behind
+
+abbrev pub begins_comment : List ℕ → Bool
+begins_comment [] = false
+begins_comment (a ∷ []) = false
+begins_comment (a ∷ b ∷ bs) = ((a == 45) && (b == 45)) || ((a == 47) && (b == 42))
+
+-- of the text that the first bytes begin and the others end, no longer front spells a token of any kind
+abbrev pub IsLongest : List ℕ → List ℕ → Type 0
+IsLongest bytes behind = (kind : TokenKind) (front rest : List ℕ) → front ++ rest ≡ bytes ++ behind → Lexeme kind front → length front ≤ length bytes
+
+-- these are the tokens of a text whose first byte stands at this place
+pub data AreLexed : ℕ → List ℕ → List Token → Type 0 where
+  no_more : {at : ℕ} {between : List ℕ} → AreBetween between [] → AreLexed at between []
+  next : {at : ℕ} (between bytes behind : List ℕ) {kind : TokenKind} {more : List Token} → AreBetween between (bytes ++ behind)
+      → begins_comment (bytes ++ behind) ≡ false → Lexeme kind bytes → IsLongest bytes behind
+      → AreLexed (at + length between + length bytes) behind more
+      → AreLexed at (between ++ bytes ++ behind) (record { start = at + length between; end = at + length between + length bytes; kind = kind } ∷ more)
