@@ -130,7 +130,7 @@ unquoted_plain : (b : ℕ) (bs : List ℕ) → (b == 39) ≡ false → unquoted 
 unquoted_plain b [] h = refl
 unquoted_plain b (c ∷ bs) h = rw h refl
 
-unquoted-doubled : (said : List ℕ) → unquoted (doubled said) ≡ said
+pub unquoted-doubled : (said : List ℕ) → unquoted (doubled said) ≡ said
 unquoted-doubled [] = refl
 unquoted-doubled (b ∷ said) = by_test (b == 39) refl (unquoted-doubled said)
   where

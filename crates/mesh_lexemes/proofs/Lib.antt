@@ -1,3 +1,4 @@
 pub mod Fronts
 pub mod Lexed
 pub mod Longest
+pub mod Unique

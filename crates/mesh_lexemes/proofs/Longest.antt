@@ -35,13 +35,13 @@ passing p [] rest all = omega arith
 passing p (b ∷ bs) rest all = let both = and_parts (p b) (list_all p bs) all in rw (both.0) (omega (passing p bs rest both.1, arith))
 
 -- no byte is of two kinds
-word_no_blank : (b : ℕ) → begins_word b ≡ true → is_blank b ≡ false
+pub word_no_blank : (b : ℕ) → begins_word b ≡ true → is_blank b ≡ false
 word_no_blank b h = or_from _ _ (or_from _ _ (or_from _ _ (apart begins_word 32 b refl h) (apart begins_word 9 b refl h)) (apart begins_word 13 b refl h)) (apart begins_word 10 b refl h)
 
-digit_no_blank : (b : ℕ) → is_digit b ≡ true → is_blank b ≡ false
+pub digit_no_blank : (b : ℕ) → is_digit b ≡ true → is_blank b ≡ false
 digit_no_blank b h = or_from _ _ (or_from _ _ (or_from _ _ (apart is_digit 32 b refl h) (apart is_digit 9 b refl h)) (apart is_digit 13 b refl h)) (apart is_digit 10 b refl h)
 
-digit_no_word : (b : ℕ) → is_digit b ≡ true → begins_word b ≡ false
+pub digit_no_word : (b : ℕ) → is_digit b ≡ true → begins_word b ≡ false
 digit_no_word b h = or_from _ _ (or_from _ _ (and_left _ _ (lt-leb 97 b (omega (below, arith)))) (and_left _ _ (lt-leb 65 b (omega (below, arith))))) (apart is_digit 95 b refl h)
   where
     below : b ≤ 57
@@ -116,7 +116,7 @@ text_longest at said rest k n is = by_length (text_len ((doubled said ++ 39 ∷ 
         same = of_length (utf8_valid_len (take m ((doubled said ++ 39 ∷ []) ++ rest)) == length (take m ((doubled said ++ 39 ∷ []) ++ rest))) _ _ _ n _ is
 
 -- how signs are made
-begins_sign : ℕ → Bool
+abbrev pub begins_sign : ℕ → Bool
 begins_sign b = not (is_blank b) && (not (begins_word b) && (not (is_digit b) && (not (b == 39) && not (b == 64))))
 
 made_as_sign : List ℕ → Bool
@@ -126,11 +126,11 @@ made_as_sign (a ∷ b ∷ []) = begins_sign a && (is_long_sign a b && not (begin
 made_as_sign (a ∷ b ∷ c ∷ bs) = false
 
 sign_made : (bytes : List ℕ) → Contains signs bytes → made_as_sign bytes ≡ true
-unfolding made_as_sign begins_sign
+unfolding made_as_sign
 sign_made bytes there = All-contains (λ (x : List ℕ). made_as_sign x ≡ true) signs bytes (AllPass-from_list_all made_as_sign signs refl) there
 
 at_sign : (at b : ℕ) (bs : List ℕ) → begins_sign b ≡ true → piece_at at b bs ≡ sign_at at b bs
-unfolding piece_at begins_sign
+unfolding piece_at
 at_sign at b bs h =
     let one = and_parts _ _ h in let two = and_parts _ _ one.1 in let three = and_parts _ _ two.1 in let four = and_parts _ _ three.1 in
     rw (not-true (is_blank b) one.0, not-true (begins_word b) two.0, not-true (is_digit b) three.0, not-true (b == 39) four.0, not-true (b == 64) four.1) refl

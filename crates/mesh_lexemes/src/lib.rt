@@ -1,5 +1,6 @@
-//! The law of tokens in words of its own: the longest wins. Its one file of definitions, `Lexemes`, says by printing which
-//! bytes spell a token of each kind, and knows nothing of how `mesh_tokens` reads. It stands on `mesh_tokens`.
+//! Laws of tokens in words of their own, each the contract of a function with an empty body: the longest token wins, and a
+//! text has one list of such tokens. Its one file of definitions, `Lexemes`, says by printing which bytes spell a token of
+//! each kind. It stands on `mesh_tokens`.
 #![tactic(auto)]
 
 ghost use Rattle.std.specs.Prelude.{◌≡◌, ℕ, List, Ok};
@@ -7,9 +8,15 @@ ghost use Rattle.mesh_tokens.specs.declared.tokens.Token.{Token};
 ghost use Rattle.mesh_tokens.specs.Text.{tokens};
 ghost use Rattle.mesh_lexemes.specs.Lexemes.{AreLexed};
 
-/// Each token of a text is the longest front of what is left that spells a token of any kind; in front of it, and behind
-/// the last, stand blanks and comments alone, and none of these begins where a token does.
+/// Each token that is read is the longest front of what is left of the text that spells a token of any kind. None begins
+/// where a comment does, and in front of each and behind the last stand blanks and comments alone.
 #[tactic(auto, using(crate::proofs::Lexed::tokens_are_lexed))]
 pub fn each_token_is_the_longest()
     ensures { (bytes : List ℕ) (found : List Token) → tokens bytes ≡ Ok found → AreLexed 0 bytes found }
+{}
+
+/// A text has at most one such list of tokens. So where a text is read, what is read is that list, and no other.
+#[tactic(auto, using(crate::proofs::Unique::lexed_once))]
+pub fn one_lexing()
+    ensures { (at : ℕ) (bytes : List ℕ) (one other : List Token) → AreLexed at bytes one → AreLexed at bytes other → one ≡ other }
 {}
