@@ -56,7 +56,7 @@ fn fault_of(alloc: Global, text: &[u8]) -> Option<(u64, u8)> {
 
 #[test]
 fn tokens_by_hand(rt: HostRuntime) {
-    let cases: [(&[u8], usize, usize, u64, u64, u8, &[u8]); 22] = [
+    let cases: [(&[u8], usize, usize, u64, u64, u8, &[u8]); 24] = [
         (b"SELECT a", 2, 0, 0, 6, b'i', b"select"),
         (b"a>=b", 3, 1, 1, 3, b's', b">="),
         (b"a<=b", 3, 1, 1, 3, b's', b"<="),
@@ -72,7 +72,9 @@ fn tokens_by_hand(rt: HostRuntime) {
         (b"@Start_DS", 1, 0, 0, 9, b'm', b"start_ds"),
         (b"12abc", 2, 0, 0, 2, b'n', b"twelve bytes"),
         (b"12abc", 2, 1, 2, 5, b'i', b"abc"),
+        (b"00000000000000000012", 1, 0, 0, 20, b'n', b"twelve bytes"),
         (b"a--b\nc", 2, 1, 5, 6, b'i', b"c"),
+        (b"a--b\rc\nd", 2, 1, 7, 8, b'i', b"d"),
         (b"a--", 1, 0, 0, 1, b'i', b"a"),
         (b"a/*'*/b", 2, 1, 6, 7, b'i', b"b"),
         (b"/*/*/x", 1, 0, 5, 6, b'i', b"x"),
@@ -87,7 +89,7 @@ fn tokens_by_hand(rt: HostRuntime) {
 
 #[test]
 fn faults_by_hand(rt: HostRuntime) {
-    let cases: [(&[u8], u64, u8); 19] = [
+    let cases: [(&[u8], u64, u8); 23] = [
         (b"a ? b", 2, b's'),
         (b"a 'x", 2, b's'),
         (b"a 'x''", 2, b's'),
@@ -100,6 +102,10 @@ fn faults_by_hand(rt: HostRuntime) {
         (b"a @", 2, b's'),
         (b"'a\xFFb'", 2, b's'),
         (b"'\xFF", 0, b's'),
+        (b"'\xC0\x80'", 1, b's'),
+        (b"'a\xED\xA0\x80'", 2, b's'),
+        (b"'ab\xF4\x90\x80\x80'", 3, b's'),
+        (b"'abc\xE2\x82'", 4, b's'),
         (b"a\xE9", 1, b's'),
         (b"-- \xFF\n", 3, b's'),
         (b"/* \xC3*/", 3, b's'),
@@ -113,6 +119,17 @@ fn faults_by_hand(rt: HostRuntime) {
     }
     assert!(rt; fault_of(rt.alloc(), &[b'a'; 128]) == None);
     assert!(rt; fault_of(rt.alloc(), b"9223372036854775807") == None);
+}
+
+#[test]
+fn longest_macro(rt: HostRuntime) -> Result<(), TestFail> {
+    let alloc = rt.alloc();
+    let mut written = Vec::from_slice(alloc, b" @")?;
+    written.extend_from_slice(&[b'a'; 128])?;
+    assert!(rt; has(alloc, written.as_slice(), 1, 0, 1, 130, b'm', &[b'a'; 128]));
+    written.push(b'a')?;
+    assert!(rt; fault_of(alloc, written.as_slice()) == Some((1, b'a')));
+    Ok(())
 }
 
 #[test]
