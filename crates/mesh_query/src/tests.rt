@@ -1,51 +1,8 @@
-// Token lists, with their trees and the places of their faults worked out by hand. In the texts here each token stands
-// between blanks.
-use crate::{parse, shown};
-use mesh_base::Str;
-use mesh_list::{Memory, Seq};
-use mesh_tokens::{FaultKind, ReadFault, Token, TokenKind, Tokens};
+// Texts of queries, with their trees and the places of their faults worked out by hand.
+use crate::{parse, shown, tokens};
+use mesh_tokens::{FaultKind, ReadFault};
 use std::alloc::Global;
 use std::test::Fail as TestFail;
-
-fn text(alloc: Global, bytes: &[u8]) -> Result<Str, Memory> {
-    Ok(Seq::from_vec(Vec::from_slice(alloc, bytes)?))
-}
-
-fn number(word: &[u8]) -> u64 {
-    let mut value = 0u64;
-    for byte in word {
-        value = value
-            .wrapping_mul(10)
-            .wrapping_add(byte.wrapping_sub(48) as u64);
-    }
-    value
-}
-
-fn kind(alloc: Global, word: &[u8]) -> Result<TokenKind, Memory> {
-    Ok(match word {
-        [b'\'', inner @ .., _] => TokenKind::Text(text(alloc, inner)?),
-        [b'@', name @ ..] => TokenKind::Macro(text(alloc, name)?),
-        [b'0'..=b'9', ..] => TokenKind::Number(number(word)),
-        [b'a'..=b'z', ..] => TokenKind::Ident(text(alloc, word)?),
-        _ => TokenKind::Sign(text(alloc, word)?),
-    })
-}
-
-fn tokens(alloc: Global, written: &[u8]) -> Result<Tokens, Memory> {
-    let mut all = Seq::new(alloc);
-    let mut start = 0usize;
-    for word in written.split(|b| *b == b' ') {
-        if !word.is_empty() {
-            all.push(Token {
-                start: start as u64,
-                end: start.wrapping_add(word.len()) as u64,
-                kind: kind(alloc, word)?,
-            })?;
-        }
-        start = start.wrapping_add(word.len()).wrapping_add(1);
-    }
-    Ok(all)
-}
 
 // The tree as text, or none where the tokens are no query.
 fn tree(alloc: Global, written: &[u8]) -> Result<Vec<u8>, TestFail> {
@@ -59,7 +16,7 @@ fn tree(alloc: Global, written: &[u8]) -> Result<Vec<u8>, TestFail> {
 
 #[test]
 fn trees_of_expressions(rt: HostRuntime) -> Result<(), TestFail> {
-    let cases: [(&[u8], &[u8]); 23] = [
+    let cases: [(&[u8], &[u8]); 25] = [
         (b"select a = b || c", b"< a = (cat b c)>"),
         (b"select not a is null", b"< (not a none)>"),
         (b"select a or b and c", b"< (or a (and b c))>"),
@@ -92,6 +49,14 @@ fn trees_of_expressions(rt: HostRuntime) -> Result<(), TestFail> {
         (b"select cast ( a as integer )", b"< (cast a int)>"),
         (b"select ( a or b ) and c", b"< (and [(or a b)] c)>"),
         (b"select a % 2 <= b / 3", b"< {a % 2} <= {b / 3}>"),
+        (
+            b"select a <> b , a < b , a <= b , a > b , a >= b",
+            b"< a <> b a < b a <= b a > b a >= b>",
+        ),
+        (
+            b"select a::bigint::smallint::tinyint, a::varchar::string::char, a::date, a::bool::boolean",
+            b"< a::int::int::int a::text::text::text a::date a::bool::bool>",
+        ),
     ];
     for (written, expected) in cases {
         assert!(rt; tree(rt.alloc(), written)?.as_slice() == expected);
@@ -101,7 +66,7 @@ fn trees_of_expressions(rt: HostRuntime) -> Result<(), TestFail> {
 
 #[test]
 fn trees_of_queries(rt: HostRuntime) -> Result<(), TestFail> {
-    let cases: [(&[u8], &[u8]); 17] = [
+    let cases: [(&[u8], &[u8]); 19] = [
         (
             b"select date '2024-02-29' , date , date as d",
             b"< day 19782 date date=d>",
@@ -121,6 +86,14 @@ fn trees_of_queries(rt: HostRuntime) -> Result<(), TestFail> {
         (
             b"select abs ( 1 ) , sum ( a ) , min ( a ) , max ( a )",
             b"< abs( 1) sum( a) min( a) max( a)>",
+        ),
+        (
+            b"select length ( a ) , upper ( b ) , lower ( c )",
+            b"< length( a) upper( b) lower( c)>",
+        ),
+        (
+            b"SELECT'it''s'AS b,t.C>=1--d\nFROM T/*e*/Where(a!=-2);",
+            b"< 'it's'=b t.c >= 1|from t|where [a <> (neg 2)]>",
         ),
         (b"select a , from t", b"< a|from t>"),
         (b"select a ,", b"< a>"),
@@ -288,6 +261,35 @@ fn repeated(alloc: Global, words: &[u8], times: usize, last: &[u8]) -> Result<Ve
     }
     written.extend_from_slice(last)?;
     Ok(written)
+}
+
+// Each of the 44 reserved words is refused as a column and as an alias, behind AS and without it; where it can follow a
+// value, the fault is behind it.
+#[test]
+fn reserved_words(rt: HostRuntime) -> Result<(), TestFail> {
+    let alloc = rt.alloc();
+    let cases: [(&[u8], bool); 2] = [
+        (
+            b"all by case cast cross distinct else end except exists false full inner intersect join left limit natural null offset on order outer qualify right select then true using when window with",
+            false,
+        ),
+        (
+            b"and as between from group having in is not or union where",
+            true,
+        ),
+    ];
+    for (words, follows) in cases {
+        for word in words.split(|b| *b == b' ') {
+            let column = repeated(alloc, b" t.", 1, word)?;
+            assert_eq!(rt; place(alloc, column.as_slice())?, 9);
+            let named = repeated(alloc, b" a as ", 1, word)?;
+            assert_eq!(rt; place(alloc, named.as_slice())?, 11);
+            let alias = repeated(alloc, b" a ", 1, word)?;
+            let at = if follows { alias.len() as u64 } else { 8 };
+            assert_eq!(rt; place(alloc, alias.as_slice())?, at);
+        }
+    }
+    Ok(())
 }
 
 // NOT, unary minus and CASE count like parentheses.
