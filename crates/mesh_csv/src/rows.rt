@@ -12,12 +12,12 @@ use mesh_tokens::ReadFault;
 use std::alloc::Global;
 
 // The first field, from 1, that isn't read as its column's type.
-fn unread_field(alloc: Global, kinds: &[ColType], record: &Record) -> Result<Option<u64>, Memory>
-    ensures { IfOk result (λ place. place ≡ unread_field 1 kinds.now record.now) }
+fn unread_field(alloc: Global, kinds: &[ColType], fields: &Record) -> Result<Option<u64>, Memory>
+    ensures { IfOk result (λ place. place ≡ unread_field 1 kinds.now fields.now) }
 {
     for i in 0..kinds.len() {
         let kind = &kinds[i];
-        let Some(field) = record.get(i) else {
+        let Some(field) = fields.get(i) else {
             return Ok(None);
         };
         if !is_read(alloc, *kind, field)? {
@@ -32,14 +32,14 @@ fn record_fault(
     alloc: Global,
     row: u64,
     kinds: &[ColType],
-    record: &Record,
+    fields: &Record,
 ) -> Result<Option<ReadFault>, Memory>
-    ensures { IfOk result (λ fault. fault ≡ record_fault row kinds.now record.now) }
+    ensures { IfOk result (λ fault. fault ≡ record_fault row kinds.now fields.now) }
 {
-    if record.len() != kinds.len() {
+    if fields.len() != kinds.len() {
         return Ok(Some(bad_row(row, 0)));
     }
-    match unread_field(alloc, kinds, record)? {
+    match unread_field(alloc, kinds, fields)? {
         Some(field) => Ok(Some(bad_row(row, field))),
         None => Ok(None),
     }
@@ -63,13 +63,13 @@ pub(crate) fn records_fault(
     Ok(None)
 }
 
-fn row_of(alloc: Global, kinds: &[ColType], record: &Record) -> Result<Row, Memory>
-    ensures { IfOk result (λ row. row ≡ row_of kinds.now record.now) }
+fn row_of(alloc: Global, kinds: &[ColType], fields: &Record) -> Result<Row, Memory>
+    ensures { IfOk result (λ row. row ≡ row_of kinds.now fields.now) }
 {
     let mut row: Row = Seq::new(alloc);
     for i in 0..kinds.len() {
         let kind = &kinds[i];
-        let Some(field) = record.get(i) else {
+        let Some(field) = fields.get(i) else {
             return Ok(row);
         };
         row.push(cell_of(alloc, *kind, field)?)?;

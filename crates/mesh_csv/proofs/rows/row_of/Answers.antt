@@ -4,9 +4,9 @@ use Rattle.mesh_csv.proofs.RowSteps.{row_goes, row_short}
 use Rattle.mesh_csv.proofs.rows.row_of.Goals as goal
 
 pub returns-in_default : goal.returns-in_default
-returns-in_default c = row_short c.args.kinds.now c.args.record.now c.loop-i.i c.loop-i.row (row_of c.args.kinds.now c.args.record.now) (sym (rw c.in_default.is at c.get.ensures)) c.loop-i.invariant
+returns-in_default c = row_short c.args.kinds.now c.args.fields.now c.loop-i.i c.loop-i.row (row_of c.args.kinds.now c.args.fields.now) (sym (rw c.in_default.is at c.get.ensures)) c.loop-i.invariant
 
 pub loop-i-preserved : goal.loop-i-preserved
 loop-i-preserved c =
-    rw c.in_ok-push.ensures.ok (row_goes _ c.args.kinds.now c.args.record.now c.loop-i.i c.in-Some.field.now c.loop-i.row c.in_ok-cell_of.field-0 (row_of c.args.kinds.now c.args.record.now)
+    rw c.in_ok-push.ensures.ok (row_goes _ c.args.kinds.now c.args.fields.now c.loop-i.i c.in-Some.field.now c.loop-i.row c.in_ok-cell_of.field-0 (row_of c.args.kinds.now c.args.fields.now)
     c.loop-i-test.true (sym c.in-Some.ensures) c.in_ok-cell_of.ensures c.loop-i.invariant)

@@ -4,4 +4,4 @@ use Rattle.mesh_csv.proofs.RowSteps.{unread_from}
 use Rattle.mesh_csv.proofs.rows.unread_field.Given as goal
 
 abbrev pub invariant-loop-i : goal.invariant-loop-i
-invariant-loop-i l = unread_from l.kinds l.record l.i ≡ unread_field 1 l.kinds l.record
+invariant-loop-i l = unread_from l.kinds l.fields l.i ≡ unread_field 1 l.kinds l.fields
