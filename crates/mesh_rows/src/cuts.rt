@@ -1,4 +1,4 @@
-// A file of the project that is cut at each byte.
+// A file of the project that is cut at each byte, or made longer.
 use crate::command::Outcome;
 use crate::report::{put_cuts, put_run};
 use crate::stage::Stage;
@@ -36,6 +36,15 @@ pub fn front(alloc: Global, bytes: &Str, length: u64) -> Result<Str, Trouble> {
         }
         left -= 1;
         made.push(*byte)?;
+    }
+    Ok(Seq::from_vec(made))
+}
+
+/// A text and line feeds behind it, so many bytes in all.
+pub fn padded(alloc: Global, bytes: &Str, length: u64) -> Result<Str, Trouble> {
+    let mut made = Vec::from_slice(alloc, bytes.as_slice())?;
+    for _ in bytes.len() as u64..length {
+        made.push(b'\n')?;
     }
     Ok(Seq::from_vec(made))
 }

@@ -6,6 +6,9 @@
 //! - `mesh WORD..` runs a command; the words are separated by blanks;
 //! - `write PATH FILE` gives the project a file with the bytes of `rows/NAME/FILE`, and `delete PATH` removes one;
 //! - `cut PATH FILE N` gives the project a file with the first N bytes of `rows/NAME/FILE`;
+//! - `pad PATH FILE N` gives the project a file with the bytes of `rows/NAME/FILE` and line feeds behind them, N bytes in all;
+//! - `copies N FILE` gives the project the files `models/0.sql`, `models/1.sql` and so on, N in all, each with the bytes of
+//!   `rows/NAME/FILE`;
 //! - `cuts PATH FILE` runs `mesh apply` with each proper prefix of `rows/NAME/FILE` as the project's file, and then gives
 //!   the project the whole file. It counts the cuts, and those that are refused with one line of that file and no change,
 //!   and shows all others;
@@ -22,7 +25,7 @@ mod script;
 mod stage;
 mod trouble;
 
-use crate::cuts::{cuts, front};
+use crate::cuts::{cuts, front, padded};
 use crate::script::{Step, steps_of};
 use crate::stage::Stage;
 use crate::trouble::Trouble;
@@ -97,6 +100,14 @@ fn perform<R: Threads + Sync>(
         Step::Cut { path, from, length } => {
             let bytes = file_of(alloc, data, name, from.as_slice())?;
             stage.write(path.copy()?, front(alloc, &bytes, *length)?)
+        }
+        Step::Pad { path, from, length } => {
+            let bytes = file_of(alloc, data, name, from.as_slice())?;
+            stage.write(path.copy()?, padded(alloc, &bytes, *length)?)
+        }
+        Step::Copies { number, from } => {
+            let bytes = file_of(alloc, data, name, from.as_slice())?;
+            stage.copies(*number, &bytes)
         }
         Step::Cuts { path, from } => {
             let bytes = file_of(alloc, data, name, from.as_slice())?;

@@ -14,6 +14,10 @@ pub enum Step {
     Write { path: Str, from: Str },
     /// A file of the project gets the first bytes of a file of the example.
     Cut { path: Str, from: Str, length: u64 },
+    /// A file of the project gets the bytes of a file of the example, and line feeds up to so many bytes.
+    Pad { path: Str, from: Str, length: u64 },
+    /// So many model files get the bytes of a file of the example.
+    Copies { number: u64, from: Str },
     /// A file of the project is cut at each byte of a file of the example.
     Cuts { path: Str, from: Str },
     /// A file of the project goes.
@@ -90,6 +94,26 @@ fn cut(alloc: Global, words: &[&str]) -> Result<Step, Trouble> {
     })
 }
 
+fn pad(alloc: Global, words: &[&str]) -> Result<Step, Trouble> {
+    let path = word(words, 1)?;
+    let from = word(words, 2)?;
+    let length = number(word(words, 3)?)?;
+    Ok(Step::Pad {
+        path: text(alloc, path)?,
+        from: text(alloc, from)?,
+        length,
+    })
+}
+
+fn copies(alloc: Global, words: &[&str]) -> Result<Step, Trouble> {
+    let number = number(word(words, 1)?)?;
+    let from = word(words, 2)?;
+    Ok(Step::Copies {
+        number,
+        from: text(alloc, from)?,
+    })
+}
+
 fn cuts(alloc: Global, words: &[&str]) -> Result<Step, Trouble> {
     let path = word(words, 1)?;
     let from = word(words, 2)?;
@@ -141,6 +165,12 @@ fn step_of(alloc: Global, words: &[&str]) -> Result<Step, Trouble> {
     }
     if first == "cut" {
         return cut(alloc, words);
+    }
+    if first == "pad" {
+        return pad(alloc, words);
+    }
+    if first == "copies" {
+        return copies(alloc, words);
     }
     if first == "cuts" {
         return cuts(alloc, words);

@@ -33,6 +33,16 @@ impl Stage {
         Ok(self.folder.write(File { path, bytes })?)
     }
 
+    /// Gives so many model files the same bytes.
+    pub fn copies(&mut self, number: u64, bytes: &Str) -> Result<(), Trouble> {
+        for i in 0..number {
+            let path = format!(in self.alloc; "models/{i}.sql")?;
+            let path = u8::copy_items(self.alloc, path.as_bytes())?;
+            self.write(path, bytes.copy()?)?;
+        }
+        Ok(())
+    }
+
     /// Runs one step that needs no file of the example, and adds what is to be printed of it.
     pub fn perform<R: Threads + Sync>(
         &mut self,
@@ -42,7 +52,11 @@ impl Stage {
     ) -> Result<(), Trouble> {
         match step {
             Step::Mesh(words) => self.command(rt, words, report),
-            Step::Write { .. } | Step::Cut { .. } | Step::Cuts { .. } => Err(Trouble::Script),
+            Step::Write { .. }
+            | Step::Cut { .. }
+            | Step::Pad { .. }
+            | Step::Copies { .. }
+            | Step::Cuts { .. } => Err(Trouble::Script),
             Step::Delete(path) => {
                 self.folder.delete(path);
                 Ok(())
