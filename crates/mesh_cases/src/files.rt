@@ -1,0 +1,38 @@
+// The files of a program's `data/` folder, which lies where it runs.
+use crate::trouble::Trouble;
+use mesh_base::Str;
+use mesh_io::{DirFolder, Folder};
+use mesh_list::Duplicate;
+use std::alloc::Global;
+
+/// The bytes of the largest file of cases.
+const MOST_BYTES: u64 = 1 << 23;
+
+/// The bytes of a file of the `data/` folder, by its path there.
+pub fn file_of(alloc: Global, data: &mut DirFolder, path: &[u8]) -> Result<Str, Trouble> {
+    let path = u8::copy_items(alloc, path)?;
+    data.read(alloc, &path, MOST_BYTES)?.ok_or(Trouble::Case)
+}
+
+/// The lines of a file that hold something and don't begin with `#`, without their line feeds.
+pub fn cases_of<'a>(alloc: Global, file: &'a [u8]) -> Result<Vec<&'a [u8]>, Trouble> {
+    let mut cases = Vec::new(alloc);
+    for line in file.split(|byte| *byte == b'\n') {
+        if !line.is_empty() && !line.starts_with(b"#") {
+            cases.push(line)?;
+        }
+    }
+    Ok(cases)
+}
+
+/// What stands in front of the first ` | ` of a line, and what behind it.
+pub fn halves(line: &[u8]) -> Result<(&[u8], &[u8]), Trouble> {
+    for (at, three) in line.windows(3).enumerate() {
+        if three == b" | ".as_slice() {
+            let front = line.get(..at).ok_or(Trouble::Case)?;
+            let behind = line.get(at..).ok_or(Trouble::Case)?;
+            return Ok((front, behind.strip_prefix(b" | ").ok_or(Trouble::Case)?));
+        }
+    }
+    Err(Trouble::Case)
+}
