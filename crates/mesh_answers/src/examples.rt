@@ -6,8 +6,9 @@ use crate::made::{
     Value, add_from, add_item, add_table, binary, column, equal, is_number, number, or_number,
     rows, select,
 };
-use mesh_base::{Expr, Inputs, Join, Op, Rows, Select};
+use mesh_base::{Expr, Inputs, Join, Op, Select};
 use mesh_list::{Boxed, Memory};
+use mesh_values::Rows;
 use std::alloc::Global;
 
 const X_K: (u32, &[u8]) = (0, b"k");

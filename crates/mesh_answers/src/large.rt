@@ -4,8 +4,9 @@ use crate::answer;
 use crate::made::{
     add_from, add_item, add_table, agg, binary, column, equal, is_number, number, numbers, select,
 };
-use mesh_base::{AggKind, Cell, Expr, Inputs, Join, Op, Rows, Select, When, Whens};
+use mesh_base::{AggKind, Expr, Inputs, Join, Op, Select, When, Whens};
 use mesh_list::{Boxed, Memory};
+use mesh_values::{Cell, Rows};
 use std::alloc::Global;
 
 pub fn tables(alloc: Global, count: u32, step: i64) -> Result<Inputs, Memory> {

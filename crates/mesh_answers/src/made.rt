@@ -1,9 +1,9 @@
 // Tables and queries.
 use mesh_base::{
-    AggKind, Cell, ColType, Column, Columns, Expr, Exprs, FromItem, Froms, Func, Input, Inputs,
-    Item, Items, Join, Name, Op, Rel, Row, Rows, Select, Str,
+    AggKind, Expr, Exprs, FromItem, Froms, Func, Input, Inputs, Item, Items, Join, Op, Rel, Select,
 };
 use mesh_list::{Boxed, Memory, Seq};
+use mesh_values::{Cell, ColType, Column, Columns, Name, Row, Rows, Str};
 use std::alloc::Global;
 
 /// A cell to be made.

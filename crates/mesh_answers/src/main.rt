@@ -11,10 +11,11 @@ mod made;
 
 use crate::examples as of;
 use mesh_args::{letter_at, number_at};
-use mesh_base::{Bounds, Cell, Ctes, Inputs, Join, Query, Rows, Select, Selects};
+use mesh_base::{Ctes, Inputs, Join, Query, Select, Selects};
 use mesh_eval::eval;
 use mesh_io::{Sink, StdSink};
 use mesh_list::Memory;
+use mesh_values::{Bounds, Cell, Rows};
 use std::alloc::Global;
 use std::process::ExitCode;
 

@@ -2,13 +2,13 @@
 // books stand on. The values are by hand.
 use crate::*;
 use mesh_base::{
-    Cell, ColType, Column, Cron, Decl, Defn, Env, Envs, Expr, FromItem, Indexes, Item, Join, Kind,
-    Name, Node, Own, Query, Ref, Refs, Rel, Rows, Select, Snapshot, Snapshots, Str, Unit,
-    columns_of, sort_rows,
+    Decl, Defn, Env, Envs, Expr, FromItem, Indexes, Item, Join, Node, Own, Query, Ref, Refs, Rel,
+    Select, Snapshot, Snapshots, columns_of,
 };
 use mesh_list::{Duplicate, Memory, Register, Same, Seq};
 use mesh_rules::{Project, is_well_formed};
 use mesh_time::{Ranges, read_cron};
+use mesh_values::{Cell, ColType, Column, Cron, Kind, Name, Rows, Str, Unit, sort_rows};
 use std::alloc::Global;
 use std::test::Fail as TestFail;
 

@@ -1,8 +1,9 @@
 // Texts worked out by hand from the rules: the smallest definition, one text for each kind of node, and each of them
 // with one byte changed, dropped or added.
 use crate::*;
-use mesh_base::{Name, Ref};
+use mesh_base::Ref;
 use mesh_list::Seq;
+use mesh_values::Name;
 use std::alloc::Global;
 
 /// The 115 bytes of `MODEL (name a.c); SELECT 1 AS x`.

@@ -1,7 +1,7 @@
 // Each call that takes memory, with enough of it, and the edges of the readers.
 use crate::{cast, lower_case, number_named, truth_named};
-use mesh_base::{Cell, ColType};
 use mesh_list::Duplicate;
+use mesh_values::{Cell, ColType};
 use std::test::Fail;
 
 #[test]

@@ -1,8 +1,8 @@
 // Seeds by hand. What a file says is written as one line: a letter for each column's type, and the cells of each row.
 use crate::{Seed, read_seed};
-use mesh_base::{Cell, ColType, Column, Columns, Row, Str};
 use mesh_list::{Duplicate, Memory, Seq};
 use mesh_tokens::{FaultKind, ReadFault};
+use mesh_values::{Cell, ColType, Column, Columns, Row, Str};
 use std::alloc::Global;
 use std::test::Fail;
 

@@ -3,15 +3,15 @@ use crate::eval;
 use crate::expressions::ev;
 use crate::frames::Frame;
 use mesh_base::{
-    AggKind, Bounds, Cell, ColType, Column, Columns, Ctes, Expr, Exprs, FromItem, Froms, Func,
-    Input, Inputs, Item, Items, Join, Name, Op, Query, Rel, Row, Rows, Select, Selects, Str, When,
-    Whens,
+    AggKind, Ctes, Expr, Exprs, FromItem, Froms, Func, Input, Inputs, Item, Items, Join, Op, Query,
+    Rel, Select, Selects, When, Whens,
 };
 use mesh_list::{Boxed, Memory, Seq};
+use mesh_values::{Bounds, Cell, ColType, Column, Columns, Name, Row, Rows, Str};
 use std::alloc::Global;
 
 /// A cell to be made.
-#[derive(Debug, Clone, Copy)]
+#[derive(Clone, Copy)]
 pub(crate) enum Value<'a> {
     Null,
     Int(i64),

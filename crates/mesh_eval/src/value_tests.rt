@@ -4,8 +4,9 @@ use crate::made::{
     Value, agg, between_gives, boxed, call_gives, case_gives, cast_gives, has_value, in_gives,
     literal, op_gives,
 };
-use mesh_base::{AggKind, ColType, Expr, Func, Op, Var};
+use mesh_base::{AggKind, Expr, Func, Op, Var};
 use mesh_list::Memory;
+use mesh_values::ColType;
 use std::alloc::Global;
 use std::test::Fail;
 

@@ -1,9 +1,10 @@
 // Declarations by hand. What a file says is written as one line: each source with its columns, a letter for a column's
 // type behind its name and a star behind the time column.
 use crate::read_external;
-use mesh_base::{ColType, Column, Decl, Externals, Str};
+use mesh_base::{Decl, Externals};
 use mesh_list::{Duplicate, Memory};
 use mesh_tokens::{FaultKind, ReadFault};
+use mesh_values::{ColType, Column, Str};
 use std::alloc::Global;
 use std::test::Fail;
 

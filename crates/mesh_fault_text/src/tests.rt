@@ -1,8 +1,8 @@
 // A line of each kind, by hand.
 use crate::fault_line;
-use mesh_base::{CronFault, Name, Names, Str};
 use mesh_list::{Memory, Seq};
 use mesh_tokens::FaultKind;
+use mesh_values::{CronFault, Name, Names, Str};
 use std::alloc::Global;
 use std::test::Fail;
 

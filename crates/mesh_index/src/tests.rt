@@ -1,7 +1,7 @@
 // Places and one of each, worked out by hand.
 use crate::{Index, distinct_rows};
-use mesh_base::{Cell, Row, Rows};
 use mesh_list::{Memory, Seq};
+use mesh_values::{Cell, Row, Rows};
 use std::alloc::Global;
 use std::test::Fail;
 

@@ -1,7 +1,7 @@
 // Each object answers once with ample memory.
 use crate::*;
-use mesh_base::Str;
 use mesh_list::{Duplicate, Memory, Same, Seq};
+use mesh_values::Str;
 use std::alloc::Global;
 use std::fs;
 use std::test::Fail;

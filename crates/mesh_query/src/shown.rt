@@ -1,7 +1,7 @@
 // Trees as text, for tests: each list of parts in parentheses with its operator first.
-use mesh_base::ColType;
 use mesh_list::{Boxed, Seq};
 use mesh_surface::*;
+use mesh_values::ColType;
 use std::alloc::AllocError;
 
 pub fn query(out: &mut Vec<u8>, q: &Surface) -> Result<(), AllocError> {
@@ -65,7 +65,7 @@ fn show_item(out: &mut Vec<u8>, item: &SurfaceItem) -> Result<(), AllocError> {
     }
 }
 
-fn named(out: &mut Vec<u8>, alias: &Option<mesh_base::Str>) -> Result<(), AllocError> {
+fn named(out: &mut Vec<u8>, alias: &Option<mesh_values::Str>) -> Result<(), AllocError> {
     match alias {
         Some(name) => {
             out.extend_from_slice(b"=")?;

@@ -1,8 +1,8 @@
 // Statements by hand. What is read is written as a line of the properties that are there, and a fault as its kind, the
 // name in it and its place.
 use crate::{Parts, read_statement};
-use mesh_base::{ColType, Columns, CronFault, Kind, Unit};
 use mesh_tokens::{FaultKind, ReadFault, tokens_of};
+use mesh_values::{ColType, Columns, CronFault, Kind, Unit};
 use std::alloc::Global;
 use std::test::Fail;
 

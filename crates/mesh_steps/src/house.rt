@@ -2,9 +2,9 @@
 use crate::made::{load, make_table, name, point_view, replace_rows};
 use crate::trouble::Trouble;
 use crate::written::{put, put_body, put_columns, put_count, put_name, put_world};
-use mesh_base::Name;
 use mesh_house::{Change, Changes, Fail, MemHouse, Warehouse, WhFail, make, make_all};
 use mesh_list::{Duplicate, Memory, Same, Seq};
+use mesh_values::Name;
 use std::alloc::Global;
 
 /// A table is made and filled, and a view points at it.

@@ -1,12 +1,10 @@
 // The changes that are made, and what they are made of.
 use crate::trouble::Trouble;
-use mesh_base::{
-    Cell, ColType, Column, Columns, Defn, Kind, Marks, Name, Own, Pair, Pairs, Query, Ref, Refs,
-    Row, Rows, Snapshot, Str, Unit,
-};
+use mesh_base::{Defn, Marks, Own, Query, Ref, Refs, Snapshot};
 use mesh_house::Change;
 use mesh_list::{Duplicate, Memory, Seq};
 use mesh_time::read_cron;
+use mesh_values::{Cell, ColType, Column, Columns, Kind, Name, Pair, Pairs, Row, Rows, Str, Unit};
 use std::alloc::Global;
 
 fn text(alloc: Global, bytes: &[u8]) -> Result<Str, Memory> {

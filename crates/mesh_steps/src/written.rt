@@ -1,8 +1,9 @@
 // How a world is written: a word or a number for each thing in it.
 use crate::trouble::Trouble;
-use mesh_base::{Cell, Columns, Name, Refs, Rows};
+use mesh_base::Refs;
 use mesh_book::Version;
 use mesh_house::{Body, World};
+use mesh_values::{Cell, Columns, Name, Rows};
 use std::alloc::Global;
 
 // Puts a word and a blank.

@@ -1,9 +1,9 @@
 // Files of models by hand. What is read is written as a line of what it says, and a fault as its kind, the name in it and
 // its place. The file is `models/a.sql`.
 use crate::{ModelText, read_model};
-use mesh_base::{ColType, Columns, Kind, Str, Unit};
 use mesh_list::Duplicate;
 use mesh_tokens::{FaultKind, ReadFault};
+use mesh_values::{ColType, Columns, Kind, Str, Unit};
 use std::alloc::Global;
 use std::test::Fail;
 

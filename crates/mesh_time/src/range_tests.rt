@@ -1,7 +1,7 @@
 // Each public call that takes memory, with enough of it. The lists are by hand.
 use crate::*;
-use mesh_base::{Bounds, Schedule, Spans, Unit};
 use mesh_list::{Duplicate, Memory, Same, Seq};
+use mesh_values::{Bounds, Schedule, Spans, Unit};
 use std::alloc::Global;
 use std::test::Fail as TestFail;
 

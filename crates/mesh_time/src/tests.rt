@@ -1,6 +1,6 @@
 // Values from outside: worked out by hand, with the calendar of Python's `datetime`.
 use crate::*;
-use mesh_base::{Cell, CronFault, Unit};
+use mesh_values::{Cell, CronFault, Unit};
 
 #[test]
 fn days_at_the_edges(rt: HostRuntime) {
