@@ -5,7 +5,5 @@
 mod kinds;
 mod line;
 mod pieces;
-#[cfg(test)]
-mod tests;
 
 pub use line::fault_line;

@@ -13,10 +13,6 @@ mod nodes;
 mod queries;
 mod reader;
 mod relations;
-#[cfg(test)]
-mod shown;
-#[cfg(test)]
-mod tests;
 
 pub use laws::{one_refusal, what_is_counted_is_in_the_tree};
 pub use mesh_tokens::tokens_of as tokens;

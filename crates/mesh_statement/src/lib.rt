@@ -12,8 +12,6 @@ mod look;
 mod parts;
 mod paths;
 mod properties;
-#[cfg(test)]
-mod tests;
 mod values;
 mod words;
 

@@ -5,15 +5,11 @@
 #![tactic(auto)]
 
 mod behind;
-#[cfg(test)]
-mod cut_tests;
 mod finished;
 mod laws;
 mod lexed;
 mod model;
 mod read;
-#[cfg(test)]
-mod tests;
 
 pub use laws::models_are_complete;
 pub use model::ModelText;

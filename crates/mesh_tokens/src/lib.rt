@@ -10,8 +10,6 @@ mod letters;
 mod pieces;
 mod read;
 mod same;
-#[cfg(test)]
-mod tests;
 mod tokens;
 
 pub use faults::{FaultKind, ReadFault};
