@@ -9,11 +9,7 @@ mod days;
 mod fields;
 mod laws;
 mod moments;
-#[cfg(test)]
-mod range_tests;
 mod ranges;
-#[cfg(test)]
-mod tests;
 mod ticks;
 
 pub use crontab::read_cron;
