@@ -14,11 +14,11 @@ pub fn put_found(alloc: Global, report: &mut Vec<u8>, found: Option<i64>) -> Res
 }
 
 fn put_day(report: &mut Vec<u8>, number: &[u8]) -> Result<(), Trouble> {
-    let number = number_of(number)?;
-    if !is_day_number(number) {
+    let day = i32::try_from(number_of(number)?).map_err(|_| Trouble::Case)?;
+    if !is_day_number(day as i64) {
         return Err(Trouble::Case);
     }
-    report.extend_from_slice(&day_text(number as i32))?;
+    report.extend_from_slice(&day_text(day))?;
     Ok(())
 }
 
