@@ -13,8 +13,6 @@ mod heads;
 mod laws;
 mod query_reading;
 mod read;
-#[cfg(test)]
-mod tests;
 mod value_reading;
 mod words;
 

@@ -1,13 +1,18 @@
 //! What the programs that run cases share: the files of their `data/` folder, the lines of such a file, texts that are
-//! written with escapes, why a run may end early, and how its report is printed. It stands on `mesh_io`.
+//! written with escapes and copies, cells, why a run may end early, and how its report is printed. It stands on
+//! `mesh_list`, `mesh_base` and `mesh_io`.
 #![tactic(auto)]
 
+mod cells;
 mod escapes;
 mod files;
 mod report;
 mod trouble;
+mod words;
 
+pub use cells::{cell_of, kind_of, kind_word, put_cell};
 pub use escapes::{shown, unescaped};
 pub use files::{cases_of, file_of, halves};
 pub use report::{printed, put_number};
 pub use trouble::Trouble;
+pub use words::{filled, front_word, number_of};

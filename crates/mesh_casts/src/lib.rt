@@ -4,8 +4,6 @@
 
 mod casts;
 mod days;
-#[cfg(test)]
-mod tests;
 
 pub use casts::{cast, lower_case, number_named, truth_named};
 pub use days::{day_named, is_day_number};

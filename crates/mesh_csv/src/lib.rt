@@ -10,8 +10,6 @@ mod laws;
 mod records;
 mod rows;
 mod seed;
-#[cfg(test)]
-mod tests;
 mod types;
 
 pub use header::{bad_row, header_fault, header_names, long_name, many_columns};

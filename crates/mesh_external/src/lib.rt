@@ -10,8 +10,6 @@ mod laws;
 mod names;
 mod read;
 mod sources;
-#[cfg(test)]
-mod tests;
 
 pub use laws::{sources_are_proper, sources_ascend};
 pub use read::read_external;

@@ -29,6 +29,3 @@ pub use mem_source::MemSource;
 pub use outside::{Clock, Folder, Sink, Source};
 pub use std_streams::{StdSink, StdSource};
 pub use system_clock::SystemClock;
-
-#[cfg(test)]
-mod tests;

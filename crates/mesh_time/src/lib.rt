@@ -7,11 +7,7 @@
 mod crontab;
 mod fields;
 mod laws;
-#[cfg(test)]
-mod range_tests;
 mod ranges;
-#[cfg(test)]
-mod tests;
 mod ticks;
 
 pub use crontab::read_cron;

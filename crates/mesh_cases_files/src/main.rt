@@ -1,0 +1,98 @@
+//! Seeds, declarations of sources, and what lies outside, as data. Each line of a file of `data/` is one call, and is
+//! printed with what the call answered; the crate's `stdout` has the answers, which were worked out by hand. A line is a
+//! word and what the word takes, where `\n`, `\r`, `\t`, `\\` and `\xHH` are escapes, and `{N TEXT}` is TEXT N times, a `#`
+//! in it the number of the copy:
+//! - `columns NAME TYPE ..` declares the columns of the seeds from then on, and `front TEXT` stands in front of each file;
+//! - `seed TEXT` and `sources TEXT` read a file: a seed is its columns and its rows, sources are their columns, `(time)`
+//!   behind a time column. `seed-size TEXT` and `sources-size TEXT` count them. A fault is its record and its field, or
+//!   what is too large;
+//! - `fails N ..` are the calls, counted from 0, that are to fail of the object that is made next;
+//! - `file PATH BYTES` is a file of the folder that is made next, and `folder`, `clock MOMENT`, `source BYTES` and `sink`
+//!   make an object in memory. `write PATH BYTES`, `delete PATH` and `refail` change the folder: its bytes, and the calls
+//!   that are to fail from then on;
+//! - `list DIR`, `read MOST PATH`, `now`, `take MOST`, `put BYTES` and `written` ask the objects in memory. The answer has
+//!   how many faults the object has counted;
+//! - `host-list DIR`, `host-read MOST PATH`, `host-take MOST` and `host-put BYTES` ask the folder of the host that this
+//!   runs in, its input and its output; `host-now` is whether its clock is within the years that a moment has.
+#![tactic(auto)]
+
+mod answers;
+mod calls;
+mod host;
+mod memory;
+mod seeds;
+mod sources;
+
+use crate::host::Host;
+use crate::memory::Inside;
+use crate::seeds::Files;
+use mesh_cases::{Trouble, cases_of, file_of, filled, front_word, printed};
+use mesh_io::DirFolder;
+use std::alloc::Global;
+use std::process::ExitCode;
+
+/// The files of cases.
+const FILES: [&[u8]; 3] = [b"seeds", b"sources", b"outside"];
+
+/// What the lines act on.
+#[derive(Drop)]
+struct Stage<'a> {
+    alloc: Global,
+    files: Files,
+    inside: Inside,
+    host: Host<'a>,
+}
+
+impl Stage<'_> {
+    /// Makes the call of a word.
+    fn call(&mut self, word: &[u8], text: &[u8], report: &mut Vec<u8>) -> Result<(), Trouble> {
+        if self.files.call(word, text, report)? || self.inside.call(word, text, report)? {
+            return Ok(());
+        }
+        if self.host.call(word, text, report)? {
+            return Ok(());
+        }
+        Err(Trouble::Case)
+    }
+
+    /// Makes the call of a line, and adds the line and the answer.
+    fn line(&mut self, line: &[u8], report: &mut Vec<u8>) -> Result<(), Trouble> {
+        report.extend_from_slice(line)?;
+        report.extend_from_slice(b" => ")?;
+        let (word, rest) = front_word(line);
+        let text = filled(self.alloc, rest)?;
+        self.call(word, text.as_slice(), report)?;
+        report.push(b'\n')?;
+        Ok(())
+    }
+}
+
+/// Runs the cases of one file, and adds what is to be printed.
+fn run(rt: &HostRuntime, file: &[u8], report: &mut Vec<u8>) -> Result<(), Trouble> {
+    let alloc = rt.alloc();
+    let mut stage = Stage {
+        alloc,
+        files: Files::new(alloc),
+        inside: Inside::new(alloc),
+        host: Host::new(rt),
+    };
+    for line in &cases_of(alloc, file)? {
+        stage.line(line, report)?;
+    }
+    Ok(())
+}
+
+fn all_files(rt: &HostRuntime, report: &mut Vec<u8>) -> Result<(), Trouble> {
+    let mut data = DirFolder::new(rt);
+    for name in FILES {
+        let file = file_of(rt.alloc(), &mut data, name)?;
+        run(rt, file.as_slice(), report)?;
+    }
+    Ok(())
+}
+
+fn main(rt: HostRuntime) -> ExitCode {
+    let mut report = Vec::new(rt.alloc());
+    let done = all_files(&rt, &mut report);
+    printed(&rt, report.as_slice(), done)
+}

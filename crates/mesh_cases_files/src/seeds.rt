@@ -1,0 +1,141 @@
+// Files that are read: seeds beside their declared columns, and declarations of sources.
+use crate::answers::{put_column, put_count, put_fault};
+use crate::sources::{put_sources, put_sources_size};
+use mesh_base::{Column, Columns, Row, Str};
+use mesh_cases::{Trouble, front_word, kind_of, put_cell};
+use mesh_csv::{Seed, read_seed};
+use mesh_external::read_external;
+use mesh_list::{Duplicate, Seq};
+use std::alloc::Global;
+
+/// The columns that are declared, and what stands in front of each file.
+#[derive(Drop)]
+pub struct Files {
+    alloc: Global,
+    columns: Columns,
+    front: Vec<u8>,
+}
+
+fn columns_of(alloc: Global, text: &[u8]) -> Result<Columns, Trouble> {
+    let mut columns: Columns = Seq::new(alloc);
+    let mut rest = text;
+    for _ in 0..text.len() {
+        if rest.is_empty() {
+            break;
+        }
+        let (name, behind) = front_word(rest);
+        let (kind, behind) = front_word(behind);
+        columns.push(Column {
+            name: u8::copy_items(alloc, name)?,
+            kind: kind_of(kind)?,
+        })?;
+        rest = behind;
+    }
+    Ok(columns)
+}
+
+fn put_row(alloc: Global, report: &mut Vec<u8>, row: &Row) -> Result<(), Trouble> {
+    report.push(b';')?;
+    for cell in row.as_slice() {
+        report.push(b' ')?;
+        put_cell(alloc, report, cell)?;
+    }
+    Ok(())
+}
+
+fn put_seed(alloc: Global, report: &mut Vec<u8>, seed: &Seed) -> Result<(), Trouble> {
+    for (at, column) in seed.columns.as_slice().iter().enumerate() {
+        if at > 0 {
+            report.extend_from_slice(b", ")?;
+        }
+        put_column(report, column)?;
+    }
+    for row in seed.rows.as_slice() {
+        put_row(alloc, report, row)?;
+    }
+    Ok(())
+}
+
+fn put_seed_size(alloc: Global, report: &mut Vec<u8>, seed: &Seed) -> Result<(), Trouble> {
+    put_count(alloc, report, b"columns", seed.columns.len() as u64)?;
+    put_count(alloc, report, b", rows", seed.rows.len() as u64)
+}
+
+impl Files {
+    /// No columns are declared, and nothing stands in front of a file.
+    pub fn new(alloc: Global) -> Files {
+        Files {
+            alloc,
+            columns: Seq::new(alloc),
+            front: Vec::new(alloc),
+        }
+    }
+
+    /// The bytes of a file.
+    fn whole(&self, text: &[u8]) -> Result<Str, Trouble> {
+        let mut whole = Vec::from_slice(self.alloc, self.front.as_slice())?;
+        whole.extend_from_slice(text)?;
+        Ok(Seq::from_vec(whole))
+    }
+
+    fn seed(&self, text: &[u8], size: bool, report: &mut Vec<u8>) -> Result<(), Trouble> {
+        match read_seed(&self.whole(text)?, &self.columns) {
+            Ok(seed) => {
+                if size {
+                    put_seed_size(self.alloc, report, &seed)
+                } else {
+                    put_seed(self.alloc, report, &seed)
+                }
+            }
+            Err(fault) => put_fault(self.alloc, report, &fault),
+        }
+    }
+
+    fn sources(&self, text: &[u8], size: bool, report: &mut Vec<u8>) -> Result<(), Trouble> {
+        match read_external(&self.whole(text)?) {
+            Ok(sources) => {
+                if size {
+                    put_sources_size(self.alloc, report, &sources)
+                } else {
+                    put_sources(report, &sources)
+                }
+            }
+            Err(fault) => put_fault(self.alloc, report, &fault),
+        }
+    }
+
+    /// Makes the change of a word, if it is one of these, and answers whether it is.
+    fn change(&mut self, word: &[u8], text: &[u8]) -> Result<bool, Trouble> {
+        if word == b"columns".as_slice() {
+            self.columns = columns_of(self.alloc, text)?;
+        } else if word == b"front".as_slice() {
+            self.front = Vec::from_slice(self.alloc, text)?;
+        } else {
+            return Ok(false);
+        }
+        Ok(true)
+    }
+
+    /// Makes the call of a word, if it is one of these.
+    pub fn call(
+        &mut self,
+        word: &[u8],
+        text: &[u8],
+        report: &mut Vec<u8>,
+    ) -> Result<bool, Trouble> {
+        if self.change(word, text)? {
+            report.extend_from_slice(b"done")?;
+        } else if word == b"seed".as_slice() {
+            self.seed(text, false, report)?;
+        } else if word == b"seed-size".as_slice() {
+            self.seed(text, true, report)?;
+        } else if word == b"sources".as_slice() {
+            self.sources(text, false, report)?;
+        } else if word == b"sources-size".as_slice() {
+            self.sources(text, true, report)?;
+        } else {
+            return Ok(false);
+        }
+        Ok(true)
+    }
+}

@@ -1,0 +1,191 @@
+// Canonical texts: definitions, lists and nodes.
+use crate::near::are_told_apart;
+use mesh_base::{Name, Ref, Refs};
+use mesh_canon::{CanonFault, list_text, node_text, own_text, read_list, read_own};
+use mesh_cases::{Trouble, front_word, halves, put_number, shown};
+use mesh_list::{Duplicate, Seq};
+use std::alloc::Global;
+
+/// What came of reading a text, and of writing again what was read.
+#[derive(Clone, Copy, PartialEq, Eq)]
+pub enum Answer {
+    Kept,
+    Changed,
+    Refused,
+    Memory,
+}
+
+fn word_of(answer: Answer) -> &'static [u8] {
+    match answer {
+        Answer::Kept => b"kept",
+        Answer::Changed => b"changed",
+        Answer::Refused => b"refused",
+        Answer::Memory => b"too deep",
+    }
+}
+
+fn refusal(fault: CanonFault) -> Answer {
+    match fault {
+        CanonFault::NotCanonical => Answer::Refused,
+        CanonFault::Memory => Answer::Memory,
+    }
+}
+
+fn compared(text: &[u8], again: &[u8]) -> Answer {
+    if text == again {
+        Answer::Kept
+    } else {
+        Answer::Changed
+    }
+}
+
+/// Reads a definition and writes it again.
+pub fn own_again(alloc: Global, text: &[u8]) -> Result<Answer, Trouble> {
+    match read_own(alloc, text) {
+        Ok(own) => Ok(compared(text, own_text(alloc, &own)?.as_slice())),
+        Err(fault) => Ok(refusal(fault)),
+    }
+}
+
+/// Reads a list and writes it again.
+fn list_again(alloc: Global, text: &[u8]) -> Result<Answer, Trouble> {
+    match read_list(alloc, text) {
+        Ok(parts) => Ok(compared(text, list_text(alloc, &parts)?.as_slice())),
+        Err(fault) => Ok(refusal(fault)),
+    }
+}
+
+/// What stands around the texts of the lines, and the parents of a node.
+#[derive(Drop)]
+pub struct Frame {
+    alloc: Global,
+    front: Vec<u8>,
+    back: Vec<u8>,
+    parents: Refs,
+}
+
+fn put_answer(
+    alloc: Global,
+    report: &mut Vec<u8>,
+    text: &[u8],
+    answer: Answer,
+) -> Result<(), Trouble> {
+    report.extend_from_slice(word_of(answer))?;
+    if answer == Answer::Kept {
+        let bytes = i64::try_from(text.len()).map_err(|_| Trouble::Case)?;
+        report.extend_from_slice(b", bytes ")?;
+        put_number(alloc, report, bytes)?;
+    }
+    Ok(())
+}
+
+fn put_near(alloc: Global, report: &mut Vec<u8>, text: &[u8]) -> Result<(), Trouble> {
+    let near: &[u8] = if are_told_apart(alloc, text)? {
+        b", near texts told apart"
+    } else {
+        b", near texts confused"
+    };
+    report.extend_from_slice(near)?;
+    Ok(())
+}
+
+fn fingerprint_of(bytes: &[u8]) -> Result<[u8; 32], Trouble> {
+    match <[u8; 32]>::try_from(bytes) {
+        Ok(fingerprint) => Ok(fingerprint),
+        Err(_) => Err(Trouble::Case),
+    }
+}
+
+fn parent_of(alloc: Global, text: &[u8]) -> Result<Ref, Trouble> {
+    let (schema, rest) = front_word(text);
+    let (model, fingerprint) = front_word(rest);
+    Ok(Ref {
+        name: Name {
+            schema: u8::copy_items(alloc, schema)?,
+            model: u8::copy_items(alloc, model)?,
+        },
+        fingerprint: fingerprint_of(fingerprint)?,
+    })
+}
+
+impl Frame {
+    /// Nothing stands around a text, and there are no parents.
+    pub fn new(alloc: Global) -> Frame {
+        Frame {
+            alloc,
+            front: Vec::new(alloc),
+            back: Vec::new(alloc),
+            parents: Seq::new(alloc),
+        }
+    }
+
+    fn set(&mut self, text: &[u8]) -> Result<(), Trouble> {
+        let (front, back) = halves(text)?;
+        self.front = Vec::from_slice(self.alloc, front)?;
+        self.back = Vec::from_slice(self.alloc, back)?;
+        Ok(())
+    }
+
+    /// A text and what stands around it.
+    fn whole(&self, text: &[u8]) -> Result<Vec<u8>, Trouble> {
+        let mut whole = Vec::from_slice(self.alloc, self.front.as_slice())?;
+        whole.extend_from_slice(text)?;
+        whole.extend_from_slice(self.back.as_slice())?;
+        Ok(whole)
+    }
+
+    fn own(&self, text: &[u8], near: bool, report: &mut Vec<u8>) -> Result<(), Trouble> {
+        let whole = self.whole(text)?;
+        let answer = own_again(self.alloc, whole.as_slice())?;
+        put_answer(self.alloc, report, whole.as_slice(), answer)?;
+        if near {
+            put_near(self.alloc, report, whole.as_slice())?;
+        }
+        Ok(())
+    }
+
+    fn node(&self, text: &[u8], report: &mut Vec<u8>) -> Result<(), Trouble> {
+        let Ok(own) = read_own(self.alloc, self.whole(text)?.as_slice()) else {
+            return Err(Trouble::Case);
+        };
+        let node = node_text(self.alloc, &own, &self.parents)?;
+        shown(report, node.as_slice())
+    }
+
+    /// Makes the change of a word, if it is one of these, and answers whether it is.
+    fn change(&mut self, word: &[u8], text: &[u8]) -> Result<bool, Trouble> {
+        if word == b"around".as_slice() {
+            self.set(text)?;
+        } else if word == b"orphan".as_slice() {
+            self.parents = Seq::new(self.alloc);
+        } else if word == b"parent".as_slice() {
+            self.parents.push(parent_of(self.alloc, text)?)?;
+        } else {
+            return Ok(false);
+        }
+        Ok(true)
+    }
+
+    /// Makes the call of a word, if it is one of these.
+    pub fn call(
+        &mut self,
+        word: &[u8],
+        text: &[u8],
+        report: &mut Vec<u8>,
+    ) -> Result<bool, Trouble> {
+        if self.change(word, text)? {
+            report.extend_from_slice(b"done")?;
+        } else if word == b"own".as_slice() {
+            self.own(text, false, report)?;
+        } else if word == b"near".as_slice() {
+            self.own(text, true, report)?;
+        } else if word == b"list".as_slice() {
+            put_answer(self.alloc, report, text, list_again(self.alloc, text)?)?;
+        } else if word == b"node".as_slice() {
+            self.node(text, report)?;
+        } else {
+            return Ok(false);
+        }
+        Ok(true)
+    }
+}
