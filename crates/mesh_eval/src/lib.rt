@@ -12,14 +12,8 @@ mod joined;
 mod joins;
 mod lists;
 mod macros;
-#[cfg(test)]
-mod made;
 mod queries;
-#[cfg(test)]
-mod query_tests;
 mod tables;
 mod ties;
-#[cfg(test)]
-mod value_tests;
 
 pub use queries::eval;

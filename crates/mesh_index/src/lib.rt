@@ -7,8 +7,6 @@ mod chains;
 mod distinct;
 mod hashes;
 mod index;
-#[cfg(test)]
-mod tests;
 mod walks;
 
 pub use distinct::distinct_rows;
