@@ -1,31 +1,33 @@
-// How a world is written: a word or a number for each thing in it.
-use crate::trouble::Trouble;
-use mesh_base::{Cell, Columns, Name, Refs, Rows};
-use mesh_book::Version;
+// How a world and a book are written: a word or a number for each thing in it.
+use mesh_base::{Cell, Columns, Env, Name, Refs, Rows};
+use mesh_book::{Book, Version};
+use mesh_cases::{Trouble, put_number};
 use mesh_house::{Body, World};
 use std::alloc::Global;
 
-// Puts a word and a blank.
+/// Adds a blank and a word.
 pub fn put(line: &mut Vec<u8>, word: &[u8]) -> Result<(), Trouble> {
-    line.extend_from_slice(word)?;
     line.push(b' ')?;
+    line.extend_from_slice(word)?;
     Ok(())
 }
 
-pub fn put_number(alloc: Global, line: &mut Vec<u8>, number: i64) -> Result<(), Trouble> {
-    let digits = format!(in alloc; "{number}")?;
-    put(line, digits.as_bytes())
+fn put_next(alloc: Global, line: &mut Vec<u8>, number: i64) -> Result<(), Trouble> {
+    line.push(b' ')?;
+    put_number(alloc, line, number)
 }
 
-pub fn put_count(alloc: Global, line: &mut Vec<u8>, count: u64) -> Result<(), Trouble> {
-    let digits = format!(in alloc; "{count}")?;
-    put(line, digits.as_bytes())
+fn begin(line: &mut Vec<u8>, word: &[u8], name: &Name) -> Result<(), Trouble> {
+    line.push(b';')?;
+    put(line, word)?;
+    put_name(line, name)
 }
 
 pub fn put_name(line: &mut Vec<u8>, name: &Name) -> Result<(), Trouble> {
-    line.extend_from_slice(name.schema.as_slice())?;
+    put(line, name.schema.as_slice())?;
     line.push(b'.')?;
-    put(line, name.model.as_slice())
+    line.extend_from_slice(name.model.as_slice())?;
+    Ok(())
 }
 
 pub fn put_columns(line: &mut Vec<u8>, columns: &Columns) -> Result<(), Trouble> {
@@ -36,13 +38,12 @@ pub fn put_columns(line: &mut Vec<u8>, columns: &Columns) -> Result<(), Trouble>
 }
 
 // The number at the end of each row.
-pub fn put_rows(alloc: Global, line: &mut Vec<u8>, rows: &Rows) -> Result<(), Trouble> {
+fn put_rows(alloc: Global, line: &mut Vec<u8>, rows: &Rows) -> Result<(), Trouble> {
     for row in rows.as_slice() {
         if let Some(Cell::Int(number)) = row.get(1) {
-            put_number(alloc, line, *number)?;
+            put_next(alloc, line, *number)?;
         }
     }
-    line.push(b';')?;
     Ok(())
 }
 
@@ -56,7 +57,6 @@ pub fn put_body(alloc: Global, line: &mut Vec<u8>, body: &Body) -> Result<(), Tr
                 put_name(line, &target.first)?;
                 put_name(line, &target.second)?;
             }
-            line.push(b';')?;
             Ok(())
         }
     }
@@ -64,41 +64,35 @@ pub fn put_body(alloc: Global, line: &mut Vec<u8>, body: &Body) -> Result<(), Tr
 
 fn put_tables(alloc: Global, line: &mut Vec<u8>, world: &World) -> Result<(), Trouble> {
     for source in world.sources.as_slice() {
-        put(line, b"source")?;
-        put_name(line, &source.name)?;
+        begin(line, b"source", &source.name)?;
         put_columns(line, &source.columns)?;
         put_rows(alloc, line, &source.rows)?;
     }
     for object in world.objects.as_slice() {
-        put(line, b"object")?;
-        put_name(line, &object.name)?;
+        begin(line, b"object", &object.name)?;
         put_columns(line, &object.columns)?;
         put_body(alloc, line, &object.body)?;
     }
     for view in world.views.as_slice() {
-        put(line, b"view")?;
-        put_name(line, &view.view)?;
+        begin(line, b"view", &view.view)?;
         put_name(line, &view.target)?;
-        line.push(b';')?;
     }
     Ok(())
 }
 
 fn put_version(alloc: Global, line: &mut Vec<u8>, version: &Version) -> Result<(), Trouble> {
-    put(line, b"version")?;
-    put_name(line, &version.object)?;
+    begin(line, b"version", &version.object)?;
     put(line, if version.made { b"made" } else { b"new" })?;
     for span in version.ranges.spans().as_slice() {
-        put_number(alloc, line, span.start)?;
-        put_number(alloc, line, span.end)?;
+        put_next(alloc, line, span.start)?;
+        put_next(alloc, line, span.end)?;
     }
     if let Some(marks) = &version.marks {
         put(line, b"marks")?;
         for mark in marks.as_slice() {
-            put_number(alloc, line, *mark)?;
+            put_next(alloc, line, *mark)?;
         }
     }
-    line.push(b';')?;
     Ok(())
 }
 
@@ -110,26 +104,29 @@ fn put_refs(line: &mut Vec<u8>, word: &[u8], refs: &Refs) -> Result<(), Trouble>
     Ok(())
 }
 
-fn put_book(alloc: Global, line: &mut Vec<u8>, world: &World) -> Result<(), Trouble> {
-    for snapshot in world.book.snapshots.as_slice() {
-        put(line, b"snapshot")?;
-        put_name(line, &snapshot.name)?;
-        put_number(alloc, line, i64::from(snapshot.rank))?;
-        line.push(b';')?;
+fn put_env(alloc: Global, line: &mut Vec<u8>, env: &Env) -> Result<(), Trouble> {
+    line.extend_from_slice(b"; environment")?;
+    put(line, env.name.as_slice())?;
+    put(line, if env.pending { b"pending" } else { b"final" })?;
+    put_refs(line, b"list", &env.list)?;
+    put_refs(line, b"previous", &env.previous)?;
+    if let Some(expires) = env.expires {
+        put_next(alloc, line, expires)?;
     }
-    for version in world.book.versions.as_slice() {
+    Ok(())
+}
+
+/// The snapshots, the versions and the environments of a book.
+pub fn put_book(alloc: Global, line: &mut Vec<u8>, book: &Book) -> Result<(), Trouble> {
+    for snapshot in book.snapshots.as_slice() {
+        begin(line, b"snapshot", &snapshot.name)?;
+        put_next(alloc, line, i64::from(snapshot.rank))?;
+    }
+    for version in book.versions.as_slice() {
         put_version(alloc, line, version)?;
     }
-    for env in world.book.environments.as_slice() {
-        put(line, b"environment")?;
-        put(line, env.name.as_slice())?;
-        put(line, if env.pending { b"pending" } else { b"final" })?;
-        put_refs(line, b"list", &env.list)?;
-        put_refs(line, b"previous", &env.previous)?;
-        if let Some(expires) = env.expires {
-            put_number(alloc, line, expires)?;
-        }
-        line.push(b';')?;
+    for env in book.environments.as_slice() {
+        put_env(alloc, line, env)?;
     }
     Ok(())
 }
@@ -138,7 +135,5 @@ fn put_book(alloc: Global, line: &mut Vec<u8>, world: &World) -> Result<(), Trou
 pub fn put_world(alloc: Global, line: &mut Vec<u8>, world: &World) -> Result<(), Trouble> {
     put_number(alloc, line, world.book.moment)?;
     put_tables(alloc, line, world)?;
-    put_book(alloc, line, world)?;
-    line.push(b'\n')?;
-    Ok(())
+    put_book(alloc, line, &world.book)
 }
