@@ -19,6 +19,3 @@ pub use fault::{
 };
 pub use fits::HIGHEST_RANK;
 pub use versions::{Version, Versions};
-
-#[cfg(test)]
-mod tests;
