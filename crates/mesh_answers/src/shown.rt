@@ -1,7 +1,7 @@
 // How rows, and places of rows, are shown.
-use mesh_base::{Cell, Row, Rows};
 use mesh_cases::{Trouble, put_number, shown};
 use mesh_index::Index;
+use mesh_values::{Cell, Row, Rows};
 use std::alloc::Global;
 
 fn put_text(report: &mut Vec<u8>, text: &[u8]) -> Result<(), Trouble> {

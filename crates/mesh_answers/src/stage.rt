@@ -1,12 +1,13 @@
 // One case: a text that is read, and the rows that it stands for.
 use crate::shown::{put_places, put_rows, put_sum};
 use crate::words::{Word, expanded};
-use mesh_base::{Bounds, Defn, Input, Inputs, Own, Rows, columns_of};
+use mesh_base::{Defn, Input, Inputs, Own, columns_of};
 use mesh_canon::read_own;
 use mesh_cases::{Trouble, halves};
 use mesh_eval::eval;
 use mesh_index::distinct_rows;
 use mesh_list::Duplicate;
+use mesh_values::{Bounds, Rows};
 use std::alloc::Global;
 
 /// The second day of 1970.

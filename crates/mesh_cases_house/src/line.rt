@@ -1,9 +1,8 @@
 // A line of a case, in words, and what its words say.
-use mesh_base::{
-    Cell, ColType, Column, Columns, Name, Own, Pair, Pairs, Ref, Refs, Row, Rows, Str,
-};
+use mesh_base::{Own, Ref, Refs};
 use mesh_cases::Trouble;
 use mesh_list::{Duplicate, Seq};
+use mesh_values::{Cell, ColType, Column, Columns, Name, Pair, Pairs, Row, Rows, Str};
 use std::alloc::Global;
 
 /// What stands in front of the first such byte of a text, and what behind it. Where there is none, the text and nothing.

@@ -1,9 +1,10 @@
 // Definitions by their canonical texts.
 use crate::line::{Named, Owns, parted};
-use mesh_base::{Columns, Defn, Own, Rows, columns_of, sort_rows};
+use mesh_base::{Defn, Own, columns_of};
 use mesh_canon::{CanonFault, own_text, read_own};
 use mesh_cases::Trouble;
 use mesh_list::{Duplicate, Seq};
+use mesh_values::{Columns, Rows, sort_rows};
 use std::alloc::Global;
 
 fn read(alloc: Global, text: &[u8]) -> Result<Own, Trouble> {

@@ -1,8 +1,9 @@
 // How a world and a book are written: a word or a number for each thing in it.
-use mesh_base::{Cell, Columns, Env, Name, Refs, Rows};
+use mesh_base::{Env, Refs};
 use mesh_book::{Book, Version};
 use mesh_cases::{Trouble, put_number};
 use mesh_house::{Body, World};
+use mesh_values::{Cell, Columns, Name, Rows};
 use std::alloc::Global;
 
 /// Adds a blank and a word.

@@ -4,13 +4,13 @@ use crate::notation::number_of;
 use crate::parts::{put_model, put_parts};
 use crate::pen::Pen;
 use crate::query::put_query;
-use mesh_base::Str;
 use mesh_cases::{Trouble, halves};
 use mesh_list::{Duplicate, Same};
 use mesh_query::parse;
 use mesh_statement::read_statement;
 use mesh_text::read_model;
 use mesh_tokens::{ReadFault, Token, TokenKind, Tokens, tokens_of};
+use mesh_values::Str;
 use std::alloc::Global;
 
 /// The tokens of a text that has no fault among them.

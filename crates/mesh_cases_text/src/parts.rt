@@ -1,9 +1,9 @@
 // The properties of statements and of models in print, each behind a blank.
 use crate::pen::Pen;
 use crate::query::put_query;
-use mesh_base::{ColType, Columns, Cron, Kind, Name, Str, Unit};
 use mesh_statement::Parts;
 use mesh_text::ModelText;
+use mesh_values::{ColType, Columns, Cron, Kind, Name, Str, Unit};
 
 fn put_name(pen: &mut Pen, name: &Name) {
     pen.word(name.schema.as_slice());

@@ -1,10 +1,10 @@
 // Queries in print.
 use crate::pen::Pen;
 use crate::tree::{put_expr, put_qualified};
-use mesh_base::Str;
 use mesh_surface::{
     OrExpr, Surface, SurfaceFrom, SurfaceItem, SurfaceJoin, SurfaceRel, SurfaceSelect, SurfaceUnion,
 };
+use mesh_values::Str;
 
 pub fn put_query(pen: &mut Pen, query: &Surface) {
     for cte in query.ctes.as_slice() {

@@ -1,12 +1,12 @@
 // Expressions of a query's tree in print: each list of parts in parentheses with its operator first, and `[..]` round what
 // stands in parentheses.
 use crate::pen::Pen;
-use mesh_base::{ColType, Str};
 use mesh_list::Seq;
 use mesh_surface::{
     AddExpr, AddSign, AndExpr, Args, Arm, CatExpr, Cmp, Function, MulExpr, MulSign, NotExpr,
     OrExpr, Primary, Test, Unary,
 };
+use mesh_values::{ColType, Str};
 
 #[cycle(tree)]
 pub fn put_expr(pen: &mut Pen, e: &OrExpr) {
