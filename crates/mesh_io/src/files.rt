@@ -5,7 +5,7 @@ ghost use Rattle.mesh_list.specs.Keyed.{found, placed};
 ghost use Rattle.mesh_values.specs.Names.{text_cmp};
 ghost use Rattle.mesh_io.specs.Files.{path_of, after_slash, below, same_path, listing, are_ascending, ListsExactly, are_distinct};
 
-use mesh_list::{Duplicate, Memory, Same, Seq};
+use mesh_list::{Duplicate, Memory, Same, Seq, both};
 use mesh_values::{Str, Strs};
 use std::alloc::Global;
 use std::cmp::Ordering;
@@ -23,10 +23,8 @@ pub type Files = Seq<File>;
 
 impl Duplicate for File {
     fn copy(&self) -> Result<File, Memory> {
-        Ok(File {
-            path: self.path.copy()?,
-            bytes: self.bytes.copy()?,
-        })
+        let (path, bytes) = both(&self.path, &self.bytes)?;
+        Ok(File { path, bytes })
     }
 }
 

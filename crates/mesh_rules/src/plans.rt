@@ -1,7 +1,7 @@
 // What a command will do to an environment.
 use crate::projects::Project;
 use mesh_base::{Dues, Entries};
-use mesh_list::{Duplicate, Memory, Same};
+use mesh_list::{Duplicate, Memory, Same, both};
 use mesh_values::{Pairs, Str};
 
 /// What a command will do to an environment at a moment. `run` computes what the environment lists, and plans no
@@ -21,15 +21,18 @@ pub struct Plan {
 
 impl Duplicate for Plan {
     fn copy(&self) -> Result<Plan, Memory> {
+        let (env, project) = both(&self.env, &self.project)?;
+        let (entries, removed) = both(&self.entries, &self.removed)?;
+        let (unsteady, dues) = both(&self.unsteady, &self.dues)?;
         Ok(Plan {
-            env: self.env.copy()?,
+            env,
             moment: self.moment,
             run: self.run,
-            project: self.project.copy()?,
-            entries: self.entries.copy()?,
-            removed: self.removed.copy()?,
-            unsteady: self.unsteady.copy()?,
-            dues: self.dues.copy()?,
+            project,
+            entries,
+            removed,
+            unsteady,
+            dues,
         })
     }
 }
