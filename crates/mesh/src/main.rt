@@ -4,10 +4,10 @@
 //! made and where the words come from.
 #![tactic(auto)]
 
-use mesh_base::Str;
 use mesh_house::MemHouse;
 use mesh_io::{DirFolder, StdSink, StdSource, SystemClock};
 use mesh_list::{Memory, Seq};
+use mesh_values::Str;
 use std::env::{Env, FillError};
 use std::process::ExitCode;
 

@@ -2,14 +2,14 @@
 use Rattle.std.specs.Prelude.{ℕ, List, [], Some, None}
 use Rattle.std.specs.declared.option.Option.{Option}
 use Rattle.mesh_list.specs.Keyed.{found}
-use Rattle.mesh_base.specs.declared.values.Cell.{Cell}
-use Rattle.mesh_base.specs.declared.values.Column.{Column}
-use Rattle.mesh_base.specs.declared.values.Name.{Name}
+use Rattle.mesh_values.specs.declared.values.Cell.{Cell}
+use Rattle.mesh_values.specs.declared.values.Column.{Column}
+use Rattle.mesh_values.specs.declared.values.Name.{Name}
 use Rattle.mesh_base.specs.declared.models.Picking.{Picking}
 use Rattle.mesh_base.specs.declared.models.Picking.TheVariants.{Seed, Pick}
 use Rattle.mesh_base.specs.declared.models.Model.{Model}
-use Rattle.mesh_base.specs.Names.{name_cmp}
-use Rattle.mesh_base.specs.Picked.{picked_columns, picked_rows}
+use Rattle.mesh_values.specs.Names.{name_cmp}
+use Rattle.mesh_values.specs.Picked.{picked_columns, picked_rows}
 
 abbrev pub model_name : Model → Name
 model_name m = m.name

@@ -1,9 +1,7 @@
 // What a model is by itself, once its files were read and resolved.
-use crate::crons::Cron;
 use crate::queries::Query;
-use crate::times::Unit;
-use crate::values::{Columns, Name, Rows, Str};
-use mesh_list::{Duplicate, Memory, Same, Seq};
+use mesh_list::{Duplicate, Memory, Same, Seq, both};
+use mesh_values::{Columns, Cron, Kind, Name, Rows, Str, Unit};
 
 pub type Sources = Seq<Decl>;
 
@@ -11,28 +9,15 @@ pub type Externals = Seq<Decl>;
 
 pub type Reads = Seq<Reading>;
 
-/// How a model's rows are kept.
-#[derive(Debug, Drop, PartialEq, Eq)]
-pub enum Kind {
-    /// The rows of the whole query.
-    Full,
-    /// The query itself.
-    View,
-    /// The rows of a file.
-    Seed,
-    /// For each unit of the schedule, the query's rows whose time column lies in it.
-    Incremental { time: Str },
-}
-
 /// The declaration of a source, which is timed if it declares a time column, and static if it declares none.
-#[derive(Debug, Drop)]
+#[derive(Drop)]
 pub struct Decl {
     pub name: Name,
     pub columns: Columns,
     pub time: Option<Str>,
 }
 
-#[derive(Debug, Drop)]
+#[derive(Drop)]
 pub enum Defn {
     Seed { columns: Columns, rows: Rows },
     Sql(Query),
@@ -40,7 +25,7 @@ pub enum Defn {
 
 /// A model without its parents: it is what makes a table's rows, and what its fingerprint begins with. `start` is a
 /// day, counted from 1970-01-01.
-#[derive(Debug, Drop)]
+#[derive(Drop)]
 pub struct Own {
     pub name: Name,
     pub kind: Kind,
@@ -52,29 +37,20 @@ pub struct Own {
 }
 
 /// A column of a model or a source that a query names.
-#[derive(Debug, Drop)]
+#[derive(Drop)]
 pub struct Reading {
     pub relation: Name,
     pub column: Str,
 }
 
-impl Duplicate for Kind {
-    fn copy(&self) -> Result<Kind, Memory> {
-        match self {
-            Kind::Full => Ok(Kind::Full),
-            Kind::View => Ok(Kind::View),
-            Kind::Seed => Ok(Kind::Seed),
-            Kind::Incremental { time } => Ok(Kind::Incremental { time: time.copy()? }),
-        }
-    }
-}
-
 impl Duplicate for Decl {
     fn copy(&self) -> Result<Decl, Memory> {
+        let (name, columns) = both(&self.name, &self.columns)?;
+        let time = self.time.copy()?;
         Ok(Decl {
-            name: self.name.copy()?,
-            columns: self.columns.copy()?,
-            time: self.time.copy()?,
+            name,
+            columns,
+            time,
         })
     }
 }
@@ -82,10 +58,10 @@ impl Duplicate for Decl {
 impl Duplicate for Defn {
     fn copy(&self) -> Result<Defn, Memory> {
         match self {
-            Defn::Seed { columns, rows } => Ok(Defn::Seed {
-                columns: columns.copy()?,
-                rows: rows.copy()?,
-            }),
+            Defn::Seed { columns, rows } => {
+                let (columns, rows) = both(columns, rows)?;
+                Ok(Defn::Seed { columns, rows })
+            }
             Defn::Sql(query) => Ok(Defn::Sql(query.copy()?)),
         }
     }
@@ -93,30 +69,24 @@ impl Duplicate for Defn {
 
 impl Duplicate for Own {
     fn copy(&self) -> Result<Own, Memory> {
+        let (name, kind) = both(&self.name, &self.kind)?;
+        let (sources, defn) = both(&self.sources, &self.defn)?;
         Ok(Own {
-            name: self.name.copy()?,
-            kind: self.kind.copy()?,
+            name,
+            kind,
             cron: self.cron,
             unit: self.unit,
             start: self.start,
-            sources: self.sources.copy()?,
-            defn: self.defn.copy()?,
+            sources,
+            defn,
         })
     }
 }
 
 impl Duplicate for Reading {
     fn copy(&self) -> Result<Reading, Memory> {
-        Ok(Reading {
-            relation: self.relation.copy()?,
-            column: self.column.copy()?,
-        })
-    }
-}
-
-impl Same for Kind {
-    fn same(&self, other: &Kind) -> bool {
-        self == other
+        let (relation, column) = both(&self.relation, &self.column)?;
+        Ok(Reading { relation, column })
     }
 }
 

@@ -2,8 +2,8 @@
 ghost use Rattle.std.specs.Prelude.{◌≡◌, IfOk};
 
 use crate::expressions::{Expr, Exprs, When, Whens};
-use crate::values::{Cell, Str};
-use mesh_list::{Boxed, Duplicate, Memory, Seq};
+use mesh_list::{Boxed, Duplicate, Memory, Seq, together};
+use mesh_values::{Cell, Str};
 
 impl Duplicate for Expr {
     fn copy(&self) -> Result<Expr, Memory> {
@@ -28,23 +28,29 @@ fn expr_copied(e: &Expr) -> Result<Expr, Memory>
             name: text_copied(name)?,
         }),
         Expr::Macro(var) => Ok(Expr::Macro(*var)),
-        Expr::Binary { op, left, right } => Ok(Expr::Binary {
-            op: *op,
-            left: boxed_copied(left)?,
-            right: boxed_copied(right)?,
-        }),
+        Expr::Binary { op, left, right } => {
+            let (left, right) = together(boxed_copied(left), boxed_copied(right))?;
+            Ok(Expr::Binary {
+                op: *op,
+                left,
+                right,
+            })
+        }
         Expr::Neg(value) => Ok(Expr::Neg(boxed_copied(value)?)),
         Expr::Not(value) => Ok(Expr::Not(boxed_copied(value)?)),
         Expr::IsNull(value) => Ok(Expr::IsNull(boxed_copied(value)?)),
-        Expr::Between { value, low, high } => Ok(Expr::Between {
-            value: boxed_copied(value)?,
-            low: boxed_copied(low)?,
-            high: boxed_copied(high)?,
-        }),
-        Expr::OneOf { value, of } => Ok(Expr::OneOf {
-            value: boxed_copied(value)?,
-            of: exprs_copied(of)?,
-        }),
+        Expr::Between { value, low, high } => {
+            let (low, high) = together(boxed_copied(low), boxed_copied(high))?;
+            Ok(Expr::Between {
+                value: boxed_copied(value)?,
+                low,
+                high,
+            })
+        }
+        Expr::OneOf { value, of } => {
+            let (value, of) = together(boxed_copied(value), exprs_copied(of))?;
+            Ok(Expr::OneOf { value, of })
+        }
         Expr::Cast { to, value } => Ok(Expr::Cast {
             to: *to,
             value: boxed_copied(value)?,
@@ -53,10 +59,10 @@ fn expr_copied(e: &Expr) -> Result<Expr, Memory>
             func: *func,
             args: exprs_copied(args)?,
         }),
-        Expr::Case { whens, otherwise } => Ok(Expr::Case {
-            whens: whens_copied(whens)?,
-            otherwise: boxed_copied(otherwise)?,
-        }),
+        Expr::Case { whens, otherwise } => {
+            let (whens, otherwise) = together(whens_copied(whens), boxed_copied(otherwise))?;
+            Ok(Expr::Case { whens, otherwise })
+        }
         Expr::CountAll => Ok(Expr::CountAll),
         Expr::Agg { kind, value } => Ok(Expr::Agg {
             kind: *kind,
@@ -98,10 +104,8 @@ fn whens_copied(all: &Whens) -> Result<Whens, Memory>
 fn when_copied(w: &When) -> Result<When, Memory>
     ensures { IfOk result (λ made. made ≡ w.now) }
 {
-    Ok(When {
-        test: expr_copied(&w.test)?,
-        value: expr_copied(&w.value)?,
-    })
+    let (test, value) = together(expr_copied(&w.test), expr_copied(&w.value))?;
+    Ok(When { test, value })
 }
 
 fn cell_copied(cell: &Cell) -> Result<Cell, Memory>

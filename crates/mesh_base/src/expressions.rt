@@ -1,13 +1,13 @@
 // Expressions of resolved queries: a column is named by its FROM item's place, and no alias is left.
-use crate::values::{Cell, ColType, Str};
 use mesh_list::{Boxed, Seq};
+use mesh_values::{Cell, ColType, Str};
 
 pub type Exprs = Seq<Expr>;
 
 pub type Whens = Seq<When>;
 
 /// What stands between two operands. `Cat` joins texts.
-#[derive(Debug, Clone, Copy, PartialEq, Eq)]
+#[derive(Clone, Copy, PartialEq, Eq)]
 pub enum Op {
     Add,
     Sub,
@@ -26,7 +26,7 @@ pub enum Op {
 }
 
 /// A function of one row's values.
-#[derive(Debug, Clone, Copy, PartialEq, Eq)]
+#[derive(Clone, Copy, PartialEq, Eq)]
 pub enum Func {
     Abs,
     Length,
@@ -37,7 +37,7 @@ pub enum Func {
 }
 
 /// A function of a group's values. `Count` counts those that aren't NULL, `Countd` the different ones of these.
-#[derive(Debug, Clone, Copy, PartialEq, Eq)]
+#[derive(Clone, Copy, PartialEq, Eq)]
 pub enum AggKind {
     Count,
     Countd,
@@ -47,7 +47,7 @@ pub enum AggKind {
 }
 
 /// A macro that stands for an end of the interval that a query is evaluated for: a day, that day as text, or a second.
-#[derive(Debug, Clone, Copy, PartialEq, Eq)]
+#[derive(Clone, Copy, PartialEq, Eq)]
 pub enum Var {
     StartDate,
     EndDate,
@@ -59,7 +59,7 @@ pub enum Var {
 
 /// One WHEN of a CASE.
 #[cycle(ast)]
-#[derive(Debug, Drop, PartialEq, Eq)]
+#[derive(Drop, PartialEq, Eq)]
 pub struct When {
     pub test: Expr,
     pub value: Expr,
@@ -67,7 +67,7 @@ pub struct When {
 
 /// `item` is a place in FROM, from 0. What is negated in the text, as `IS NOT NULL`, is a `Not` of the plain form.
 #[cycle(ast)]
-#[derive(Debug, Drop, PartialEq, Eq)]
+#[derive(Drop, PartialEq, Eq)]
 pub enum Expr {
     Literal(Cell),
     Col {

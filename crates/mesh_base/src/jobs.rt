@@ -1,8 +1,7 @@
 // What a query is evaluated over, and what came of a command.
 use crate::queries::Query;
-use crate::times::Bounds;
-use crate::values::{Columns, Name, Rows, Str};
-use mesh_list::{Duplicate, Memory, Same, Seq};
+use mesh_list::{Duplicate, Memory, Same, Seq, both};
+use mesh_values::{Bounds, Columns, Name, Rows, Str};
 
 pub type Inputs = Seq<Input>;
 
@@ -11,7 +10,7 @@ pub type Pools = Seq<Inputs>;
 pub type Jobs = Seq<Job>;
 
 /// A table by the name that a query reads it by.
-#[derive(Debug, Drop)]
+#[derive(Drop)]
 pub struct Input {
     pub name: Name,
     pub columns: Columns,
@@ -20,7 +19,7 @@ pub struct Input {
 
 /// A query to be evaluated over the inputs of the pool at the place `pool`, from 0. Where there is a time column, only
 /// rows that lie in the bounds count.
-#[derive(Debug, Drop)]
+#[derive(Drop)]
 pub struct Job {
     pub query: Query,
     pub pool: u32,
@@ -29,21 +28,21 @@ pub struct Job {
 }
 
 /// The columns and rows of a file.
-#[derive(Debug, Drop)]
+#[derive(Drop)]
 pub struct Seed {
     pub columns: Columns,
     pub rows: Rows,
 }
 
 /// How many units were computed, and how many changes the warehouse was asked for.
-#[derive(Debug, Clone, Copy, PartialEq, Eq)]
+#[derive(Clone, Copy, PartialEq, Eq)]
 pub struct Done {
     pub units: u64,
     pub changes: u64,
 }
 
 /// How much went, and how many changes the warehouse was asked for.
-#[derive(Debug, Clone, Copy, PartialEq, Eq)]
+#[derive(Clone, Copy, PartialEq, Eq)]
 pub struct Swept {
     pub environments: u64,
     pub objects: u64,
@@ -53,31 +52,32 @@ pub struct Swept {
 
 impl Duplicate for Input {
     fn copy(&self) -> Result<Input, Memory> {
+        let name = self.name.copy()?;
+        let (columns, rows) = both(&self.columns, &self.rows)?;
         Ok(Input {
-            name: self.name.copy()?,
-            columns: self.columns.copy()?,
-            rows: self.rows.copy()?,
+            name,
+            columns,
+            rows,
         })
     }
 }
 
 impl Duplicate for Job {
     fn copy(&self) -> Result<Job, Memory> {
+        let (query, time) = both(&self.query, &self.time)?;
         Ok(Job {
-            query: self.query.copy()?,
+            query,
             pool: self.pool,
             bounds: self.bounds,
-            time: self.time.copy()?,
+            time,
         })
     }
 }
 
 impl Duplicate for Seed {
     fn copy(&self) -> Result<Seed, Memory> {
-        Ok(Seed {
-            columns: self.columns.copy()?,
-            rows: self.rows.copy()?,
-        })
+        let (columns, rows) = both(&self.columns, &self.rows)?;
+        Ok(Seed { columns, rows })
     }
 }
 

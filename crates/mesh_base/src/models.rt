@@ -1,14 +1,14 @@
 // What a model is, once its files were read.
 ghost use Rattle.std.specs.Prelude.{◌≡◌};
-ghost use Rattle.mesh_base.specs.Names.{name_cmp};
-ghost use Rattle.mesh_base.specs.NameOrder.{names_total, names_exact};
+ghost use Rattle.mesh_values.specs.Names.{name_cmp};
+ghost use Rattle.mesh_values.specs.NameOrder.{names_total, names_exact};
 
-use crate::values::{Columns, Name, Rows, Strs};
 use mesh_list::Keyed;
+use mesh_values::{Columns, Name, Rows, Strs};
 use std::cmp::Ordering;
 
 /// How a model's rows come about.
-#[derive(Debug, Drop)]
+#[derive(Drop)]
 pub enum Picking {
     /// The rows of a file.
     Seed { columns: Columns, rows: Rows },
@@ -17,30 +17,10 @@ pub enum Picking {
 }
 
 /// A model by its name.
-#[derive(Debug, Drop)]
+#[derive(Drop)]
 pub struct Model {
     pub name: Name,
     pub picking: Picking,
-}
-
-impl Keyed for Name {
-    type Key = Name;
-
-    ghost key = { λ n. n };
-
-    ghost order = { name_cmp };
-
-    fn compare(&self, other: &Name) -> Ordering {
-        Name::compare(self, other)
-    }
-
-    fn against(&self, other: &Name) -> Ordering {
-        Name::compare(self, other)
-    }
-
-    ghost total = { names_total };
-
-    ghost exact = { names_exact };
 }
 
 impl Keyed for Model {

@@ -4,8 +4,8 @@ ghost use Rattle.mesh_base.specs.Outputs.{columns_of, item_columns, select_colum
 
 use crate::definitions::{Defn, Own};
 use crate::queries::{Items, Select};
-use crate::values::{Column, Columns};
 use mesh_list::{Duplicate, Memory, Seq};
+use mesh_values::{Column, Columns};
 use std::alloc::Global;
 
 /// The names and types of a seed's columns, or of the items of the query's first SELECT. A query without a SELECT has

@@ -1,6 +1,6 @@
 // What a plan says of each model: how it differs from the environment's, and what is to be computed.
-use crate::values::{Name, Names};
-use mesh_list::{Duplicate, Memory, Same, Seq};
+use mesh_list::{Duplicate, Memory, Same, Seq, both};
+use mesh_values::{Name, Names};
 
 /// Seconds: the last ticks that a table's rows were computed for.
 pub type Marks = Seq<i64>;
@@ -13,7 +13,7 @@ pub type Entries = Seq<Entry>;
 
 /// How a model of a project stands to the model of its name that an environment lists. It is indirect where the change
 /// is an ancestor's alone.
-#[derive(Debug, Clone, Copy, PartialEq, Eq)]
+#[derive(Clone, Copy, PartialEq, Eq)]
 pub enum Category {
     Unchanged,
     Added,
@@ -24,21 +24,21 @@ pub enum Category {
 }
 
 /// One category for each node of a project, and the models that it no longer has.
-#[derive(Debug, Drop)]
+#[derive(Drop)]
 pub struct Categories {
     pub of: CategoryList,
     pub removed: Names,
 }
 
 /// What is to be computed of a project's node: all its rows, or those of one unit.
-#[derive(Debug, Drop)]
+#[derive(Drop)]
 pub enum Due {
     Whole { node: u32, marks: Marks },
     Unit { node: u32, start: i64, end: i64 },
 }
 
 /// What is planned for a node: the table or view that will have its rows, and whether that is made already.
-#[derive(Debug, Drop)]
+#[derive(Drop)]
 pub struct Entry {
     pub category: Category,
     pub object: Name,
@@ -53,10 +53,8 @@ impl Duplicate for Category {
 
 impl Duplicate for Categories {
     fn copy(&self) -> Result<Categories, Memory> {
-        Ok(Categories {
-            of: self.of.copy()?,
-            removed: self.removed.copy()?,
-        })
+        let (of, removed) = both(&self.of, &self.removed)?;
+        Ok(Categories { of, removed })
     }
 }
 

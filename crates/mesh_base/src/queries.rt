@@ -1,7 +1,7 @@
 // Resolved queries: each column has its name and type, and `*` is expanded.
 use crate::expressions::{Expr, Exprs};
-use crate::values::{ColType, Name, Str};
-use mesh_list::{Duplicate, Memory, Same, Seq};
+use mesh_list::{Duplicate, Memory, Same, Seq, both};
+use mesh_values::{ColType, Name, Str};
 
 pub type Items = Seq<Item>;
 
@@ -14,7 +14,7 @@ pub type Selects = Seq<Select>;
 pub type Ctes = Seq<Selects>;
 
 /// One output column.
-#[derive(Debug, Drop, PartialEq, Eq)]
+#[derive(Drop, PartialEq, Eq)]
 pub struct Item {
     pub name: Str,
     pub kind: ColType,
@@ -22,14 +22,14 @@ pub struct Item {
 }
 
 /// What a FROM item reads: a model or a source, or the CTE at a place, from 0.
-#[derive(Debug, Drop, PartialEq, Eq)]
+#[derive(Drop, PartialEq, Eq)]
 pub enum Rel {
     Named(Name),
     Cte(u32),
 }
 
 /// How a FROM item is joined to those before it.
-#[derive(Debug, Clone, Copy, PartialEq, Eq)]
+#[derive(Clone, Copy, PartialEq, Eq)]
 pub enum Join {
     First,
     Inner,
@@ -37,7 +37,7 @@ pub enum Join {
     Cross,
 }
 
-#[derive(Debug, Drop, PartialEq, Eq)]
+#[derive(Drop, PartialEq, Eq)]
 pub struct FromItem {
     pub join: Join,
     pub rel: Rel,
@@ -45,7 +45,7 @@ pub struct FromItem {
 }
 
 /// `filter` is WHERE and `keys` is GROUP BY. A SELECT may be grouped without keys.
-#[derive(Debug, Drop, PartialEq, Eq)]
+#[derive(Drop, PartialEq, Eq)]
 pub struct Select {
     pub distinct: bool,
     pub grouped: bool,
@@ -56,7 +56,7 @@ pub struct Select {
     pub having: Option<Expr>,
 }
 
-#[derive(Debug, Drop, PartialEq, Eq)]
+#[derive(Drop, PartialEq, Eq)]
 pub struct Query {
     pub ctes: Ctes,
     pub selects: Selects,
@@ -64,10 +64,11 @@ pub struct Query {
 
 impl Duplicate for Item {
     fn copy(&self) -> Result<Item, Memory> {
+        let (name, expr) = both(&self.name, &self.expr)?;
         Ok(Item {
-            name: self.name.copy()?,
+            name,
             kind: self.kind,
-            expr: self.expr.copy()?,
+            expr,
         })
     }
 }
@@ -83,34 +84,36 @@ impl Duplicate for Rel {
 
 impl Duplicate for FromItem {
     fn copy(&self) -> Result<FromItem, Memory> {
+        let (rel, on) = both(&self.rel, &self.on)?;
         Ok(FromItem {
             join: self.join,
-            rel: self.rel.copy()?,
-            on: self.on.copy()?,
+            rel,
+            on,
         })
     }
 }
 
 impl Duplicate for Select {
     fn copy(&self) -> Result<Select, Memory> {
+        let (items, from) = both(&self.items, &self.from)?;
+        let (filter, keys) = both(&self.filter, &self.keys)?;
+        let having = self.having.copy()?;
         Ok(Select {
             distinct: self.distinct,
             grouped: self.grouped,
-            items: self.items.copy()?,
-            from: self.from.copy()?,
-            filter: self.filter.copy()?,
-            keys: self.keys.copy()?,
-            having: self.having.copy()?,
+            items,
+            from,
+            filter,
+            keys,
+            having,
         })
     }
 }
 
 impl Duplicate for Query {
     fn copy(&self) -> Result<Query, Memory> {
-        Ok(Query {
-            ctes: self.ctes.copy()?,
-            selects: self.selects.copy()?,
-        })
+        let (ctes, selects) = both(&self.ctes, &self.selects)?;
+        Ok(Query { ctes, selects })
     }
 }
 

@@ -1,7 +1,7 @@
 // Models at one state of their files, and the environments that list them.
 use crate::definitions::Own;
-use crate::values::{Name, Str};
-use mesh_list::{Duplicate, Memory, Register, Same, Seq};
+use mesh_list::{Duplicate, Memory, Register, Same, Seq, both};
+use mesh_values::{Name, Str};
 
 pub type Refs = Seq<Ref>;
 
@@ -17,14 +17,14 @@ pub type Snapshots = Register<Snapshot>;
 pub type Envs = Register<Env>;
 
 /// A model at one fingerprint, which is the SHA-256 of its definition and its parents' fingerprints.
-#[derive(Debug, Drop)]
+#[derive(Drop)]
 pub struct Ref {
     pub name: Name,
     pub fingerprint: [u8; 32],
 }
 
 /// A model of a project. Its parents are places among the project's nodes.
-#[derive(Debug, Drop)]
+#[derive(Drop)]
 pub struct Node {
     pub own: Own,
     pub parents: Indexes,
@@ -34,7 +34,7 @@ pub struct Node {
 
 /// A model that was planned once, and the table or view that has its rows. From the second `expires` on it may go
 /// where no environment lists it.
-#[derive(Debug, Drop)]
+#[derive(Drop)]
 pub struct Snapshot {
     pub name: Name,
     pub fingerprint: [u8; 32],
@@ -46,7 +46,7 @@ pub struct Snapshot {
 }
 
 /// While it is pending its views may be those of `list` or of `previous`. One without an expiry stays.
-#[derive(Debug, Drop)]
+#[derive(Drop)]
 pub struct Env {
     pub name: Str,
     pub pending: bool,
@@ -66,9 +66,10 @@ impl Duplicate for Ref {
 
 impl Duplicate for Node {
     fn copy(&self) -> Result<Node, Memory> {
+        let (own, parents) = both(&self.own, &self.parents)?;
         Ok(Node {
-            own: self.own.copy()?,
-            parents: self.parents.copy()?,
+            own,
+            parents,
             rank: self.rank,
             fingerprint: self.fingerprint,
         })
@@ -77,13 +78,15 @@ impl Duplicate for Node {
 
 impl Duplicate for Snapshot {
     fn copy(&self) -> Result<Snapshot, Memory> {
+        let (name, own) = both(&self.name, &self.own)?;
+        let (parents, object) = both(&self.parents, &self.object)?;
         Ok(Snapshot {
-            name: self.name.copy()?,
+            name,
             fingerprint: self.fingerprint,
-            own: self.own.copy()?,
-            parents: self.parents.copy()?,
+            own,
+            parents,
             rank: self.rank,
-            object: self.object.copy()?,
+            object,
             expires: self.expires,
         })
     }
@@ -91,11 +94,13 @@ impl Duplicate for Snapshot {
 
 impl Duplicate for Env {
     fn copy(&self) -> Result<Env, Memory> {
+        let name = self.name.copy()?;
+        let (list, previous) = both(&self.list, &self.previous)?;
         Ok(Env {
-            name: self.name.copy()?,
+            name,
             pending: self.pending,
-            list: self.list.copy()?,
-            previous: self.previous.copy()?,
+            list,
+            previous,
             expires: self.expires,
         })
     }

@@ -1,7 +1,8 @@
 // Canonical texts of a seed.
-use mesh_base::{Cell, Columns, Defn, Own, Row};
+use mesh_base::{Defn, Own};
 use mesh_canon::{CanonFault, own_text, read_own};
 use mesh_list::{Duplicate, Seq};
+use mesh_values::{Cell, Columns, Row};
 use std::alloc::Global;
 
 const EMPTY: &[u8] =

@@ -1,10 +1,9 @@
 // A warehouse in memory with many tables, views and versions, whose versions gain hour after hour.
-use mesh_base::{
-    ColType, Column, Columns, Cron, Defn, Kind, Name, Own, Query, Snapshot, Str, Unit,
-};
+use mesh_base::{Defn, Own, Query, Snapshot};
 use mesh_house::{Change, MemHouse, Warehouse, WhFail};
 use mesh_list::{Duplicate, Memory, Seq};
 use mesh_time::read_cron;
+use mesh_values::{ColType, Column, Columns, Cron, Kind, Name, Str, Unit};
 use std::alloc::Global;
 
 const HOUR: i64 = 3_600;

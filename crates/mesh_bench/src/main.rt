@@ -13,10 +13,10 @@ mod house;
 
 use crate::house::recorded as recorded_by_changes;
 use mesh_args::{letter_at, number_at};
-use mesh_base::{Schedule, Unit};
 use mesh_canon::CanonFault;
 use mesh_list::Memory;
 use mesh_time::{END_OF_SECONDS, Ranges, floor, read_cron};
+use mesh_values::{Schedule, Unit};
 use std::alloc::Global;
 use std::env::Env;
 use std::process::ExitCode;

@@ -1,9 +1,9 @@
 // Texts of queries and seeds, which are read.
-use mesh_base::{ColType, Column, Columns, Str};
 use mesh_csv::read_seed;
 use mesh_list::{Memory, Seq};
 use mesh_query::{parse, tokens};
 use mesh_tokens::{ReadFault, Tokens};
+use mesh_values::{ColType, Column, Columns, Str};
 use std::alloc::{AllocError, Global};
 
 const ITEM: &[u8] = b"t.amount * 2 + 10 AS total_amount, ";

@@ -3,7 +3,7 @@ use Rattle.std.proofs.Common.{◌≡◌, ℕ, ◌+◌, ℤ, Bool, true, false, c
 use Rattle.std.specs.Prelude.{◌↔◌, IsTrue, IsNone}
 use Rattle.std.specs.declared.option.Option.{Option}
 use Rattle.std.specs.Option.{is_some}
-use Rattle.mesh_base.specs.Names.{name_cmp}
+use Rattle.mesh_values.specs.Names.{name_cmp}
 use Rattle.mesh_book.specs.Changes.{version_object}
 use Rattle.mesh_book.specs.WellFormed.{all_fit, book_fault, breach_from, breach_or, envs_breach, is_above, is_env_fit, is_moment, is_snapshot_fit, is_well_formed_book, moment_breach, snapshots_breach, versions_breach}
 use Rattle.mesh_book.specs.declared.book.Book.{Book}

@@ -9,10 +9,10 @@ use Rattle.std.specs.Cmp.{IsTotalOrder}
 use Rattle.std.proofs.lemmas.Cmp.{tied_itself}
 use Rattle.std.proofs.lemmas.Map.Lookups.{exact_bytes, CmpEqualImpliesEq}
 use Rattle.mesh_list.specs.Keyed.{found, put_by, placed, without, exchanged}
-use Rattle.mesh_base.specs.declared.values.Name.{Name}
+use Rattle.mesh_values.specs.declared.values.Name.{Name}
 use Rattle.mesh_base.specs.declared.snapshots.Env.{Env}
-use Rattle.mesh_base.specs.Names.{text_cmp, name_cmp}
-use Rattle.mesh_base.specs.NameOrder.{names_exact, names_total, texts_total}
+use Rattle.mesh_values.specs.Names.{text_cmp, name_cmp}
+use Rattle.mesh_values.specs.NameOrder.{names_exact, names_total, texts_total}
 use Rattle.mesh_base.specs.Keys.{env_name}
 use Rattle.mesh_book.specs.Changes.{version_object, at_version, at_env, with_range, record_range}
 use Rattle.mesh_book.specs.declared.versions.Version.{Version}

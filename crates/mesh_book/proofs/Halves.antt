@@ -8,10 +8,10 @@ use Rattle.std.specs.Ordering.{is_eq, is_lt, ordering_then, ordering_reverse}
 use Rattle.mesh_list.specs.Keyed.{found, ascends, below_first}
 use Rattle.mesh_list.proofs.Ascends.{and_left, and_right, and_both}
 use Rattle.mesh_list.proofs.Each.{below_later}
-use Rattle.mesh_base.specs.declared.values.Name.{Name}
+use Rattle.mesh_values.specs.declared.values.Name.{Name}
 use Rattle.mesh_base.specs.declared.snapshots.Ref.{Ref}
-use Rattle.mesh_base.specs.Names.{text_cmp, name_cmp}
-use Rattle.mesh_base.specs.NameOrder.{names_exact, names_total}
+use Rattle.mesh_values.specs.Names.{text_cmp, name_cmp}
+use Rattle.mesh_values.specs.NameOrder.{names_exact, names_total}
 use Rattle.mesh_base.specs.Keys.{ref_cmp, ref_itself, ref_name}
 use Rattle.mesh_book.specs.WellFormed.{is_listed}
 

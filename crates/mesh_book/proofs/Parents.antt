@@ -2,11 +2,11 @@
 use Rattle.std.proofs.Common.{◌≡◌, Bool, ◌&&◌, ◌||◌, List, [], ◌∷◌, refl, ap}
 use Rattle.std.specs.Ordering.{is_eq}
 use Rattle.mesh_list.specs.Keyed.{ascends, below_first}
-use Rattle.mesh_base.specs.declared.values.Name.{Name}
+use Rattle.mesh_values.specs.declared.values.Name.{Name}
 use Rattle.mesh_base.specs.declared.definitions.Own.{Own}
 use Rattle.mesh_base.specs.declared.snapshots.Ref.{Ref}
 use Rattle.mesh_base.specs.declared.snapshots.Snapshot.{Snapshot}
-use Rattle.mesh_base.specs.Names.{name_cmp}
+use Rattle.mesh_values.specs.Names.{name_cmp}
 use Rattle.mesh_rules.specs.Proper.{decl_name, defn_names, is_declared, are_its_parents, are_named as are_named_relations, are_known as are_known_relations}
 use Rattle.mesh_base.specs.Keys.{ref_name}
 use Rattle.mesh_book.specs.Named.{is_parent, are_known, is_named, are_named, are_parents}

@@ -6,11 +6,11 @@ use Rattle.std.specs.declared.cmp.Ordering.{Ordering}
 use Rattle.std.specs.Int.{int_max}
 use Rattle.std.specs.Int.Signed.{lt_z}
 use Rattle.mesh_list.specs.Keyed.{found, placed, without, exchanged}
-use Rattle.mesh_base.specs.declared.values.Name.{Name}
+use Rattle.mesh_values.specs.declared.values.Name.{Name}
 use Rattle.mesh_base.specs.declared.snapshots.Ref.{Ref}
 use Rattle.mesh_base.specs.declared.snapshots.Snapshot.{Snapshot}
 use Rattle.mesh_base.specs.declared.snapshots.Env.{Env}
-use Rattle.mesh_base.specs.Names.{text_cmp, name_cmp}
+use Rattle.mesh_values.specs.Names.{text_cmp, name_cmp}
 use Rattle.mesh_time.specs.Edits.{spans_with}
 use Rattle.mesh_base.specs.Keys.{ref_cmp, ref_itself, snapshot_ref, env_name}
 use Rattle.mesh_book.specs.declared.versions.Version.{Version}

@@ -3,10 +3,10 @@ use Rattle.std.specs.Prelude.{Bool, ◌&&◌, ◌||◌, not, List}
 use Rattle.std.specs.List.{list_all, list_any}
 use Rattle.std.specs.Ordering.{is_eq}
 use Rattle.mesh_list.specs.Keyed.{ascends}
-use Rattle.mesh_base.specs.declared.values.Name.{Name}
+use Rattle.mesh_values.specs.declared.values.Name.{Name}
 use Rattle.mesh_base.specs.declared.definitions.Own.{Own}
 use Rattle.mesh_base.specs.declared.snapshots.Ref.{Ref}
-use Rattle.mesh_base.specs.Names.{name_cmp}
+use Rattle.mesh_values.specs.Names.{name_cmp}
 use Rattle.mesh_rules.specs.Proper.{is_among, is_declared, defn_names}
 use Rattle.mesh_base.specs.Keys.{ref_name}
 

@@ -7,14 +7,14 @@ use Rattle.std.specs.Option.{is_some}
 use Rattle.std.specs.Int.Signed.{le_z}
 use Rattle.std.specs.Ordering.{is_eq, is_lt}
 use Rattle.mesh_list.specs.Keyed.{found, ascends}
-use Rattle.mesh_base.specs.declared.values.Column.{Column}
+use Rattle.mesh_values.specs.declared.values.Column.{Column}
 use Rattle.mesh_base.specs.declared.queries.FromItem.{FromItem}
 use Rattle.mesh_base.specs.declared.queries.Select.{Select}
 use Rattle.mesh_base.specs.declared.definitions.Decl.{Decl}
 use Rattle.mesh_base.specs.declared.snapshots.Ref.{Ref}
 use Rattle.mesh_base.specs.declared.snapshots.Snapshot.{Snapshot}
 use Rattle.mesh_base.specs.declared.snapshots.Env.{Env}
-use Rattle.mesh_base.specs.Names.{text_cmp, name_cmp, has_two_underscores}
+use Rattle.mesh_values.specs.Names.{text_cmp, name_cmp, has_two_underscores}
 use Rattle.mesh_base.specs.Outputs.{columns_of}
 use Rattle.mesh_rules.specs.Seen.{tables_of}
 use Rattle.mesh_rules.specs.Proper.{is_well_formed}

@@ -5,7 +5,7 @@ use mesh_list::{Duplicate, Memory, Same};
 
 /// What a warehouse records beside its tables and views. `moment` is in seconds since 1970-01-01T00:00:00 UTC. Any lists
 /// make a book; `book_fault` tells whether it is a well-formed one.
-#[derive(Debug, Drop)]
+#[derive(Drop)]
 pub struct Book {
     pub moment: i64,
     pub snapshots: Snapshots,

@@ -5,9 +5,10 @@ ghost use Rattle.mesh_book.specs.Changes.{delete_env, delete_snapshot, empty_boo
 
 use crate::book::Book;
 use crate::versions::Version;
-use mesh_base::{Env, Marks, Name, Ref, Refs, Snapshot, Str};
+use mesh_base::{Env, Marks, Ref, Refs, Snapshot};
 use mesh_list::{Duplicate, Keyed, Memory, Register, Seq};
 use mesh_time::Ranges;
+use mesh_values::{Name, Str};
 use std::alloc::Global;
 
 impl Book {

@@ -5,7 +5,8 @@ ghost use Rattle.mesh_book.specs.WellFormed.{book_fault, envs_breach, is_well_fo
 use crate::book::Book;
 use crate::fits::{is_above, is_env_fit, is_snapshot_fit};
 use crate::versions::{Version, Versions};
-use mesh_base::{Envs, FIRST_MOMENT, LAST_MOMENT, Snapshots};
+use mesh_base::{Envs, Snapshots};
+use mesh_values::{FIRST_MOMENT, LAST_MOMENT};
 
 /// The moment, in `BookFault`.
 pub const MOMENT_PART: u8 = 1;
@@ -20,7 +21,7 @@ pub const VERSIONS_PART: u8 = 3;
 pub const ENVIRONMENTS_PART: u8 = 4;
 
 /// A part of a book, and the first place in it, from 0, that breaks a rule.
-#[derive(Debug, Clone, Copy, PartialEq, Eq)]
+#[derive(Clone, Copy, PartialEq, Eq)]
 pub struct BookFault {
     pub part: u8,
     pub place: u64,

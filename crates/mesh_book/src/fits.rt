@@ -3,7 +3,7 @@ ghost use Rattle.std.specs.Prelude.{◌≡◌, true};
 ghost use Rattle.std.specs.List.{list_all};
 ghost use Rattle.std.specs.Option.{option_copied};
 ghost use Rattle.mesh_list.specs.Keyed.{ascends};
-ghost use Rattle.mesh_base.specs.Names.{name_cmp};
+ghost use Rattle.mesh_values.specs.Names.{name_cmp};
 ghost use Rattle.mesh_rules.specs.Proper.{are_its_parents, is_body_of, is_plain_schema, is_well_formed};
 ghost use Rattle.mesh_base.specs.Keys.{ref_name};
 ghost use Rattle.mesh_book.specs.WellFormed.{above, are_kept, has_parents, have_parents, is_above, is_env_fit, is_listed, is_snapshot_fit, parents_of, rank_over, snapshot_at};
@@ -11,8 +11,9 @@ ghost use Rattle.mesh_book.specs.WellFormed.{above, are_kept, has_parents, have_
 use crate::named::{are_parents, ascend};
 use crate::outputs::{are_distinct, has_its_time};
 use crate::seen::is_body_seen;
-use mesh_base::{Defn, Env, Kind, MOST_MODELS, Ref, Snapshot, Snapshots, has_two_underscores};
+use mesh_base::{Defn, Env, Ref, Snapshot, Snapshots};
 use mesh_list::Keyed;
+use mesh_values::{Kind, MOST_MODELS, has_two_underscores};
 use std::cmp::Ordering;
 
 /// The greatest rank of a model: one less than the most models of a project.

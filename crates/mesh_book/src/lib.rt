@@ -1,7 +1,7 @@
 //! The book of a warehouse: which snapshots, versions and environments there are, and the greatest moment of a command.
 //! Its contract: each kind of change makes of a book what its definition says, and nothing where memory is wanting;
 //! `book_fault` is the first breach of the rules of a well-formed book, and takes no memory. It stands on `mesh_list`,
-//! `mesh_base`, `mesh_rules` and the ranges of `mesh_time`.
+//! `mesh_values`, `mesh_base`, `mesh_rules` and the ranges of `mesh_time`.
 #![tactic(auto)]
 
 mod book;
@@ -19,6 +19,3 @@ pub use fault::{
 };
 pub use fits::HIGHEST_RANK;
 pub use versions::{Version, Versions};
-
-#[cfg(test)]
-mod tests;

@@ -1,12 +1,13 @@
 // The relations that a definition names, as they lie in it: its sources and its parents are among them.
 ghost use Rattle.std.specs.Prelude.{◌≡◌};
 ghost use Rattle.mesh_list.specs.Keyed.{ascends};
-ghost use Rattle.mesh_base.specs.Names.{name_cmp};
+ghost use Rattle.mesh_values.specs.Names.{name_cmp};
 ghost use Rattle.mesh_rules.specs.Proper.{defn_names, from_names, is_among, is_declared, names_of_all, rel_names, selects_names};
 ghost use Rattle.mesh_base.specs.Keys.{ref_name};
 ghost use Rattle.mesh_book.specs.Named.{are_known, are_named, are_parents, is_known, is_parent};
 
-use mesh_base::{Decl, Defn, FromItem, Name, Own, Ref, Rel, Select, Selects};
+use mesh_base::{Decl, Defn, FromItem, Own, Ref, Rel, Select, Selects};
+use mesh_values::Name;
 
 fn rel_is(rel: &Rel, name: &Name) -> bool
     ensures { result ≡ is_among (rel_names rel.now) name.now }

@@ -4,8 +4,9 @@ ghost use Rattle.mesh_base.specs.Outputs.{columns_of, item_columns, select_colum
 ghost use Rattle.mesh_rules.specs.Seen.{are_distinct, has_column};
 ghost use Rattle.mesh_rules.specs.Proper.{has_its_time};
 
-use mesh_base::{Column, Defn, Item, Kind, Own, Select, Str};
+use mesh_base::{Defn, Item, Own, Select};
 use mesh_rules::has_column;
+use mesh_values::{Column, Kind, Str};
 
 fn items_have(items: &[Item], name: &Str) -> bool
     ensures { result ≡ has_column (item_columns items.now) name.now }

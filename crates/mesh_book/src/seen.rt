@@ -4,7 +4,7 @@ ghost use Rattle.std.specs.Prelude.{◌≡◌, [], map};
 ghost use Rattle.std.specs.List.{list_all};
 ghost use Rattle.std.specs.Option.{is_some, option_copied};
 ghost use Rattle.mesh_list.specs.Keyed.{found};
-ghost use Rattle.mesh_base.specs.Names.{name_cmp};
+ghost use Rattle.mesh_values.specs.Names.{name_cmp};
 ghost use Rattle.mesh_rules.specs.Seen.{are_ctes_seen, are_selects_seen, are_there, column_at, conditions_see, has_column, has_in, is_query_seen, is_select_seen, items_see, keys_see, rel_columns, relation_columns, sees, sees_some, sees_when, select_sees};
 ghost use Rattle.mesh_rules.specs.Proper.{is_body_seen};
 ghost use Rattle.mesh_base.specs.Keys.{ref_name};
@@ -12,10 +12,10 @@ ghost use Rattle.mesh_book.specs.WellFormed.{columns_at, relations_of, snapshot_
 
 use crate::outputs::{own_has, selects_have};
 use mesh_base::{
-    Columns, Decl, Defn, Expr, FromItem, Item, Name, Query, Ref, Rel, Select, Selects, Snapshot,
-    Snapshots, Str, When,
+    Decl, Defn, Expr, FromItem, Item, Query, Ref, Rel, Select, Selects, Snapshot, Snapshots, When,
 };
 use mesh_rules::has_column;
+use mesh_values::{Columns, Name, Str};
 
 fn snapshot_has(all: &Snapshots, r: &Ref, column: &Str) -> bool
     ensures { result ≡ has_column (columns_at (snapshot_at all.now r.now)) column.now }

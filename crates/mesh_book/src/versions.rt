@@ -1,17 +1,18 @@
 // What is recorded of a table or a view: whether it is made, and what was computed for it.
-ghost use Rattle.mesh_base.specs.Names.{name_cmp};
-ghost use Rattle.mesh_base.specs.NameOrder.{names_exact, names_total};
+ghost use Rattle.mesh_values.specs.Names.{name_cmp};
+ghost use Rattle.mesh_values.specs.NameOrder.{names_exact, names_total};
 
-use mesh_base::{Marks, Name};
+use mesh_base::Marks;
 use mesh_list::{Duplicate, Keyed, Memory, Register, Same};
 use mesh_time::Ranges;
+use mesh_values::Name;
 use std::cmp::Ordering;
 
 pub type Versions = Register<Version>;
 
 /// The record of a physical table or view, by its name. `ranges` are the seconds of the schedule whose rows were
 /// written. `marks` are the last ticks that the rows of a whole table were computed for, and are absent until they were.
-#[derive(Debug, Drop)]
+#[derive(Drop)]
 pub struct Version {
     pub object: Name,
     pub made: bool,

@@ -13,8 +13,9 @@ use crate::query_reading::query;
 use crate::read::{Readable, list};
 use crate::value_reading::{day, name};
 use crate::words::{after, expect, text};
-use mesh_base::{Decl, Defn, Kind, Own, Str, Strs};
+use mesh_base::{Decl, Defn, Own};
 use mesh_canon_text::{list_text, own_text};
+use mesh_values::{Kind, Str, Strs};
 use std::alloc::Global;
 
 #[tactic(auto, unfolding(crate::specs::Reading::time_at))]

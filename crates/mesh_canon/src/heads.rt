@@ -2,7 +2,8 @@
 ghost use Rattle.mesh_canon.specs.Reading.{Finds, agg_at, cell_head_at, distinct_at, func_at, grouped_at, head_at, join_at, end_var_at, macro_at, node_head_at, op_head_at, start_var_at, type_at, unit_at};
 
 use crate::words::after;
-use mesh_base::{AggKind, ColType, Func, Join, Op, Unit, Var};
+use mesh_base::{AggKind, Func, Join, Op, Var};
+use mesh_values::{ColType, Unit};
 
 /// How a cell begins.
 #[derive(Clone, Copy)]

@@ -1,7 +1,7 @@
 //! The canonical text of a definition, both ways: the bytes that a model's fingerprint is made of and that a stored
-//! warehouse keeps. Its contract: `own_text` and `node_text` are the text that `mesh_canon_text/specs/Text.antt` spells out,
-//! `read_own` answers exactly the definition that a text is the text of, and two definitions of one text are equal. It
-//! stands on `mesh_list`, `mesh_base`, `mesh_canon_text` and `thiserror`.
+//! warehouse keeps. Its contract: `own_text` and `node_text` are the text that `mesh_canon_text/specs/Text.antt` spells
+//! out, `read_own` answers exactly the definition that a text is the text of, and two definitions of one text are
+//! equal. It stands on `mesh_list`, `mesh_values`, `mesh_base`, `mesh_canon_text` and `thiserror`.
 #![tactic(auto)]
 
 mod cron_reading;

@@ -6,7 +6,7 @@ use crate::fault::CanonFault;
 use crate::heads::{CellHead, cell_head, column_type};
 use crate::read::{Readable, list};
 use crate::words::{expect, signed, text};
-use mesh_base::{Cell, Column, Name, Row, Str};
+use mesh_values::{Cell, Column, Name, Row, Str};
 use std::alloc::Global;
 
 const MOST_INT: u64 = 0x7fff_ffff_ffff_ffff;

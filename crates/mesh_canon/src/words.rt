@@ -3,8 +3,8 @@ ghost use Rattle.std.specs.Prelude.{◌≡◌, ◌<◌, ◌≤◌, ◌^◌, ◌+
 ghost use Rattle.mesh_canon.specs.Reading.{Gives, after, below_at, digits_at, number_at, signed_at, text_at};
 
 use crate::fault::CanonFault;
-use mesh_base::Str;
 use mesh_list::Seq;
+use mesh_values::Str;
 use std::alloc::Global;
 
 /// What stands behind a word.

@@ -9,8 +9,9 @@ use crate::number_text::{put, put_signed, put_text};
 use crate::query_text::put_query;
 use crate::value_text::put_name;
 use crate::written::{Written, put_list};
-use mesh_base::{Decl, Defn, Kind, Own, Ref, Refs, Str, Strs, Unit};
+use mesh_base::{Decl, Defn, Own, Ref, Refs};
 use mesh_list::{Memory, Seq};
+use mesh_values::{Kind, Str, Strs, Unit};
 use std::alloc::Global;
 
 #[tactic(auto, unfolding(crate::specs::Text::kind_text))]

@@ -6,8 +6,9 @@ ghost use Rattle.mesh_canon_text.specs.Text.{agg_word, expr_here, expr_text, fun
 use crate::number_text::{put, put_number, put_text};
 use crate::value_text::{put_cell, type_word};
 use crate::written::Written;
-use mesh_base::{AggKind, Expr, Func, Op, Str, Var, When};
+use mesh_base::{AggKind, Expr, Func, Op, Var, When};
 use mesh_list::Memory;
+use mesh_values::Str;
 
 fn op_word(op: Op) -> &'static [u8]
     ensures { result.now ≡ op_word op }

@@ -4,8 +4,8 @@ ghost use Rattle.mesh_canon_text.specs.Text.{◌·◌, cell_text, column_text, r
 
 use crate::number_text::{put, put_signed, put_text};
 use crate::written::{Written, put_list};
-use mesh_base::{Cell, ColType, Column, Name, Row, Str};
 use mesh_list::Memory;
+use mesh_values::{Cell, ColType, Column, Name, Row, Str};
 
 impl Written for Str {
     ghost text = { text_of };

@@ -1,8 +1,8 @@
 // The files of a program's `data/` folder, which lies where it runs.
 use crate::trouble::Trouble;
-use mesh_base::Str;
 use mesh_io::{DirFolder, Folder};
 use mesh_list::Duplicate;
+use mesh_values::Str;
 use std::alloc::Global;
 
 /// The bytes of the largest file of cases.

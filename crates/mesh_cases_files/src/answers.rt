@@ -1,7 +1,7 @@
 // Columns, and faults of a file.
-use mesh_base::Column;
 use mesh_cases::{Trouble, kind_word};
 use mesh_tokens::{FaultKind, ReadFault};
+use mesh_values::Column;
 use std::alloc::Global;
 
 /// Adds a count, and the word of what is counted in front of it.

@@ -1,9 +1,9 @@
 // One call of an object at the outside, and what it answered.
 use crate::answers::put_count;
-use mesh_base::Str;
 use mesh_cases::{Trouble, front_word, number_of, shown};
 use mesh_io::{Clock, Folder, IoFail, Sink, Source};
 use mesh_list::Duplicate;
+use mesh_values::Str;
 use std::alloc::Global;
 
 fn put_bytes(report: &mut Vec<u8>, bytes: &[u8]) -> Result<(), Trouble> {

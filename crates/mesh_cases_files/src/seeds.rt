@@ -1,11 +1,11 @@
 // Files that are read: seeds beside their declared columns, and declarations of sources.
 use crate::answers::{put_column, put_count, put_fault};
 use crate::sources::{put_sources, put_sources_size};
-use mesh_base::{Column, Columns, Row, Str};
 use mesh_cases::{Trouble, front_word, kind_of, put_cell};
 use mesh_csv::{Seed, read_seed};
 use mesh_external::read_external;
 use mesh_list::{Duplicate, Seq};
+use mesh_values::{Column, Columns, Row, Str};
 use std::alloc::Global;
 
 /// The columns that are declared, and what stands in front of each file.

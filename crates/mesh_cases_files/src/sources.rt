@@ -1,7 +1,8 @@
 // What is printed of the sources that a file declares.
 use crate::answers::{put_column, put_count};
-use mesh_base::{Column, Decl, Externals};
+use mesh_base::{Decl, Externals};
 use mesh_cases::Trouble;
+use mesh_values::Column;
 use std::alloc::Global;
 
 fn is_time(source: &Decl, column: &Column) -> bool {

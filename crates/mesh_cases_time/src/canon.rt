@@ -1,9 +1,10 @@
 // Canonical texts: definitions, lists and nodes.
 use crate::near::are_told_apart;
-use mesh_base::{Name, Ref, Refs};
+use mesh_base::{Ref, Refs};
 use mesh_canon::{CanonFault, list_text, node_text, own_text, read_list, read_own};
 use mesh_cases::{Trouble, front_word, halves, put_number, shown};
 use mesh_list::{Duplicate, Seq};
+use mesh_values::Name;
 use std::alloc::Global;
 
 /// What came of reading a text, and of writing again what was read.

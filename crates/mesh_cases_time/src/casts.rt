@@ -1,8 +1,8 @@
 // Cells as another type, and the texts that are numbers and truths.
 use crate::times::put_found;
-use mesh_base::Cell;
 use mesh_cases::{Trouble, cell_of, front_word, kind_of, put_cell, shown};
 use mesh_casts::{cast, lower_case, number_named, truth_named};
+use mesh_values::Cell;
 use std::alloc::Global;
 
 fn put_truth(alloc: Global, text: &[u8], report: &mut Vec<u8>) -> Result<(), Trouble> {

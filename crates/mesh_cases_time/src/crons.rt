@@ -1,7 +1,7 @@
 // Crons and their ticks.
-use mesh_base::{Cron, CronFault, Unit};
 use mesh_cases::{Trouble, halves, number_of, put_number};
 use mesh_time::{floor, read_cron, ticks_at, unit_of};
+use mesh_values::{Cron, CronFault, Unit};
 use std::alloc::Global;
 
 /// The last second of 9999-12-31.

@@ -1,8 +1,8 @@
 // Ranges of seconds.
-use mesh_base::{Schedule, Spans, Unit};
 use mesh_cases::{Trouble, front_word, number_of, put_number};
 use mesh_list::{Duplicate, Same};
 use mesh_time::{END_OF_SECONDS, FIRST_SECOND, Ranges};
+use mesh_values::{Schedule, Spans, Unit};
 use std::alloc::Global;
 
 /// The ranges that the lines of a file change.

@@ -1,7 +1,7 @@
 // Days and moments.
 use mesh_cases::{Trouble, cell_of, number_of, put_number};
 use mesh_casts::is_day_number;
-use mesh_time::{day_of, day_text, moment_of, moment_text, time_value};
+use mesh_days::{day_of, day_text, moment_of, moment_text, time_value};
 use std::alloc::Global;
 
 /// Adds a number, or that there is none.

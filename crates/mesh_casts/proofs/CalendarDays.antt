@@ -11,12 +11,12 @@ use Rattle.jiff_core.specs.Date.{epoch_day}
 use Rattle.jiff_core.specs.declared.civil.date.Date.{Date}
 use Rattle.jiff_core.proofs.SignedLemmas.{signed_arith}
 use Rattle.mesh_list.proofs.Ascends.{and_left, and_right, and_both}
-use Rattle.mesh_base.specs.Names.{text_cmp}
-use Rattle.mesh_base.specs.NameOrder.{texts_total}
-use Rattle.mesh_base.specs.Picked.{same_text}
-use Rattle.mesh_time.specs.Moments.{date_text, IsDayText}
-use Rattle.mesh_time.proofs.TextLaws.{date_parts}
-use Rattle.mesh_meaning.specs.Dates.{number_at, is_day, day_form, day_if, day_named}
+use Rattle.mesh_values.specs.Names.{text_cmp}
+use Rattle.mesh_values.specs.NameOrder.{texts_total}
+use Rattle.mesh_values.specs.Picked.{same_text}
+use Rattle.mesh_days.specs.Moments.{date_text, IsDayText}
+use Rattle.mesh_days.proofs.TextLaws.{date_parts}
+use Rattle.mesh_casts.specs.Dates.{number_at, is_day, day_form, day_if, day_named}
 
 same_itself : (a : List ℕ) → same_text a a ≡ true
 same_itself a = (Equal-is (text_cmp a a)).1 (tied_itself texts_total a)

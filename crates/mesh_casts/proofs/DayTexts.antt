@@ -9,8 +9,8 @@ use Rattle.jiff_core.proofs.SignedLemmas.{signed_arith, unsigned_abs-parts, one_
 use Rattle.jiff_core.proofs.CalendarLemmas.{days_from_civil-day_count, days_in_month_bounds}
 use Rattle.jiff_core.proofs.MarchLemmas.{day_count-early}
 use Rattle.jiff_core.proofs.DateLemmas.{epoch_day_injective, days_from_civil-day, days_from_civil-next_month, days_from_civil-next_year, days_from_civil-max}
-use Rattle.mesh_time.specs.Moments.{IsDayNumber, IsDayText}
-use Rattle.mesh_meaning.specs.Dates.{Civil, next_day, day_after, civil_text, day_form, day_text, is_day_number}
+use Rattle.mesh_days.specs.Moments.{IsDayNumber, IsDayText}
+use Rattle.mesh_casts.specs.Dates.{Civil, next_day, day_after, civil_text, day_form, day_text, is_day_number}
 use Rattle.mesh_casts.proofs.CalendarDays.{form_is}
 
 -- a day of the calendar, and how many days after 0001-01-01 it is

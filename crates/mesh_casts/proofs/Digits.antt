@@ -3,7 +3,7 @@ use Rattle.std.proofs.Common.{◌≡◌, ℕ, ◌+◌, ◌-◌, ◌*◌, ◌/◌
 use Rattle.std.proofs.lemmas.List.{drop_all}
 use borrow.Author.Tests.{lt-leb}
 use Rattle.std.specs.Char.{is_ascii_digit}
-use Rattle.mesh_meaning.specs.Casts.{at_most, digits_after}
+use Rattle.mesh_casts.specs.Casts.{at_most, digits_after}
 
 -- further digits make no number less
 pub past_limit : (most n : ℕ) (bs : List ℕ) → most < n → at_most most (digits_after n bs) ≡ None

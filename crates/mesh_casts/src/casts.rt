@@ -2,13 +2,13 @@
 ghost use Rattle.std.specs.Prelude.{◌≡◌, ◌≤◌, ◌^◌, IfOk, codes, map};
 ghost use Rattle.std.specs.Fmt.{signed_decimal};
 ghost use Rattle.std.specs.Char.{to_ascii_lowercase};
-ghost use Rattle.mesh_base.specs.Picked.{same_text};
-ghost use Rattle.mesh_meaning.specs.Dates.{day_named, day_text};
-ghost use Rattle.mesh_meaning.specs.Casts.{at_most, digits_after, digits_up_to, below_zero, number_named, truth_of_small, truth_named, truth_text, cast_to_int, cast_to_text, cast_to_date, cast_to_bool, cast_value};
+ghost use Rattle.mesh_values.specs.Picked.{same_text};
+ghost use Rattle.mesh_casts.specs.Dates.{day_named, day_text};
+ghost use Rattle.mesh_casts.specs.Casts.{at_most, digits_after, digits_up_to, below_zero, number_named, truth_of_small, truth_named, truth_text, cast_to_int, cast_to_text, cast_to_date, cast_to_bool, cast_value};
 
 use crate::days::{day_named, day_written, is_day_number};
-use mesh_base::{Cell, ColType, Str};
 use mesh_list::{Memory, Seq};
+use mesh_values::{Cell, ColType, Str};
 use std::alloc::Global;
 
 fn digits_within(text: &[u8], most: u64) -> Option<u64>

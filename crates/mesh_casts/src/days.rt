@@ -1,13 +1,13 @@
 // Days and their texts, as functions of one another.
 ghost use Rattle.std.specs.Prelude.{◌≡◌, IsTrue};
-ghost use Rattle.mesh_time.specs.Moments.{IsDayNumber};
-ghost use Rattle.mesh_meaning.specs.Dates.{day_named, day_text, is_day_number};
+ghost use Rattle.mesh_days.specs.Moments.{IsDayNumber};
+ghost use Rattle.mesh_casts.specs.Dates.{day_named, day_text, is_day_number};
 
 /// The day that a text `YYYY-MM-DD` is, counted from 1970-01-01.
 pub fn day_named(text: &[u8]) -> Option<i32>
     ensures { result ≡ day_named text.now }
 {
-    mesh_time::day_of(text)
+    mesh_days::day_of(text)
 }
 
 /// The text `YYYY-MM-DD` of a day.
@@ -15,7 +15,7 @@ pub(crate) fn day_written(day: i32) -> [u8; 10]
     requires { IsDayNumber day }
     ensures { result ≡ day_text day }
 {
-    mesh_time::day_text(day)
+    mesh_days::day_text(day)
 }
 
 /// Whether a number is that of a day from 0001-01-01 to 9999-12-31.

@@ -1,5 +1,5 @@
-//! Cells as another type, and the numbers, truths and days that texts are. Its contract: each call is its definition in
-//! `mesh_meaning`. It stands on `mesh_list`, `mesh_base`, `mesh_time`, `mesh_meaning` and `itoa`.
+//! Cells as another type, and the numbers, truths and days that texts are. Its contract: each call is its definition,
+//! in `Dates` and `Casts`. It stands on `mesh_values`, `mesh_days` and `itoa`.
 #![tactic(auto)]
 
 mod casts;

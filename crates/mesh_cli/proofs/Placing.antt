@@ -3,10 +3,10 @@ use Rattle.std.proofs.Common.{◌≡◌, ℕ, zero, suc, ◌+◌, ◌<◌, Bool,
 use Rattle.std.proofs.lemmas.List.{take_more, map-append}
 use Rattle.std.specs.declared.option.Option.{Option}
 use Rattle.std.specs.Option.{option_map}
-use Rattle.mesh_base.specs.declared.values.Cell.{Cell}
-use Rattle.mesh_base.specs.declared.values.Cell.TheVariants.{Null}
-use Rattle.mesh_base.specs.declared.values.Column.{Column}
-use Rattle.mesh_base.specs.Picked.{same_text, cell_of, picked_row, picked_rows}
+use Rattle.mesh_values.specs.declared.values.Cell.{Cell}
+use Rattle.mesh_values.specs.declared.values.Cell.TheVariants.{Null}
+use Rattle.mesh_values.specs.declared.values.Column.{Column}
+use Rattle.mesh_values.specs.Picked.{same_text, cell_of, picked_row, picked_rows}
 use Rattle.mesh_cli.specs.Places.{place_of, places_of, cell_at, row_at, rows_at}
 
 cell_at-empty : (place : Option ℕ) → cell_at [] place ≡ Null

@@ -5,9 +5,9 @@ use Rattle.std.specs.Ordering.{is_eq}
 use Rattle.std.specs.Cmp.{Equal-is, both_ways}
 use Rattle.std.proofs.lemmas.List.{append_cancel_left}
 use Rattle.std.proofs.lemmas.Cmp.{tied_itself}
-use Rattle.mesh_base.specs.declared.values.Name.{Name}
-use Rattle.mesh_base.specs.Names.{name_cmp, has_two_underscores}
-use Rattle.mesh_base.specs.NameOrder.{names_total, names_exact}
+use Rattle.mesh_values.specs.declared.values.Name.{Name}
+use Rattle.mesh_values.specs.Names.{name_cmp, has_two_underscores}
+use Rattle.mesh_values.specs.NameOrder.{names_total, names_exact}
 use Rattle.mesh_cli.specs.Apply.{table_of}
 
 pub table_is_physical : (n : Name) → has_two_underscores (table_of n).schema ≡ true

@@ -3,7 +3,7 @@ use Rattle.std.specs.Prelude.{◌≡◌, ℕ, Bool, false, List, [], ◌∷◌, 
 use Rattle.std.specs.declared.option.Option.{Option}
 use Rattle.std.specs.Option.{ForSome, option_map}
 use Rattle.mesh_base.specs.declared.models.Model.{Model}
-use Rattle.mesh_base.specs.Picked.{same_text}
+use Rattle.mesh_values.specs.Picked.{same_text}
 use Rattle.mesh_io.specs.declared.files.File.{File}
 use Rattle.mesh_io.specs.Told.{SinkTold}
 use Rattle.mesh_fault_text.specs.Lines.{fault_line}

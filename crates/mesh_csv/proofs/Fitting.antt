@@ -8,13 +8,13 @@ use Rattle.std.specs.declared.option.Option.TheVariants.{None, Some}
 use borrow.Author.Tests.{eqb-true}
 use Rattle.csv.specs.Reading.{default_config, records, strip_bom}
 use Rattle.mesh_list.proofs.Ascends.{and_both}
-use Rattle.mesh_base.specs.declared.values.Cell.TheVariants.{Int as Number, Date as Day, Bool as Truth}
-use Rattle.mesh_base.specs.declared.values.Column.{Column}
-use Rattle.mesh_base.specs.declared.values.ColType.{ColType}
-use Rattle.mesh_base.specs.declared.values.ColType.TheVariants.{Int, Text, Date, Bool as Logical}
+use Rattle.mesh_values.specs.declared.values.Cell.TheVariants.{Int as Number, Date as Day, Bool as Truth}
+use Rattle.mesh_values.specs.declared.values.Column.{Column}
+use Rattle.mesh_values.specs.declared.values.ColType.{ColType}
+use Rattle.mesh_values.specs.declared.values.ColType.TheVariants.{Int, Text, Date, Bool as Logical}
 use Rattle.mesh_tokens.specs.declared.faults.ReadFault.{ReadFault}
-use Rattle.mesh_meaning.specs.Casts.{number_named, truth_named}
-use Rattle.mesh_meaning.specs.Dates.{day_named}
+use Rattle.mesh_casts.specs.Casts.{number_named, truth_named}
+use Rattle.mesh_casts.specs.Dates.{day_named}
 use Rattle.mesh_csv.specs.declared.seed.Seed.{Seed}
 use Rattle.mesh_csv.specs.Cells.{Record, value_of, cell_of, row_of, or_null}
 use Rattle.mesh_csv.specs.Fits.{is_of, fits}

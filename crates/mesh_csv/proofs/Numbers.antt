@@ -6,10 +6,10 @@ use Rattle.std.specs.declared.option.Option.{Option}
 use Rattle.std.specs.declared.option.Option.TheVariants.{None, Some}
 use Rattle.csv.specs.Reading.{default_config, records, strip_bom}
 use Rattle.mesh_list.proofs.Ascends.{and_left, and_right, and_both}
-use Rattle.mesh_base.specs.declared.values.Cell.TheVariants.{Int as Number}
-use Rattle.mesh_base.specs.declared.values.ColType.{ColType}
-use Rattle.mesh_base.specs.declared.values.ColType.TheVariants.{Int, Text, Date}
-use Rattle.mesh_meaning.specs.Casts.{number_named}
+use Rattle.mesh_values.specs.declared.values.Cell.TheVariants.{Int as Number}
+use Rattle.mesh_values.specs.declared.values.ColType.{ColType}
+use Rattle.mesh_values.specs.declared.values.ColType.TheVariants.{Int, Text, Date}
+use Rattle.mesh_casts.specs.Casts.{number_named}
 use Rattle.mesh_csv.specs.declared.seed.Seed.{Seed}
 use Rattle.mesh_csv.specs.Cells.{Record, is_filled, is_read, cell_of, row_of, field, is_used, are_read, kind_found, or_null}
 use Rattle.mesh_csv.specs.Fits.{is_of, kind_at, cell_at, is_number, are_numbers}

@@ -5,12 +5,12 @@ use Rattle.std.specs.Option.{option_map, is_some, unwrap_or}
 use Rattle.std.specs.Str.Lossy.{utf8_valid_len}
 use Rattle.std.specs.declared.option.Option.{Option}
 use Rattle.std.specs.declared.option.Option.TheVariants.{None, Some}
-use Rattle.mesh_base.specs.declared.values.Cell.{Cell}
-use Rattle.mesh_base.specs.declared.values.Cell.TheVariants.{Null, Int as Number, Text as Words, Date as Day, Bool as Truth}
-use Rattle.mesh_base.specs.declared.values.ColType.{ColType}
-use Rattle.mesh_base.specs.declared.values.ColType.TheVariants.{Int, Text, Date, Bool as Logical}
-use Rattle.mesh_meaning.specs.Casts.{number_named, truth_named}
-use Rattle.mesh_meaning.specs.Dates.{day_named}
+use Rattle.mesh_values.specs.declared.values.Cell.{Cell}
+use Rattle.mesh_values.specs.declared.values.Cell.TheVariants.{Null, Int as Number, Text as Words, Date as Day, Bool as Truth}
+use Rattle.mesh_values.specs.declared.values.ColType.{ColType}
+use Rattle.mesh_values.specs.declared.values.ColType.TheVariants.{Int, Text, Date, Bool as Logical}
+use Rattle.mesh_casts.specs.Casts.{number_named, truth_named}
+use Rattle.mesh_casts.specs.Dates.{day_named}
 
 abbrev pub Record : Type 0
 Record = List (List ℕ)

@@ -4,8 +4,8 @@ use Rattle.std.specs.Char.{to_ascii_lowercase}
 use Rattle.std.specs.List.{list_any}
 use Rattle.std.specs.declared.option.Option.{Option}
 use Rattle.std.specs.declared.option.Option.TheVariants.{None, Some}
-use Rattle.mesh_base.specs.Names.{is_identifier}
-use Rattle.mesh_base.specs.Picked.{same_text}
+use Rattle.mesh_values.specs.Names.{is_identifier}
+use Rattle.mesh_values.specs.Picked.{same_text}
 use Rattle.mesh_tokens.specs.declared.faults.FaultKind.TheVariants.{BadRow, TooLarge}
 use Rattle.mesh_tokens.specs.declared.faults.ReadFault.{ReadFault}
 use Rattle.mesh_tokens.specs.declared.faults.ReadFault.TheVariants.{Fault}

@@ -5,10 +5,10 @@ use Rattle.std.specs.Option.{option_map, is_some, unwrap_or}
 use Rattle.std.specs.declared.option.Option.{Option}
 use Rattle.std.specs.declared.option.Option.TheVariants.{None, Some}
 use Rattle.csv.specs.Reading.{default_config, records, strip_bom}
-use Rattle.mesh_base.specs.declared.values.Column.{Column}
-use Rattle.mesh_base.specs.declared.values.ColType.{ColType}
-use Rattle.mesh_base.specs.declared.values.ColType.TheVariants as type
-use Rattle.mesh_base.specs.Picked.{same_text}
+use Rattle.mesh_values.specs.declared.values.Column.{Column}
+use Rattle.mesh_values.specs.declared.values.ColType.{ColType}
+use Rattle.mesh_values.specs.declared.values.ColType.TheVariants as type
+use Rattle.mesh_values.specs.Picked.{same_text}
 use Rattle.mesh_tokens.specs.declared.faults.ReadFault.{ReadFault}
 use Rattle.mesh_csv.specs.declared.seed.Seed.{Seed}
 use Rattle.mesh_csv.specs.Cells.{Record, is_read, row_of, kind_found}

@@ -2,9 +2,9 @@
 ghost use Rattle.std.specs.Prelude.{◌≡◌, IfOk, MatchOption};
 ghost use Rattle.mesh_csv.specs.Cells.{is_utf8, is_filled, is_empty_text, has_value, is_read, value_of, cell_of};
 
-use mesh_base::{Cell, ColType};
 use mesh_casts::{day_named, number_named, truth_named};
 use mesh_list::{Duplicate, Memory};
+use mesh_values::{Cell, ColType};
 use std::alloc::Global;
 
 fn is_utf8(bytes: &[u8]) -> bool

@@ -1,13 +1,13 @@
 // The names of a header.
 ghost use Rattle.std.specs.Prelude.{◌≡◌, ◌+◌, ◌++◌, ◌∷◌, [], IfOk, MatchOption, length, drop, Result, Ok, Err};
-ghost use Rattle.mesh_base.specs.Picked.{same_text};
+ghost use Rattle.mesh_values.specs.Picked.{same_text};
 ghost use Rattle.mesh_csv.specs.Headers.{bad_row, long_name, many_columns, lowered, is_among, name_fault, names_fault, header_fault, header_names};
 
 use crate::records::Record;
-use mesh_base::{LONGEST_NAME, MOST_COLUMNS, Str, Strs, is_identifier};
 use mesh_casts::lower_case;
 use mesh_list::{Duplicate, Memory, Seq};
 use mesh_tokens::{FaultKind, ReadFault};
+use mesh_values::{LONGEST_NAME, MOST_COLUMNS, Str, Strs, is_identifier};
 use std::alloc::Global;
 
 /// Field `field` of record `row`, both from 1, breaks a rule, or the record's shape does where `field` is 0.

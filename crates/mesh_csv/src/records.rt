@@ -10,7 +10,7 @@ use std::alloc::Global;
 use std::marker::Model;
 
 /// A record, which contracts see as the list of its fields.
-#[derive(Debug, Drop)]
+#[derive(Drop)]
 pub struct Record {
     fields: ByteRecord,
 }

@@ -6,9 +6,9 @@ ghost use Rattle.mesh_csv.specs.Seeds.{unread_field, record_fault, records_fault
 use crate::fields::{cell_of, is_read};
 use crate::header::bad_row;
 use crate::records::Record;
-use mesh_base::{ColType, Row, Rows};
 use mesh_list::{Memory, Seq};
 use mesh_tokens::ReadFault;
+use mesh_values::{ColType, Row, Rows};
 use std::alloc::Global;
 
 // The first field, from 1, that isn't read as its column's type.

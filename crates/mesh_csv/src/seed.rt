@@ -1,7 +1,7 @@
 // A seed's file.
 ghost use Rattle.std.specs.Prelude.{◌≡◌, IfOk};
 ghost use Rattle.std.specs.Option.{option_copied};
-ghost use Rattle.mesh_base.specs.Picked.{same_text};
+ghost use Rattle.mesh_values.specs.Picked.{same_text};
 ghost use Rattle.mesh_tokens.specs.Gives.{Gives};
 ghost use Rattle.mesh_csv.specs.Seeds.{declared, declared_kind, are_declared, shape_fault, kinds_found, kinds_declared, kinds, column, columns_of, seed_under, seed_of, seed_text};
 
@@ -9,13 +9,13 @@ use crate::header::{bad_row, header_fault, header_names};
 use crate::records::{Record, records_of};
 use crate::rows::{records_fault, rows_of};
 use crate::types::kind_found;
-use mesh_base::{ColType, Column, Columns, Rows, Str, Strs};
 use mesh_list::{Duplicate, Memory, Seq};
 use mesh_tokens::ReadFault;
+use mesh_values::{ColType, Column, Columns, Rows, Str, Strs};
 use std::alloc::Global;
 
 /// The columns and the rows of a seed.
-#[derive(Debug, Drop, PartialEq, Eq)]
+#[derive(Drop, PartialEq, Eq)]
 pub struct Seed {
     pub columns: Columns,
     pub rows: Rows,

@@ -4,8 +4,8 @@ ghost use Rattle.mesh_csv.specs.Cells.{is_used, are_read, kind_found};
 
 use crate::fields::{is_filled, is_read};
 use crate::records::Record;
-use mesh_base::ColType;
 use mesh_list::Memory;
+use mesh_values::ColType;
 use std::alloc::Global;
 
 fn is_used(column: usize, records: &[Record]) -> bool

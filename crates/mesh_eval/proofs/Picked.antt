@@ -2,10 +2,10 @@
 use Rattle.std.proofs.Common.{◌≡◌, ℕ, zero, suc, ◌+◌, ◌<◌, Bool, true, false, cond, not, List, [], ◌∷◌, ◌++◌, map, length, take, get_or, refl, sym, ap, ap₂, ◌∙◌, arith}
 use Rattle.std.specs.List.{filter, flat_map, list_any, range_with_len}
 use Rattle.std.proofs.lemmas.List.{append-nil, take_more, get_or_read}
-use Rattle.mesh_base.specs.declared.values.Cell.{Cell}
+use Rattle.mesh_values.specs.declared.values.Cell.{Cell}
 use Rattle.mesh_meaning.specs.Aggregates.{distinct}
-use Rattle.mesh_base.specs.declared.times.Bounds.{Bounds}
-use Rattle.mesh_base.specs.declared.values.Column.{Column}
+use Rattle.mesh_values.specs.declared.times.Bounds.{Bounds}
+use Rattle.mesh_values.specs.declared.values.Column.{Column}
 use Rattle.mesh_base.specs.declared.queries.Select.{Select}
 use Rattle.mesh_meaning.specs.Sel.{Joined, same_row, key_list, group_of, group_row}
 use Rattle.mesh_index.specs.Places.{places, places_from}

@@ -1,9 +1,9 @@
 -- A row's cell in the column of a name, where the columns before it have other names.
 use Rattle.std.proofs.Common.{◌≡◌, ℕ, zero, suc, ◌<◌, Bool, true, false, cond, List, [], ◌∷◌, length, drop, get_or, slice_get, refl, sym, ◌∙◌, ap, arith}
-use Rattle.mesh_base.specs.declared.values.Cell.{Cell}
-use Rattle.mesh_base.specs.declared.values.Cell.TheVariants.{Null}
-use Rattle.mesh_base.specs.declared.values.Column.{Column}
-use Rattle.mesh_base.specs.Picked.{same_text, cell_of}
+use Rattle.mesh_values.specs.declared.values.Cell.{Cell}
+use Rattle.mesh_values.specs.declared.values.Cell.TheVariants.{Null}
+use Rattle.mesh_values.specs.declared.values.Column.{Column}
+use Rattle.mesh_values.specs.Picked.{same_text, cell_of}
 use Rattle.mesh_eval.specs.Frames.{cell_or_null}
 
 pub cell_of-none : (cs : List Column) (name : List ℕ) → cell_of cs [] name ≡ Null

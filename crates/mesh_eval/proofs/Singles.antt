@@ -5,8 +5,8 @@ use Rattle.std.specs.Ordering.{is_eq, ordering_then}
 use Rattle.std.specs.declared.cmp.Ordering.{Ordering}
 use Rattle.std.specs.declared.cmp.Ordering.TheVariants.{Less, Equal, Greater}
 use Rattle.std.proofs.lemmas.List.{length-map}
-use Rattle.mesh_base.specs.declared.values.Cell.{Cell}
-use Rattle.mesh_base.specs.Order.{cell_order}
+use Rattle.mesh_values.specs.declared.values.Cell.{Cell}
+use Rattle.mesh_values.specs.Order.{cell_order}
 use Rattle.mesh_meaning.specs.Aggregates.{distinct, same_cell}
 use Rattle.mesh_meaning.specs.Sel.{same_row}
 

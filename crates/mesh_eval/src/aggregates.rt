@@ -4,9 +4,10 @@ ghost use Rattle.std.specs.List.{fold, list_any};
 ghost use Rattle.mesh_meaning.specs.Aggregates.{distinct, same_cell, known, is_number, addend, total, smaller, larger, agg_value};
 
 use crate::cells::is_null;
-use mesh_base::{AggKind, Cell, Row, Rows, cell_cmp};
+use mesh_base::AggKind;
 use mesh_index::distinct_rows;
 use mesh_list::{Duplicate, Memory};
+use mesh_values::{Cell, Row, Rows, cell_cmp};
 
 pub(crate) fn aggregate(kind: AggKind, cells: &Row) -> Result<Cell, Memory>
     ensures { IfOk result (λ v. v ≡ agg_value kind cells.now) }

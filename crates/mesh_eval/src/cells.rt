@@ -2,14 +2,15 @@
 ghost use Rattle.std.specs.Prelude.{◌≡◌, IsTrue, pos, ◌+ℤ◌, ◌-ℤ◌, ◌*ℤ◌, neg_ℤ, int_div, int_rem, unsigned_abs, ◌++◌, [], ◌∷◌, map, IfOk, count_by};
 ghost use Rattle.std.specs.Char.{to_ascii_uppercase, to_ascii_lowercase};
 ghost use Rattle.std.specs.Ordering.{is_eq};
-ghost use Rattle.mesh_time.specs.Moments.{IsDayNumber};
-ghost use Rattle.mesh_meaning.specs.Dates.{is_day_number};
+ghost use Rattle.mesh_days.specs.Moments.{IsDayNumber};
+ghost use Rattle.mesh_casts.specs.Dates.{is_day_number};
 ghost use Rattle.std.specs.List.{list_any};
 ghost use Rattle.mesh_meaning.specs.Cells.{compared, compared_by, is_null, is_true, number, day, plus, minus, product, quotient, remainder, joined, comparison, both, either, opposite, negative, op_value, between, starts_character, func_value, coalesce};
 
-use mesh_base::{Cell, Func, Op, Row, Str};
+use mesh_base::{Func, Op};
 use mesh_casts::{is_day_number, lower_case};
 use mesh_list::{Duplicate, Memory};
+use mesh_values::{Cell, Row, Str};
 use std::cmp::Ordering;
 
 pub(crate) fn is_null(x: &Cell) -> bool

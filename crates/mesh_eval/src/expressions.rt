@@ -12,9 +12,10 @@ use crate::aggregates::aggregate;
 use crate::cells::{call, equal, is_null, is_true, lies_between, negate, not, operate, or};
 use crate::frames::{Frame, Members, cell_at, column};
 use crate::macros::bound;
-use mesh_base::{AggKind, Bounds, Cell, Columns, Expr, Func, Item, Row, When};
+use mesh_base::{AggKind, Expr, Func, Item, When};
 use mesh_casts::cast;
 use mesh_list::{Duplicate, Memory};
+use mesh_values::{Bounds, Cell, Columns, Row};
 use std::alloc::Global;
 
 #[tactic(auto, using(mesh_meaning::proofs::Nodes::Ev_out))]

@@ -1,14 +1,15 @@
 // What an expression sees.
 ghost use Rattle.std.specs.Prelude.{◌≡◌, IfOk, slice_get, slice_index_or, []};
 ghost use Rattle.std.specs.Option.{option_copied};
-ghost use Rattle.mesh_base.specs.Picked.{same_text, cell_of};
+ghost use Rattle.mesh_values.specs.Picked.{same_text, cell_of};
 ghost use Rattle.mesh_meaning.specs.Ev.{seen};
 ghost use Rattle.mesh_eval.specs.Frames.{cell_or_null};
 ghost use Rattle.mesh_eval.specs.Joined.{shown};
 
 use crate::joined::JoinedRows;
-use mesh_base::{Bounds, Cell, Column, Columns, Expr, Str};
+use mesh_base::Expr;
 use mesh_list::{Duplicate, Memory};
+use mesh_values::{Bounds, Cell, Column, Columns, Str};
 
 /// The rows of a group, by their places among all.
 #[derive(Clone, Copy)]

@@ -10,9 +10,10 @@ use crate::expressions::{ev, item_row, key_list};
 use crate::frames::{Frame, Members};
 use crate::joined::JoinedRows;
 use crate::lists::append;
-use mesh_base::{Bounds, Cell, Columns, Expr, Rows, Select};
+use mesh_base::{Expr, Select};
 use mesh_index::Index;
 use mesh_list::Memory;
+use mesh_values::{Bounds, Cell, Columns, Rows};
 use std::alloc::Global;
 
 fn holds(alloc: Global, condition: &Option<Expr>, f: &Frame) -> Result<bool, Memory>

@@ -4,9 +4,10 @@ ghost use Rattle.mesh_meaning.specs.Cells.{number};
 ghost use Rattle.mesh_meaning.specs.Macros.{macro_value, day_of_second, last_second};
 
 use crate::cells::day_of;
-use mesh_base::{Bounds, Cell, ColType, Var};
+use mesh_base::Var;
 use mesh_casts::cast;
 use mesh_list::Memory;
+use mesh_values::{Bounds, Cell, ColType};
 use std::alloc::Global;
 
 fn day_of_second(t: i64) -> Cell

@@ -14,12 +14,12 @@ use Rattle.csv.specs.Reading.{default_config, records, strip_bom}
 use Rattle.mesh_list.proofs.Ascends.{and_left, and_right, and_both, ascends-placed}
 use Rattle.mesh_list.proofs.Standing.{ascends-without}
 use Rattle.mesh_list.specs.Keyed.{found, put_by, placed, without, ascends}
-use Rattle.mesh_base.specs.NameOrder.{texts_total, names_total}
-use Rattle.mesh_base.specs.Names.{name_cmp, text_cmp, is_identifier}
-use Rattle.mesh_base.specs.Picked.{same_text}
+use Rattle.mesh_values.specs.NameOrder.{texts_total, names_total}
+use Rattle.mesh_values.specs.Names.{name_cmp, text_cmp, is_identifier}
+use Rattle.mesh_values.specs.Picked.{same_text}
 use Rattle.mesh_base.specs.declared.definitions.Decl.{Decl}
-use Rattle.mesh_base.specs.declared.values.Column.{Column}
-use Rattle.mesh_base.specs.declared.values.Name.{Name}
+use Rattle.mesh_values.specs.declared.values.Column.{Column}
+use Rattle.mesh_values.specs.declared.values.Name.{Name}
 use Rattle.mesh_tokens.specs.Gives.{◌>>=◌}
 use Rattle.mesh_tokens.specs.declared.faults.ReadFault.{ReadFault}
 use Rattle.mesh_csv.specs.Cells.{Record, field}

@@ -8,12 +8,12 @@ use Rattle.std.specs.declared.option.Option.{Option}
 use Rattle.std.specs.declared.option.Option.TheVariants.{None, Some}
 use Rattle.csv.specs.Reading.{default_config, records, strip_bom}
 use Rattle.mesh_list.specs.Keyed.{found, placed, without}
-use Rattle.mesh_base.specs.Names.{is_identifier, is_schema, name_cmp}
-use Rattle.mesh_base.specs.Picked.{same_text}
+use Rattle.mesh_values.specs.Names.{is_identifier, is_schema, name_cmp}
+use Rattle.mesh_values.specs.Picked.{same_text}
 use Rattle.mesh_base.specs.declared.definitions.Decl.{Decl}
-use Rattle.mesh_base.specs.declared.values.Column.{Column}
-use Rattle.mesh_base.specs.declared.values.ColType.{ColType}
-use Rattle.mesh_base.specs.declared.values.Name.{Name}
+use Rattle.mesh_values.specs.declared.values.Column.{Column}
+use Rattle.mesh_values.specs.declared.values.ColType.{ColType}
+use Rattle.mesh_values.specs.declared.values.Name.{Name}
 use Rattle.mesh_grammar.specs.Words.{type_of}
 use Rattle.mesh_tokens.specs.Gives.{◌>>=◌}
 use Rattle.mesh_tokens.specs.Text.{file_word, largest_file}

@@ -3,7 +3,7 @@ use Rattle.std.specs.Prelude.{Bool, true, ◌&&◌, not, List, [], ◌∷◌, �
 use Rattle.std.specs.declared.option.Option.{Option}
 use Rattle.std.specs.declared.option.Option.TheVariants.{None, Some}
 use Rattle.mesh_base.specs.declared.definitions.Decl.{Decl}
-use Rattle.mesh_base.specs.declared.values.Column.{Column}
+use Rattle.mesh_values.specs.declared.values.Column.{Column}
 use Rattle.mesh_external.specs.Externals.{has_column}
 
 -- none of the columns has the name of one in front of it, where these stand in front of all

@@ -3,11 +3,12 @@ ghost use Rattle.std.specs.Prelude.{◌≡◌, ◌++◌, ◌∷◌, [], IfOk};
 ghost use Rattle.mesh_tokens.specs.Gives.{Gives};
 ghost use Rattle.mesh_external.specs.Externals.{has_column, column_name, column_type, time_of, grown};
 
-use mesh_base::{ColType, Column, Columns, Decl, LONGEST_NAME, MOST_COLUMNS, Str, is_identifier};
+use mesh_base::Decl;
 use mesh_casts::lower_case;
 use mesh_csv::{bad_row, long_name, many_columns};
 use mesh_list::{Duplicate, Memory};
 use mesh_tokens::ReadFault;
+use mesh_values::{ColType, Column, Columns, LONGEST_NAME, MOST_COLUMNS, Str, is_identifier};
 use mesh_words::{is_same, type_of};
 use std::alloc::Global;
 

@@ -1,7 +1,7 @@
 // What holds of every list of sources that is read.
 ghost use Rattle.std.specs.Prelude.{◌≡◌, ℕ, List, true, Result, Ok};
 ghost use Rattle.std.specs.List.{list_all};
-ghost use Rattle.mesh_base.specs.Names.{name_cmp};
+ghost use Rattle.mesh_values.specs.Names.{name_cmp};
 ghost use Rattle.mesh_base.specs.declared.definitions.Decl.{Decl};
 ghost use Rattle.mesh_list.specs.Keyed.{ascends};
 ghost use Rattle.mesh_external.specs.Externals.{decl_name, external_text};

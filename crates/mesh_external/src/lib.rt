@@ -1,7 +1,8 @@
 //! The file that declares the sources, which no model makes: CSV (RFC 4180, as `csv` reads it) under the header
 //! `name,column,type,role`, with a record for each column of a source. Its contract: `read_external` gives exactly what
 //! the definition `external_text` says of the file, the sources ascending by name or its first fault. It stands on
-//! `mesh_list`, `mesh_base`, `mesh_casts`, `mesh_words` for types, `mesh_tokens` for faults, and `mesh_csv`.
+//! `mesh_list`, `mesh_values`, `mesh_base`, `mesh_casts`, `mesh_words` for types, `mesh_tokens` for faults, and
+//! `mesh_csv`.
 #![tactic(auto)]
 
 mod columns;

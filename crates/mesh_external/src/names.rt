@@ -4,11 +4,11 @@ ghost use Rattle.mesh_tokens.specs.Gives.{Gives};
 ghost use Rattle.mesh_csv.specs.Headers.{lowered};
 ghost use Rattle.mesh_external.specs.Externals.{point_len, source_named, two_parts, source_name};
 
-use mesh_base::{LONGEST_NAME, Name, is_identifier, is_schema};
 use mesh_casts::lower_case;
 use mesh_csv::{bad_row, long_name};
 use mesh_list::Memory;
 use mesh_tokens::ReadFault;
+use mesh_values::{LONGEST_NAME, Name, is_identifier, is_schema};
 use std::alloc::Global;
 
 fn point_len(field: &[u8]) -> usize

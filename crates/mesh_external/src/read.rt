@@ -4,10 +4,11 @@ ghost use Rattle.mesh_tokens.specs.Gives.{Gives};
 ghost use Rattle.mesh_external.specs.Externals.{are_words, words_fault, shape_fault, declare_all, external_of, large_file, external_text};
 
 use crate::sources::{Sources, declare, listed};
-use mesh_base::{Externals, LARGEST_FILE, Str};
+use mesh_base::Externals;
 use mesh_csv::{Record, bad_row, header_fault, header_names, records_of};
 use mesh_list::{Duplicate, Memory, Register};
 use mesh_tokens::{FaultKind, ReadFault};
+use mesh_values::{LARGEST_FILE, Str};
 use mesh_words::is_same;
 use std::alloc::Global;
 

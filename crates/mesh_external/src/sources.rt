@@ -2,22 +2,23 @@
 ghost use Rattle.std.specs.Prelude.{◌≡◌, IfOk};
 ghost use Rattle.std.specs.Option.{unwrap_or};
 ghost use Rattle.mesh_tokens.specs.Gives.{Gives};
-ghost use Rattle.mesh_base.specs.Names.{name_cmp};
-ghost use Rattle.mesh_base.specs.NameOrder.{names_total, names_exact};
+ghost use Rattle.mesh_values.specs.Names.{name_cmp};
+ghost use Rattle.mesh_values.specs.NameOrder.{names_total, names_exact};
 ghost use Rattle.mesh_external.specs.Externals.{decl_name, undeclared, declare};
 
 use crate::columns::grown;
 use crate::names::source_name;
-use mesh_base::{Decl, Externals, Name};
+use mesh_base::{Decl, Externals};
 use mesh_csv::{Record, bad_row};
 use mesh_list::{Duplicate, Keyed, Memory, Register, Seq};
 use mesh_tokens::ReadFault;
+use mesh_values::Name;
 use std::alloc::Global;
 use std::cmp::Ordering;
 use std::marker::Model;
 
 /// A source, which contracts see as its declaration.
-#[derive(Debug, Drop)]
+#[derive(Drop)]
 pub(crate) struct Source {
     decl: Decl,
 }

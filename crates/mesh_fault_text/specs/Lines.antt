@@ -3,9 +3,9 @@ use Rattle.std.specs.Prelude.{ℕ, List, [], ◌∷◌, ◌++◌, codes}
 use Rattle.std.specs.Fmt.{decimal}
 use Rattle.std.specs.List.{flat_map}
 use Rattle.hex.specs.Hex.{encode_lower}
-use Rattle.mesh_base.specs.declared.crons.CronFault.{CronFault}
-use Rattle.mesh_base.specs.declared.crons.CronFault.TheVariants.{BadField, TooFine, NoTick}
-use Rattle.mesh_base.specs.declared.values.Name.{Name}
+use Rattle.mesh_values.specs.declared.crons.CronFault.{CronFault}
+use Rattle.mesh_values.specs.declared.crons.CronFault.TheVariants.{BadField, TooFine, NoTick}
+use Rattle.mesh_values.specs.declared.values.Name.{Name}
 use Rattle.mesh_tokens.specs.declared.faults.FaultKind.{FaultKind}
 use Rattle.mesh_tokens.specs.declared.faults.FaultKind.TheVariants.{Syntax, TooLarge, UnknownProperty, BadProperty, DuplicateModel, UnknownRelation, UnknownColumn, Ambiguous, TypeMismatch, Duplicate, NotGrouped, Cycle, BadCron, NoStart, TimeColumn, BadRow, SourceMissing, SourceShape, BadMacro, FingerprintClash, Outside}
 

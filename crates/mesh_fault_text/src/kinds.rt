@@ -5,9 +5,9 @@ ghost use Rattle.hex.specs.Hex.{encode_lower};
 ghost use Rattle.mesh_fault_text.specs.Lines.{◌·◌, name_text, names_text, cron_fault_text, kind_text};
 
 use crate::pieces::{put, put_both, put_fingerprint, put_name, put_names, put_number};
-use mesh_base::{CronFault, Name};
 use mesh_list::Memory;
 use mesh_tokens::FaultKind;
+use mesh_values::{CronFault, Name};
 
 fn put_cron_fault(out: &mut Vec<u8>, fault: &CronFault) -> Result<(), Memory>
     ensures { OnOk result (out.new.items ≡ out.old.items ++ cron_fault_text fault.now) }

@@ -1,11 +1,9 @@
-//! The line that is printed for a fault: `FILE:AT: TEXT` and a line feed. Its contract: `fault_line` gives exactly the line that
-//! the definition has. It stands on `mesh_list`, `mesh_base`, `mesh_tokens`, `hex` and `itoa`.
+//! The line that is printed for a fault: `FILE:AT: TEXT` and a line feed. Its contract: `fault_line` gives exactly the
+//! line that the definition has. It stands on `mesh_list`, `mesh_values`, `mesh_tokens`, `hex` and `itoa`.
 #![tactic(auto)]
 
 mod kinds;
 mod line;
 mod pieces;
-#[cfg(test)]
-mod tests;
 
 pub use line::fault_line;

@@ -4,9 +4,9 @@ ghost use Rattle.mesh_fault_text.specs.Lines.{fault_line};
 
 use crate::kinds::put_kind;
 use crate::pieces::{put, put_number};
-use mesh_base::Str;
 use mesh_list::{Memory, Seq};
 use mesh_tokens::FaultKind;
+use mesh_values::Str;
 use std::alloc::Global;
 
 fn put_line(out: &mut Vec<u8>, file: &[u8], at: u64, kind: &FaultKind) -> Result<(), Memory>

@@ -4,8 +4,8 @@ ghost use Rattle.std.specs.Fmt.{decimal};
 ghost use Rattle.hex.specs.Hex.{encode_lower};
 ghost use Rattle.mesh_fault_text.specs.Lines.{◌·◌, name_text, names_text};
 
-use mesh_base::Name;
 use mesh_list::Memory;
+use mesh_values::Name;
 
 /// These bytes.
 pub(crate) fn put(out: &mut Vec<u8>, bytes: &[u8]) -> Result<(), Memory>

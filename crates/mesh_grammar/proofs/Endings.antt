@@ -20,7 +20,7 @@ use Rattle.mesh_surface.specs.declared.queries.SurfaceItem.TheVariants as the_it
 use Rattle.mesh_surface.specs.declared.queries.SurfaceJoin.{SurfaceJoin}
 use Rattle.mesh_surface.specs.declared.queries.SurfaceJoin.TheVariants as the_join
 use Rattle.mesh_surface.specs.declared.queries.SurfaceRel.{SurfaceRel}
-use Rattle.mesh_base.specs.declared.values.ColType.{ColType}
+use Rattle.mesh_values.specs.declared.values.ColType.{ColType}
 use Rattle.mesh_surface.specs.declared.expressions.NotExpr.{NotExpr}
 use Rattle.mesh_surface.specs.declared.expressions.AddExpr.{AddExpr}
 use Rattle.mesh_surface.specs.declared.expressions.AddStep.{AddStep}

@@ -3,7 +3,7 @@ use Rattle.std.proofs.Common.{◌≡◌, ℕ, ℤ, ◌+◌, List, ◌∷◌, cod
 use Rattle.mesh_tokens.specs.declared.tokens.Token.{Token}
 use Rattle.mesh_tokens.specs.declared.tokens.TokenKind.TheVariants.{Ident, Text}
 use Rattle.mesh_surface.specs.declared.queries.SurfaceItem.{SurfaceItem}
-use Rattle.mesh_time.specs.Moments.{IsDayText}
+use Rattle.mesh_days.specs.Moments.{IsDayText}
 use Rattle.mesh_grammar.specs.Words.{is_reserved}
 use Rattle.mesh_grammar.specs.Signs.{IsWord, IsFlag, IsAlias, IsQualified, IsRelation, IsOptionalSign}
 use Rattle.mesh_grammar.specs.Grammar as gram

@@ -3,8 +3,8 @@
 use Rattle.std.proofs.Common.{◌≡◌, ℕ, ℤ, ◌+◌, List, [], ◌∷◌, ◌++◌, codes, Bool, true, false, ◌&&◌, Some, ◌⊎◌, inl, inr, refl, ap, sym, ◌∙◌, subst, arith}
 use Rattle.mesh_tokens.specs.declared.tokens.Token.{Token}
 use Rattle.mesh_tokens.specs.declared.tokens.TokenKind.TheVariants.{Text}
-use Rattle.mesh_time.specs.Moments.{IsDayText}
-use Rattle.mesh_time.proofs.TextLaws.{one_day}
+use Rattle.mesh_days.specs.Moments.{IsDayText}
+use Rattle.mesh_days.proofs.TextLaws.{one_day}
 use Rattle.mesh_grammar.specs.Signs.{place, IsDay}
 use Rattle.mesh_grammar.specs.Rules.{Rule, Tree}
 use Rattle.mesh_grammar.specs.Plans.{Plan, done, stuck, accept, peek, note, read, nest, day, star, plan, is_name, is_sign}

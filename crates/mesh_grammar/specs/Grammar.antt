@@ -2,7 +2,7 @@
 -- spell p, and that e is what stands behind them. The number bounds the parentheses, CASEs, NOTs and minus signs that
 -- are open at once.
 use Rattle.std.specs.Prelude.{◌≡◌, ℕ, ℤ, ◌+◌, List, [], ◌∷◌, ◌++◌, codes, Bool, true, false, Option, Some, None}
-use Rattle.mesh_base.specs.declared.values.ColType.{ColType}
+use Rattle.mesh_values.specs.declared.values.ColType.{ColType}
 use Rattle.mesh_tokens.specs.declared.tokens.Token.{Token}
 use Rattle.mesh_tokens.specs.declared.tokens.TokenKind.TheVariants as the_kind
 use Rattle.mesh_surface.specs.declared.signs.Cmp.{Cmp}

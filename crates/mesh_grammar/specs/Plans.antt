@@ -1,8 +1,8 @@
 -- What is done at the next token, for each rule.
 use Rattle.std.specs.Prelude.{ℕ, ℤ, List, [], ◌∷◌, ◌++◌, codes, Bool, true, false, ◌||◌, Option, Some, None, if◌then◌else◌}
 use Rattle.std.specs.Str.{bytes_eq}
-use Rattle.mesh_base.specs.declared.values.ColType.{ColType}
-use Rattle.mesh_base.specs.declared.values.ColType.TheVariants as column
+use Rattle.mesh_values.specs.declared.values.ColType.{ColType}
+use Rattle.mesh_values.specs.declared.values.ColType.TheVariants as column
 use Rattle.mesh_tokens.specs.declared.tokens.Token.{Token}
 use Rattle.mesh_tokens.specs.declared.tokens.TokenKind.{TokenKind}
 use Rattle.mesh_tokens.specs.declared.tokens.TokenKind.TheVariants.{Ident, Number, Text, Macro, Sign}

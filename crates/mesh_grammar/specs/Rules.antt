@@ -1,7 +1,7 @@
 -- The rules of the grammar, and what may be left of one when its beginning has been read. What is left holds what was
 -- read: the place of the first token, and the parts.
 use Rattle.std.specs.Prelude.{ℕ, List, Option, Bool}
-use Rattle.mesh_base.specs.declared.values.ColType.{ColType}
+use Rattle.mesh_values.specs.declared.values.ColType.{ColType}
 use Rattle.mesh_surface.specs.declared.signs.Function.{Function}
 use Rattle.mesh_surface.specs.declared.expressions.OrExpr.{OrExpr}
 use Rattle.mesh_surface.specs.declared.expressions.AndExpr.{AndExpr}

@@ -1,6 +1,6 @@
 -- What a list of tokens begins with, up to the rest behind it.
 use Rattle.std.specs.Prelude.{◌≡◌, ℕ, ℤ, List, [], ◌∷◌, codes, Bool, true, false, Option, Some, None, ◌⊎◌}
-use Rattle.mesh_base.specs.declared.values.ColType.{ColType}
+use Rattle.mesh_values.specs.declared.values.ColType.{ColType}
 use Rattle.mesh_tokens.specs.declared.tokens.Token.{Token}
 use Rattle.mesh_tokens.specs.declared.tokens.TokenKind.{TokenKind}
 use Rattle.mesh_tokens.specs.declared.tokens.TokenKind.TheVariants.{Ident, Text, Sign}
@@ -12,7 +12,7 @@ use Rattle.mesh_surface.specs.declared.signs.MulSign.{MulSign}
 use Rattle.mesh_surface.specs.declared.signs.MulSign.TheVariants as mul
 use Rattle.mesh_surface.specs.declared.signs.Function.{Function}
 use Rattle.mesh_surface.specs.declared.queries.SurfaceRel.{SurfaceRel}
-use Rattle.mesh_time.specs.Moments.{IsDayText}
+use Rattle.mesh_days.specs.Moments.{IsDayText}
 use Rattle.mesh_grammar.specs.Words.{is_reserved, type_of, function_of}
 
 -- the place of the first token's first byte, or 0 where there is none

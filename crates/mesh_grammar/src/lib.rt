@@ -1,6 +1,6 @@
 //! The grammar of queries: which tokens spell which tree, which tokens begin a query, and how both are found with one
-//! token of lookahead. Its contract is its laws: one list of tokens has one tree at most, and one place at most where it
-//! goes wrong. It stands on `mesh_list`, `mesh_base`, `mesh_tokens`, `mesh_surface` and the days of `mesh_time`.
+//! token of lookahead. Its contract is its laws: one list of tokens has one tree at most, and one place at most where
+//! it goes wrong. It stands on `mesh_values`, `mesh_tokens`, `mesh_surface` and `mesh_days`.
 #![tactic(auto)]
 
 mod laws;

@@ -1,10 +1,10 @@
 -- A cell without a time value stands for no second.
 use Rattle.std.proofs.Common.{◌≡◌, Some, None, ℤ, refl, sym}
 use Rattle.std.specs.declared.option.Option.{Option}
-use Rattle.mesh_base.specs.declared.values.Cell.{Cell}
-use Rattle.mesh_time.specs.Moments.{IsTimeValue}
-use Rattle.mesh_scratch.specs.Times.{time_of}
-use Rattle.mesh_laws.proofs.Seconds.{time_value}
+use Rattle.mesh_values.specs.declared.values.Cell.{Cell}
+use Rattle.mesh_days.specs.Moments.{IsTimeValue}
+use Rattle.mesh_seconds.specs.Times.{time_of}
+use Rattle.mesh_seconds.proofs.Seconds.{time_value}
 
 pub time_of-none : (cell : Cell) → ((t : ℤ) → ¬ IsTimeValue cell t) → time_of cell ≡ None
 time_of-none cell never = at (time_of cell) refl

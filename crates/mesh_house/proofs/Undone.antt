@@ -1,9 +1,9 @@
 -- A version that was changed is put back.
 use Rattle.std.proofs.Common.{◌≡◌, Some, None, refl, ◌∙◌, ap, sym}
 use Rattle.std.specs.declared.option.Option.{Option}
-use Rattle.mesh_base.specs.declared.values.Name.{Name}
-use Rattle.mesh_base.specs.Names.{name_cmp}
-use Rattle.mesh_base.specs.NameOrder.{names_total, names_exact}
+use Rattle.mesh_values.specs.declared.values.Name.{Name}
+use Rattle.mesh_values.specs.Names.{name_cmp}
+use Rattle.mesh_values.specs.NameOrder.{names_total, names_exact}
 use Rattle.mesh_list.specs.Keyed.{found}
 use Rattle.mesh_book.specs.declared.book.Book.{Book}
 use Rattle.mesh_book.specs.declared.versions.Version.{Version}

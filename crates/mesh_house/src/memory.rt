@@ -8,13 +8,13 @@ use crate::fails::{Fails, change_fails, read_fails};
 use crate::house::{Warehouse, WhFail};
 use crate::objects::Body;
 use crate::world::{Change, World};
-use mesh_base::{Columns, Name};
 use mesh_book::Book;
 use mesh_list::{Duplicate, Seq};
+use mesh_values::{Columns, Name};
 use std::alloc::Global;
 
 /// A world in memory.
-#[derive(Debug, Drop)]
+#[derive(Drop)]
 pub struct MemHouse {
     world: World,
     fails: Fails,

@@ -1,19 +1,20 @@
 // The objects of a warehouse.
 ghost use Rattle.std.specs.Prelude.{◌≡◌, [], true, OnOk, OnErr};
 ghost use Rattle.std.specs.Option.{option_copied};
-ghost use Rattle.mesh_base.specs.Names.{name_cmp};
+ghost use Rattle.mesh_values.specs.Names.{name_cmp};
 ghost use Rattle.mesh_list.specs.Keyed.{found, placed, exchanged, without, ascends};
-ghost use Rattle.mesh_base.specs.NameOrder.{names_exact, names_total};
+ghost use Rattle.mesh_values.specs.NameOrder.{names_exact, names_total};
 ghost use Rattle.mesh_house.specs.Objects.{object_name, is_physical, are_physical};
 
-use mesh_base::{Columns, Name, Own, Pairs, Rows};
+use mesh_base::Own;
 use mesh_list::{Duplicate, Keyed, Memory, Same, Sorted};
+use mesh_values::{Columns, Name, Pairs, Rows};
 use std::alloc::Global;
 use std::cmp::Ordering;
 use std::marker::Model;
 
 /// What an object keeps: a table keeps its rows, and another object the query that its rows are computed by.
-#[derive(Debug, Drop)]
+#[derive(Drop)]
 pub enum Body {
     /// The rows of a table.
     Rows(Rows),
@@ -22,7 +23,7 @@ pub enum Body {
 }
 
 /// A physical table or a stored query, with the columns that its rows have.
-#[derive(Debug, Drop)]
+#[derive(Drop)]
 pub struct Object {
     pub name: Name,
     pub columns: Columns,
@@ -50,7 +51,7 @@ impl Keyed for Object {
 }
 
 /// Objects in strictly ascending order of their names, each of a schema where two underscores adjoin.
-#[derive(Debug, Drop)]
+#[derive(Drop)]
 pub struct Objects {
     list: Sorted<Object>,
 }

@@ -4,8 +4,8 @@ ghost use Rattle.mesh_house.specs.World.{head, body};
 
 use crate::objects::Body;
 use crate::world::World;
-use mesh_base::{Columns, Name, has_two_underscores};
 use mesh_list::{Duplicate, Memory};
+use mesh_values::{Columns, Name, has_two_underscores};
 
 impl World {
     /// The columns of the object of that name where two underscores adjoin in its schema, and else of the source.

@@ -10,9 +10,10 @@ use crate::objects::{Body, Object, Objects};
 use crate::sources::SourceTables;
 use crate::times::rewrite;
 use crate::world::{Change, ViewOf, World};
-use mesh_base::{Columns, Input, Name, Own, Pairs, Ref, Rows, Str, has_two_underscores};
+use mesh_base::{Input, Own, Ref};
 use mesh_book::{Book, Version};
 use mesh_list::{Duplicate, Memory, Seq, Sorted};
+use mesh_values::{Columns, Name, Pairs, Rows, Str, has_two_underscores};
 use std::alloc::Global;
 
 // One list of rows after another.

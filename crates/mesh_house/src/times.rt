@@ -1,13 +1,13 @@
 // The rows of a table that lie in a range of seconds.
 ghost use Rattle.std.specs.Prelude.{◌≡◌, OnOk, OnErr};
 ghost use Rattle.std.specs.Option.{option_copied};
-ghost use Rattle.mesh_base.specs.Picked.{same_text, cell_of};
-ghost use Rattle.mesh_scratch.specs.Times.{time_of, is_within};
+ghost use Rattle.mesh_values.specs.Picked.{same_text, cell_of};
+ghost use Rattle.mesh_seconds.specs.Times.{time_of, is_within};
 ghost use Rattle.mesh_house.specs.Times.{or_null, lies_within, rewritten};
 
-use mesh_base::{Cell, Column, Row, Rows, Str};
+use mesh_days::time_value;
 use mesh_list::{Memory, Seq};
-use mesh_time::time_value;
+use mesh_values::{Cell, Column, Row, Rows, Str};
 use std::mem;
 
 // Whether a cell stands for one of the seconds.

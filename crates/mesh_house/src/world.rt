@@ -1,16 +1,17 @@
 // What a warehouse has, and the changes that can be made to it.
-ghost use Rattle.mesh_base.specs.Names.{name_cmp};
-ghost use Rattle.mesh_base.specs.NameOrder.{names_exact, names_total};
+ghost use Rattle.mesh_values.specs.Names.{name_cmp};
+ghost use Rattle.mesh_values.specs.NameOrder.{names_exact, names_total};
 
 use crate::objects::Objects;
 use crate::sources::SourceTables;
-use mesh_base::{Columns, Marks, Name, Own, Pairs, Refs, Rows, Snapshot, Str};
+use mesh_base::{Marks, Own, Refs, Snapshot};
 use mesh_book::Book;
 use mesh_list::{Keyed, Seq, Sorted};
+use mesh_values::{Columns, Name, Pairs, Rows, Str};
 use std::cmp::Ordering;
 
 /// A view, and the object that it points at.
-#[derive(Debug, Drop)]
+#[derive(Drop)]
 pub struct ViewOf {
     pub view: Name,
     pub target: Name,
@@ -18,7 +19,7 @@ pub struct ViewOf {
 
 /// All that a warehouse has, each list in strictly ascending order of its names. The schemas of objects have two
 /// underscores that adjoin somewhere, and those of sources have none.
-#[derive(Debug, Drop)]
+#[derive(Drop)]
 pub struct World {
     pub sources: SourceTables,
     pub objects: Objects,
@@ -28,7 +29,7 @@ pub struct World {
 
 /// One change of a world. Where the world lacks what a change needs, nothing in it changes. Seconds count from
 /// 1970-01-01T00:00:00 UTC.
-#[derive(Debug, Drop)]
+#[derive(Drop)]
 pub enum Change {
     /// The book's moment is this second from now on, unless it is a later one.
     Moment {

@@ -5,8 +5,8 @@ ghost use Rattle.mesh_meaning.specs.Aggregates.{distinct};
 ghost use Rattle.mesh_meaning.specs.Sel.{same_row};
 
 use crate::index::Index;
-use mesh_base::{Row, Rows};
 use mesh_list::Memory;
+use mesh_values::{Row, Rows};
 use std::alloc::Global;
 
 /// For each row, whether none before equals it.

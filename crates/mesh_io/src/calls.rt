@@ -7,7 +7,7 @@ use mesh_list::Seq;
 pub type Numbers = Seq<u64>;
 
 /// The numbers of the calls that are to fail, the number of the next call, and how many listed ones have come.
-#[derive(Debug, Drop)]
+#[derive(Drop)]
 pub struct Calls {
     pub fails: Numbers,
     pub next: u64,

@@ -2,17 +2,17 @@
 ghost use Rattle.std.specs.Prelude.{◌≡◌, ◌++◌, ◌≤◌, IsTrue, length, take, OnOk, OnErr, IfOk};
 ghost use Rattle.std.specs.Option.{option_copied};
 ghost use Rattle.mesh_list.specs.Keyed.{found, placed};
-ghost use Rattle.mesh_base.specs.Names.{text_cmp};
+ghost use Rattle.mesh_values.specs.Names.{text_cmp};
 ghost use Rattle.mesh_io.specs.Files.{path_of, after_slash, below, same_path, listing, are_ascending, ListsExactly, are_distinct};
 
-use mesh_base::{Str, Strs};
 use mesh_list::{Duplicate, Memory, Same, Seq};
+use mesh_values::{Str, Strs};
 use std::alloc::Global;
 use std::cmp::Ordering;
 use std::mem;
 
 /// A file: its path, which is the names of its folders and its own, joined by `/`, and what it holds.
-#[derive(Debug, Drop, PartialEq, Eq)]
+#[derive(Drop, PartialEq, Eq)]
 pub struct File {
     pub path: Str,
     pub bytes: Str,

@@ -10,7 +10,7 @@ use crate::outside::Clock;
 use std::marker::Model;
 
 /// A clock that stands still. It tells its moment, and the calls with listed numbers fail, and no others.
-#[derive(Debug, Drop)]
+#[derive(Drop)]
 pub struct MemClock {
     moment: i64,
     calls: Calls,

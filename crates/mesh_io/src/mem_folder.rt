@@ -10,13 +10,13 @@ use crate::calls::{Calls, Numbers};
 use crate::fails::IoFail;
 use crate::files::{File, Files, compare, find_file, first_bytes, list_below};
 use crate::outside::Folder;
-use mesh_base::{Str, Strs};
 use mesh_list::{Memory, Seq};
+use mesh_values::{Str, Strs};
 use std::alloc::Global;
 use std::marker::Model;
 
 /// Files in memory, no two of one path. It tells them, and the calls with listed numbers fail, and no others.
-#[derive(Debug, Drop)]
+#[derive(Drop)]
 pub struct MemFolder {
     files: Vec<File>,
     calls: Calls,

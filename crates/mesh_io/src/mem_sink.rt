@@ -8,14 +8,14 @@ use crate::calls::{Calls, Numbers};
 use crate::fails::IoFail;
 use crate::files::append;
 use crate::outside::Sink;
-use mesh_base::Str;
 use mesh_list::Seq;
+use mesh_values::Str;
 use std::alloc::Global;
 use std::marker::Model;
 use std::mem;
 
 /// Bytes that were written. It tells them, and the calls with listed numbers fail, and no others.
-#[derive(Debug, Drop)]
+#[derive(Drop)]
 pub struct MemSink {
     bytes: Str,
     calls: Calls,

@@ -8,12 +8,12 @@ use crate::calls::{Calls, Numbers};
 use crate::fails::IoFail;
 use crate::files::first_bytes;
 use crate::outside::Source;
-use mesh_base::Str;
+use mesh_values::Str;
 use std::alloc::Global;
 use std::marker::Model;
 
 /// Bytes to be taken. It tells those that are left, and the calls with listed numbers fail, and no others.
-#[derive(Debug, Drop)]
+#[derive(Drop)]
 pub struct MemSource {
     bytes: Str,
     at: usize,

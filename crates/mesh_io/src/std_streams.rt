@@ -5,8 +5,8 @@ ghost use Rattle.mesh_io.specs.Told.{SourceTold, SinkTold};
 use crate::fails::IoFail;
 use crate::outside::{Sink, Source};
 use crate::refused::refused;
-use mesh_base::Str;
 use mesh_list::Seq;
+use mesh_values::Str;
 use std::alloc::Global;
 use std::io;
 use std::io::{ErrorKind, Read, Write};
@@ -64,7 +64,7 @@ impl Source for StdSource<'_> {
 }
 
 /// Which of the two streams a sink writes to.
-#[derive(Debug, Clone, Copy, PartialEq, Eq)]
+#[derive(Clone, Copy, PartialEq, Eq)]
 enum Stream {
     Output,
     Errors,

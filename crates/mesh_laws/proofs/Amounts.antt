@@ -8,12 +8,12 @@ use Rattle.std.specs.Cmp.{IsTotalOrder}
 use Rattle.std.proofs.lemmas.Cmp.{tied_itself, back_total}
 use Rattle.std.proofs.lemmas.List.Folds.{list_any-append}
 use Rattle.std.proofs.Math.IntN.{+ℤ_assoc, +ℤ_comm}
-use Rattle.mesh_base.specs.declared.values.Cell.{Cell}
-use Rattle.mesh_base.specs.declared.values.Cell.TheVariants.{Null, Int, Text, Date, Bool as Truth}
+use Rattle.mesh_values.specs.declared.values.Cell.{Cell}
+use Rattle.mesh_values.specs.declared.values.Cell.TheVariants.{Null, Int, Text, Date, Bool as Truth}
 use Rattle.mesh_base.specs.declared.expressions.AggKind.{AggKind}
 use Rattle.mesh_base.specs.declared.expressions.AggKind.TheVariants.{Count, Countd, Sum, Min, Max}
-use Rattle.mesh_base.specs.Order.{cell_order, row_order}
-use Rattle.mesh_base.proofs.Total.{cell_total, cell_exact, row_total, row_exact}
+use Rattle.mesh_values.specs.Order.{cell_order, row_order}
+use Rattle.mesh_values.proofs.Total.{cell_total, cell_exact, row_total, row_exact}
 use Rattle.mesh_meaning.specs.Cells.{is_null, number}
 use Rattle.mesh_meaning.specs.Aggregates.{distinct, same_cell, is_number, addend, smaller, larger, count_of, agg_value}
 use Rattle.mesh_meaning.specs.Sel.{same_row}

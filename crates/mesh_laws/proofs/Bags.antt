@@ -7,12 +7,12 @@ use Rattle.std.specs.declared.option.Option.TheVariants.{None, Some}
 use Rattle.std.proofs.lemmas.Cmp.{tied_itself}
 use Rattle.std.proofs.lemmas.List.Sums.{sum_by-cons}
 use Rattle.std.proofs.lemmas.List.Elements.{AllZip-push}
-use Rattle.mesh_base.specs.Bag.{times, IsSameBag}
-use Rattle.mesh_base.specs.Order.{row_order}
-use Rattle.mesh_base.specs.declared.times.Bounds.{Bounds}
-use Rattle.mesh_base.specs.declared.values.Cell.{Cell}
-use Rattle.mesh_base.specs.declared.values.Column.{Column}
-use Rattle.mesh_base.specs.declared.values.Name.{Name}
+use Rattle.mesh_values.specs.Bag.{times, IsSameBag}
+use Rattle.mesh_values.specs.Order.{row_order}
+use Rattle.mesh_values.specs.declared.times.Bounds.{Bounds}
+use Rattle.mesh_values.specs.declared.values.Cell.{Cell}
+use Rattle.mesh_values.specs.declared.values.Column.{Column}
+use Rattle.mesh_values.specs.declared.values.Name.{Name}
 use Rattle.mesh_base.specs.declared.expressions.Expr.{Expr}
 use Rattle.mesh_base.specs.declared.jobs.Input.{Input}
 use Rattle.mesh_base.specs.declared.queries.Item.{Item}
@@ -23,7 +23,7 @@ use Rattle.mesh_base.specs.declared.queries.Select.{Select}
 use Rattle.mesh_base.specs.declared.queries.Query.{Query}
 use Rattle.mesh_base.specs.declared.queries.Join.{Join}
 use Rattle.mesh_base.specs.declared.queries.Join.TheVariants.{First, Inner, Left, Cross}
-use Rattle.mesh_base.proofs.Total.{row_total, row_exact}
+use Rattle.mesh_values.proofs.Total.{row_total, row_exact}
 use Rattle.mesh_rules.specs.Proper.{rel_names, from_names, select_names, selects_names, names_of_all}
 use Rattle.mesh_meaning.specs.Cells.{is_true}
 use Rattle.mesh_meaning.specs.Aggregates.{distinct}

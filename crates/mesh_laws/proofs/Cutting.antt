@@ -3,14 +3,14 @@ use Rattle.std.proofs.Common.{◌≡◌, Bool, true, false, cond, ◌||◌, List
 use Rattle.std.specs.List.{All}
 use Rattle.std.specs.Ordering.{is_eq}
 use Rattle.std.specs.declared.option.Option.TheVariants.{Some}
-use Rattle.mesh_base.specs.NameOrder.{names_exact}
-use Rattle.mesh_base.specs.Names.{name_cmp}
-use Rattle.mesh_base.specs.declared.values.ColType.{ColType}
-use Rattle.mesh_base.specs.Picked.{same_text, kind_of, cell_of, picked_row, picked_rows, picked_columns}
-use Rattle.mesh_base.specs.declared.times.Bounds.{Bounds}
-use Rattle.mesh_base.specs.declared.values.Cell.TheVariants.{Null}
-use Rattle.mesh_base.specs.declared.values.Column.{Column}
-use Rattle.mesh_base.specs.declared.values.Name.{Name}
+use Rattle.mesh_values.specs.NameOrder.{names_exact}
+use Rattle.mesh_values.specs.Names.{name_cmp}
+use Rattle.mesh_values.specs.declared.values.ColType.{ColType}
+use Rattle.mesh_values.specs.Picked.{same_text, kind_of, cell_of, picked_row, picked_rows, picked_columns}
+use Rattle.mesh_values.specs.declared.times.Bounds.{Bounds}
+use Rattle.mesh_values.specs.declared.values.Cell.TheVariants.{Null}
+use Rattle.mesh_values.specs.declared.values.Column.{Column}
+use Rattle.mesh_values.specs.declared.values.Name.{Name}
 use Rattle.mesh_base.specs.declared.jobs.Input.{Input}
 use Rattle.mesh_base.specs.declared.queries.Query.{Query}
 use Rattle.mesh_meaning.specs.Sel.{Sel}

@@ -18,5 +18,3 @@ pub mod Cutting
 pub mod ReadBags
 -- Models: a model's rows as bags.
 pub mod Models
--- Seconds: the second that a cell stands for.
-pub mod Seconds

@@ -1,13 +1,13 @@
 -- The value of an expression for a group doesn't hang on the order of the group's rows.
 use Rattle.std.proofs.Common.{◌≡◌, List, [], ◌∷◌, map, refl, ap, sym, ◌∙◌, subst}
 use Rattle.std.specs.declared.option.Option.TheVariants.{Some}
-use Rattle.mesh_base.specs.declared.values.Cell.{Cell}
-use Rattle.mesh_base.specs.declared.values.Cell.TheVariants as cell
+use Rattle.mesh_values.specs.declared.values.Cell.{Cell}
+use Rattle.mesh_values.specs.declared.values.Cell.TheVariants as cell
 use Rattle.mesh_base.specs.declared.expressions.Expr.{Expr, roll-Expr, out-roll-Expr, map-Expr, ind-Expr}
 use Rattle.mesh_base.specs.declared.expressions.Expr.TheOpen.{Expr-F, When-F, Literal, Col, Macro, Binary, Neg, Not, IsNull, Between, OneOf, Cast, Call, Case, CountAll, Agg}
 use Rattle.mesh_base.specs.declared.expressions.When.{When, roll-When, map-When, para-roll-When}
 use Rattle.mesh_meaning.specs.Cells.{op_value, negative, opposite, is_null, between, one_of, func_value, case_value}
-use Rattle.mesh_meaning.specs.Casts.{cast_value}
+use Rattle.mesh_casts.specs.Casts.{cast_value}
 use Rattle.mesh_meaning.specs.Ev.{Scope, Value, Seen, Ev, Ev_when, ev_here, when_value, valued, key_of, key_or, node_value, at_row}
 use Rattle.mesh_meaning.proofs.Nodes.{Ev_out}
 use Rattle.mesh_laws.proofs.Perm.{Perm, mapped}

@@ -4,26 +4,26 @@ use Rattle.std.specs.List.{AllZip, find}
 use Rattle.std.specs.Ordering.{is_eq}
 use Rattle.std.specs.declared.option.Option.{Option}
 use Rattle.std.specs.declared.option.Option.TheVariants.{None, Some}
-use Rattle.mesh_base.specs.Bag.{IsSameBag}
-use Rattle.mesh_base.specs.Names.{name_cmp}
+use Rattle.mesh_values.specs.Bag.{IsSameBag}
+use Rattle.mesh_values.specs.Names.{name_cmp}
 use Rattle.mesh_base.specs.Outputs.{columns_of}
-use Rattle.mesh_base.specs.Picked.{picked_row, picked_rows}
-use Rattle.mesh_base.specs.declared.times.Bounds.{Bounds}
-use Rattle.mesh_base.specs.declared.values.Cell.{Cell}
-use Rattle.mesh_base.specs.declared.values.Column.{Column}
-use Rattle.mesh_base.specs.declared.values.Name.{Name}
+use Rattle.mesh_values.specs.Picked.{picked_row, picked_rows}
+use Rattle.mesh_values.specs.declared.times.Bounds.{Bounds}
+use Rattle.mesh_values.specs.declared.values.Cell.{Cell}
+use Rattle.mesh_values.specs.declared.values.Column.{Column}
+use Rattle.mesh_values.specs.declared.values.Name.{Name}
 use Rattle.mesh_base.specs.declared.jobs.Input.{Input}
 use Rattle.mesh_base.specs.declared.definitions.Decl.{Decl}
 use Rattle.mesh_base.specs.declared.definitions.Defn.{Defn}
 use Rattle.mesh_base.specs.declared.definitions.Defn.TheVariants.{Seed, Sql}
-use Rattle.mesh_base.specs.declared.definitions.Kind.{Kind}
-use Rattle.mesh_base.specs.declared.definitions.Kind.TheVariants.{Full, View, Seed as SeedKind, Incremental}
+use Rattle.mesh_values.specs.declared.kinds.Kind.{Kind}
+use Rattle.mesh_values.specs.declared.kinds.Kind.TheVariants.{Full, View, Seed as SeedKind, Incremental}
 use Rattle.mesh_base.specs.declared.definitions.Own.{Own}
 use Rattle.mesh_rules.specs.Proper.{defn_names}
 use Rattle.mesh_meaning.specs.Tables.{columns_in, rows_in}
 use Rattle.mesh_scratch.specs.Closures.{Closure, Closures, Model, Alone, With, own_of, standing, ancestors}
 use Rattle.mesh_scratch.specs.Horizons.{Clock, schedule}
-use Rattle.mesh_scratch.specs.Times.{lies_in}
+use Rattle.mesh_seconds.specs.Times.{lies_in}
 use Rattle.mesh_scratch.specs.Sources.{has_shape, declared_rows, source_named, declared}
 use Rattle.mesh_scratch.specs.Scratch.{no_bounds, defn_rows, piece_over, rows_over, from_scratch, tables}
 use Rattle.mesh_laws.specs.Alike.{named, IsSameTable, AreSameTables}

@@ -2,9 +2,9 @@
 use Rattle.std.specs.Prelude.{◌≡◌, List, []}
 use Rattle.std.specs.List.{All}
 use Rattle.std.specs.declared.option.Option.{Option}
-use Rattle.mesh_base.specs.Bag.{IsSameBag}
+use Rattle.mesh_values.specs.Bag.{IsSameBag}
 use Rattle.mesh_base.specs.declared.jobs.Input.{Input}
-use Rattle.mesh_base.specs.declared.values.Name.{Name}
+use Rattle.mesh_values.specs.declared.values.Name.{Name}
 use Rattle.mesh_base.specs.declared.queries.Rel.TheVariants.{Named}
 use Rattle.mesh_base.specs.declared.queries.Query.{Query}
 use Rattle.mesh_base.specs.declared.definitions.Defn.TheVariants.{Sql}

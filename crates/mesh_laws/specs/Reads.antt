@@ -5,12 +5,12 @@ use Rattle.std.specs.Option.{option_to_list}
 use Rattle.std.specs.Ordering.{is_eq}
 use Rattle.std.specs.declared.option.Option.{Option}
 use Rattle.std.specs.declared.option.Option.TheVariants.{None, Some}
-use Rattle.mesh_base.specs.Bag.{IsSameBag}
-use Rattle.mesh_base.specs.Names.{name_cmp}
-use Rattle.mesh_base.specs.Picked.{picked_rows, picked_columns}
+use Rattle.mesh_values.specs.Bag.{IsSameBag}
+use Rattle.mesh_values.specs.Names.{name_cmp}
+use Rattle.mesh_values.specs.Picked.{picked_rows, picked_columns}
 use Rattle.mesh_base.specs.declared.jobs.Input.{Input}
-use Rattle.mesh_base.specs.declared.values.Cell.{Cell}
-use Rattle.mesh_base.specs.declared.values.Name.{Name}
+use Rattle.mesh_values.specs.declared.values.Cell.{Cell}
+use Rattle.mesh_values.specs.declared.values.Name.{Name}
 use Rattle.mesh_base.specs.declared.expressions.Expr.{Expr}
 use Rattle.mesh_base.specs.declared.queries.Item.{Item}
 use Rattle.mesh_base.specs.declared.queries.FromItem.{FromItem}

@@ -1,17 +1,14 @@
 // What a query's rows hang on, and what not.
-ghost use Rattle.std.specs.Prelude.{◌≡◌, ◌↔◌, ℕ, ℤ, Some, List};
-ghost use Rattle.mesh_base.specs.Bag.{IsSameBag};
+ghost use Rattle.std.specs.Prelude.{◌≡◌, ℕ, List};
+ghost use Rattle.mesh_values.specs.Bag.{IsSameBag};
 ghost use Rattle.mesh_base.specs.declared.jobs.Input.{Input};
 ghost use Rattle.mesh_base.specs.declared.definitions.Own.{Own};
 ghost use Rattle.mesh_base.specs.declared.queries.Query.{Query};
-ghost use Rattle.mesh_base.specs.declared.times.Bounds.{Bounds};
-ghost use Rattle.mesh_base.specs.declared.values.Cell.{Cell};
-ghost use Rattle.mesh_time.specs.Moments.{IsTimeValue};
+ghost use Rattle.mesh_values.specs.declared.times.Bounds.{Bounds};
 ghost use Rattle.mesh_rules.specs.Proper.{defn_names};
 ghost use Rattle.mesh_meaning.specs.Sel.{Sel};
 ghost use Rattle.mesh_scratch.specs.Closures.{Closure};
 ghost use Rattle.mesh_scratch.specs.Horizons.{Clock};
-ghost use Rattle.mesh_scratch.specs.Times.{time_of};
 ghost use Rattle.mesh_scratch.specs.Scratch.{from_scratch, piece_over, rows_over};
 ghost use Rattle.mesh_laws.specs.Alike.{AreSameTables, HaveSameBags};
 ghost use Rattle.mesh_laws.specs.Loads.{HaveSameSources};
@@ -42,10 +39,4 @@ pub fn models_respect_bags()
     ensures scratch { (a b : List Input) (c : Closure) → HaveSameSources a b c → (clock : Clock) → IsSameBag (from_scratch a clock c) (from_scratch b clock c) }
     ensures rows { (a b : List Input) (own : Own) → AreSameTables (defn_names own.defn) a b → (units : List Bounds) → IsSameBag (rows_over own.kind own a units) (rows_over own.kind own b units) }
     ensures pieces { (a b : List Input) (own : Own) → AreSameTables (defn_names own.defn) a b → (time : List ℕ) (u : Bounds) → IsSameBag (piece_over own time a u) (piece_over own time b u) }
-{}
-
-/// The second that a cell stands for, in rows from scratch, is its time value: a number itself, the first second of a DATE
-/// or of the day that a text is, and none of any other.
-pub fn seconds_are_time_values()
-    ensures { (cell : Cell) (t : ℤ) → (time_of cell ≡ Some t) ↔ IsTimeValue cell t }
 {}

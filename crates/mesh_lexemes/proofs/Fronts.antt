@@ -9,7 +9,7 @@ use Rattle.std.proofs.lemmas.Bool.{eqb-true, true≢false, false≢true, or_from
 use Rattle.std.proofs.lemmas.List.{take-append-drop, length-take-le, take_at}
 use Rattle.std.proofs.lemmas.List.Sums.{prefix_len-le-length}
 use lib.ListN.{length-append}
-use Rattle.mesh_base.specs.Names.{is_identifier, is_name_byte}
+use Rattle.mesh_values.specs.Names.{is_identifier, is_name_byte}
 use Rattle.mesh_tokens.specs.declared.faults.ReadFault.{ReadFault}
 use Rattle.mesh_tokens.specs.declared.tokens.TokenKind.{TokenKind}
 use Rattle.mesh_tokens.specs.declared.tokens.TokenKind.TheVariants.{Ident, Number, Text, Macro, Sign}

@@ -8,7 +8,7 @@ use Rattle.std.proofs.lemmas.Bool.{leb-true, false≢true, or_parts, or_from, an
 use Rattle.std.proofs.lemmas.List.Elements.{All-contains}
 use Rattle.std.proofs.lemmas.List.Sums.{AllPass-from_list_all}
 use lib.ListN.{length-append}
-use Rattle.mesh_base.specs.Names.{is_identifier, is_name_byte}
+use Rattle.mesh_values.specs.Names.{is_identifier, is_name_byte}
 use Rattle.mesh_tokens.specs.declared.faults.ReadFault.{ReadFault}
 use Rattle.mesh_tokens.specs.declared.tokens.TokenKind.{TokenKind}
 use Rattle.mesh_tokens.specs.Letters.{is_blank, is_digit, begins_word, is_long_sign, decimal}

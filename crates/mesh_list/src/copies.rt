@@ -1,5 +1,5 @@
 // Copies of values, which are equal to them.
-ghost use Rattle.std.specs.Prelude.{◌≡◌, IfOk};
+ghost use Rattle.std.specs.Prelude.{◌≡◌, IfOk, Ok};
 
 use crate::memory::Memory;
 use crate::seqs::Seq;
@@ -19,6 +19,28 @@ pub trait Duplicate: Drop {
             made.push(item.copy()?)?;
         }
         Ok(made)
+    }
+}
+
+/// Copies of two values, with one answer for want of memory.
+pub fn both<A: Duplicate, B: Duplicate>(a: &A, b: &B) -> Result<(A, B), Memory>
+    ensures { IfOk result (λ made. made ≡ (a.now, b.now)) }
+{
+    let first = a.copy()?;
+    let second = b.copy()?;
+    Ok((first, second))
+}
+
+/// Two answers as one, which is want of memory where one of them is.
+pub fn together<A: Drop, B: Drop>(
+    a: Result<A, Memory>,
+    b: Result<B, Memory>,
+) -> Result<(A, B), Memory>
+    ensures { IfOk result (λ made. (a ≡ Ok made.0) × (b ≡ Ok made.1)) }
+{
+    match (a, b) {
+        (Ok(first), Ok(second)) => Ok((first, second)),
+        _ => Err(Memory),
     }
 }
 

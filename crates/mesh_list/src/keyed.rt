@@ -35,7 +35,7 @@ pub trait Keyed: Drop {
 }
 
 /// A list in strictly ascending order of its keys.
-#[derive(Debug, Drop)]
+#[derive(Drop)]
 pub struct Sorted<T: Keyed> {
     list: Vec<T>,
 }

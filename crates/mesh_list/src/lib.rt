@@ -15,7 +15,7 @@ mod same;
 mod seqs;
 
 pub use boxes::Boxed;
-pub use copies::Duplicate;
+pub use copies::{Duplicate, both, together};
 pub use keyed::{Keyed, Sorted};
 pub use memory::Memory;
 pub use registers::Register;

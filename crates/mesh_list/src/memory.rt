@@ -2,7 +2,7 @@
 use std::alloc::{AllocError, AllocFailed};
 
 /// There was not enough memory.
-#[derive(Debug, Clone, Copy, PartialEq, Eq)]
+#[derive(Clone, Copy, PartialEq, Eq)]
 pub struct Memory;
 
 impl From<AllocError> for Memory {

@@ -11,7 +11,7 @@ use std::alloc::Global;
 use std::marker::Model;
 
 /// A list in any order. It knows whether it is one that ascends, and is then searched by halves.
-#[derive(Debug, Drop)]
+#[derive(Drop)]
 pub struct Register<T: Keyed> {
     list: Vec<T>,
     ascending: bool,

@@ -1,6 +1,6 @@
 -- The equations of `Ev`.
 use Rattle.std.proofs.Common.{◌≡◌, List, [], ◌∷◌, map, refl, ap, sym, ◌∙◌}
-use Rattle.mesh_base.specs.declared.values.Cell.{Cell}
+use Rattle.mesh_values.specs.declared.values.Cell.{Cell}
 use Rattle.mesh_base.specs.declared.expressions.Expr.{Expr, para-Expr, roll-Expr, out-Expr, roll-out-Expr, out-roll-Expr, para-roll-Expr}
 use Rattle.mesh_base.specs.declared.expressions.Expr as expr
 use Rattle.mesh_base.specs.declared.expressions.Expr.TheOpen.{Expr-F, Literal, Col, Macro, Binary, Neg, Not, IsNull, Between, OneOf, Cast, Call, Case, CountAll, Agg}

@@ -7,15 +7,15 @@ use Rattle.std.specs.declared.option.Option.TheVariants.{None, Some}
 use Rattle.std.proofs.lemmas.List.Folds.{list_all-append}
 use Rattle.std.proofs.lemmas.Bool.{and_parts}
 use Rattle.std.proofs.lemmas.List.{length-map}
-use Rattle.mesh_base.specs.declared.times.Bounds.{Bounds}
-use Rattle.mesh_base.specs.declared.values.Cell.{Cell}
-use Rattle.mesh_base.specs.declared.values.Cell.TheVariants as cell
+use Rattle.mesh_values.specs.declared.times.Bounds.{Bounds}
+use Rattle.mesh_values.specs.declared.values.Cell.{Cell}
+use Rattle.mesh_values.specs.declared.values.Cell.TheVariants as cell
 use Rattle.mesh_base.specs.declared.expressions.Expr.{Expr, roll-Expr, out-roll-Expr, map-Expr, fold-roll-Expr, ind-Expr}
 use Rattle.mesh_base.specs.declared.expressions.Expr.TheOpen.{Expr-F, When-F, Literal, Col, Macro, Binary, Neg, Not, IsNull, Between, OneOf, Cast, Call, Case, CountAll, Agg}
 use Rattle.mesh_base.specs.declared.expressions.AggKind.{AggKind}
 use Rattle.mesh_base.specs.declared.expressions.When.{When, roll-When, map-When, fold-roll-When, para-roll-When}
 use Rattle.mesh_meaning.specs.Cells.{op_value, negative, opposite, is_null, between, one_of, func_value, case_value}
-use Rattle.mesh_meaning.specs.Casts.{cast_value}
+use Rattle.mesh_casts.specs.Casts.{cast_value}
 use Rattle.mesh_meaning.specs.Aggregates.{agg_value, count_of}
 use Rattle.mesh_meaning.specs.Ev.{Scope, Value, Seen, Ev, Ev_when, ev_here, when_value, valued, key_of, key_or, node_value, over_group, at_row}
 use Rattle.mesh_meaning.specs.Named.{Place, columns_here, columns_when, columns, when_columns, masked, only, Covers}

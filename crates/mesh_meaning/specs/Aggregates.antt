@@ -2,9 +2,9 @@
 use Rattle.std.specs.Prelude.{ℤ, pos, ◌+ℤ◌, Bool, true, false, not, if◌then◌else◌, List, [], ◌∷◌, ◌++◌, length}
 use Rattle.std.specs.List.{fold, filter, list_any}
 use Rattle.std.specs.Ordering.{is_eq, is_lt}
-use Rattle.mesh_base.specs.Order.{cell_order}
-use Rattle.mesh_base.specs.declared.values.Cell.{Cell}
-use Rattle.mesh_base.specs.declared.values.Cell.TheVariants.{Null, Int}
+use Rattle.mesh_values.specs.Order.{cell_order}
+use Rattle.mesh_values.specs.declared.values.Cell.{Cell}
+use Rattle.mesh_values.specs.declared.values.Cell.TheVariants.{Null, Int}
 use Rattle.mesh_base.specs.declared.expressions.AggKind.{AggKind}
 use Rattle.mesh_base.specs.declared.expressions.AggKind.TheVariants.{Count, Countd, Sum, Min, Max}
 use Rattle.mesh_meaning.specs.Cells.{is_null, number}

@@ -9,13 +9,13 @@ use Rattle.std.specs.Cmp.Lexicographic.{slice_cmp}
 use Rattle.std.specs.declared.cmp.Ordering.{Ordering}
 use Rattle.std.specs.declared.option.Option.{Option}
 use Rattle.std.specs.declared.option.Option.TheVariants.{None, Some}
-use Rattle.mesh_base.specs.declared.values.Cell.{Cell}
-use Rattle.mesh_base.specs.declared.values.Cell.TheVariants.{Null, Int, Text, Date, Bool as Truth}
+use Rattle.mesh_values.specs.declared.values.Cell.{Cell}
+use Rattle.mesh_values.specs.declared.values.Cell.TheVariants.{Null, Int, Text, Date, Bool as Truth}
 use Rattle.mesh_base.specs.declared.expressions.Op.{Op}
 use Rattle.mesh_base.specs.declared.expressions.Op.TheVariants as op
 use Rattle.mesh_base.specs.declared.expressions.Func.{Func}
 use Rattle.mesh_base.specs.declared.expressions.Func.TheVariants as func
-use Rattle.mesh_meaning.specs.Dates.{is_day_number}
+use Rattle.mesh_casts.specs.Dates.{is_day_number}
 
 abbrev pub is_null : Cell → Bool
 is_null Null = true

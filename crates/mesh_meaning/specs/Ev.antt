@@ -3,17 +3,17 @@ use Rattle.std.specs.Prelude.{ℕ, Bool, List, [], map, slice_index_or}
 use Rattle.std.specs.List.{position}
 use Rattle.std.specs.declared.option.Option.{Option}
 use Rattle.std.specs.declared.option.Option.TheVariants.{None, Some}
-use Rattle.mesh_base.specs.declared.times.Bounds.{Bounds}
-use Rattle.mesh_base.specs.declared.values.Column.{Column}
-use Rattle.mesh_base.specs.declared.values.Cell.{Cell}
-use Rattle.mesh_base.specs.declared.values.Cell.TheVariants as cell
+use Rattle.mesh_values.specs.declared.times.Bounds.{Bounds}
+use Rattle.mesh_values.specs.declared.values.Column.{Column}
+use Rattle.mesh_values.specs.declared.values.Cell.{Cell}
+use Rattle.mesh_values.specs.declared.values.Cell.TheVariants as cell
 use Rattle.mesh_base.specs.declared.expressions.Expr.{Expr, para-Expr, roll-Expr, out-Expr, map-Expr}
 use Rattle.mesh_base.specs.declared.expressions.Expr.TheOpen.{Expr-F, When-F, Literal, Col, Macro, Binary, Neg, Not, IsNull, Between, OneOf, Cast, Call, Case, CountAll, Agg}
 use Rattle.mesh_base.specs.declared.expressions.When.{When, para-When}
 use Rattle.mesh_base.specs.contracts.expressions.ExprPartialEq.TheImpl.{eq-value}
-use Rattle.mesh_base.specs.Picked.{cell_of}
+use Rattle.mesh_values.specs.Picked.{cell_of}
 use Rattle.mesh_meaning.specs.Cells.{is_null, op_value, negative, opposite, between, one_of, case_value, func_value}
-use Rattle.mesh_meaning.specs.Casts.{cast_value}
+use Rattle.mesh_casts.specs.Casts.{cast_value}
 use Rattle.mesh_meaning.specs.Macros.{macro_value}
 use Rattle.mesh_meaning.specs.Aggregates.{agg_value, count_of}
 

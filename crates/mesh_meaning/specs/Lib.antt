@@ -1,9 +1,5 @@
--- Dates: days and their texts.
-pub mod Dates
 -- Cells: operators and functions of cells.
 pub mod Cells
--- Casts: a cell as another type.
-pub mod Casts
 -- Macros: the ends of the interval.
 pub mod Macros
 -- Aggregates: the value of an aggregate over cells.

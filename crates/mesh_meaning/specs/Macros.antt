@@ -2,13 +2,13 @@
 -- own end is the first second after it.
 use Rattle.std.specs.Prelude.{ℤ, pos, ◌-ℤ◌}
 use Rattle.std.specs.Int.{int_div_euclid}
-use Rattle.mesh_base.specs.declared.times.Bounds.{Bounds}
-use Rattle.mesh_base.specs.declared.values.Cell.{Cell}
-use Rattle.mesh_base.specs.declared.values.Cell.TheVariants.{Int}
+use Rattle.mesh_values.specs.declared.times.Bounds.{Bounds}
+use Rattle.mesh_values.specs.declared.values.Cell.{Cell}
+use Rattle.mesh_values.specs.declared.values.Cell.TheVariants.{Int}
 use Rattle.mesh_base.specs.declared.expressions.Var.{Var}
 use Rattle.mesh_base.specs.declared.expressions.Var.TheVariants.{StartDate, EndDate, StartDs, EndDs, StartEpoch, EndEpoch}
 use Rattle.mesh_meaning.specs.Cells.{number, day}
-use Rattle.mesh_meaning.specs.Casts.{cast_to_text}
+use Rattle.mesh_casts.specs.Casts.{cast_to_text}
 
 -- the last second of the interval
 abbrev pub last_second : Bounds → ℤ

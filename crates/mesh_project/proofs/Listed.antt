@@ -7,8 +7,8 @@ use Rattle.std.specs.Option.{option_map}
 use Rattle.std.specs.declared.option.Option.{Option}
 use Rattle.std.specs.declared.option.Option.TheVariants.{None, Some}
 use Rattle.mesh_csv.proofs.Places.{here, past, behind_all}
-use Rattle.mesh_base.specs.declared.values.Column.{Column}
-use Rattle.mesh_base.specs.Picked.{same_text}
+use Rattle.mesh_values.specs.declared.values.Column.{Column}
+use Rattle.mesh_values.specs.Picked.{same_text}
 use Rattle.mesh_project.specs.Built.{are_named}
 use Rattle.mesh_project.specs.Plain.{one_more}
 

@@ -3,10 +3,10 @@ use Rattle.std.specs.Prelude.{ℕ, Bool, true, false, nat_eq, nat_le, ◌&&◌, 
 use Rattle.std.specs.List.{ends_with}
 use Rattle.std.specs.declared.option.Option.{Option}
 use Rattle.std.specs.declared.option.Option.TheVariants.{None, Some}
-use Rattle.mesh_base.specs.declared.definitions.Kind.{Kind}
-use Rattle.mesh_base.specs.declared.definitions.Kind.TheVariants as kind
+use Rattle.mesh_values.specs.declared.kinds.Kind.{Kind}
+use Rattle.mesh_values.specs.declared.kinds.Kind.TheVariants as kind
 use Rattle.mesh_base.specs.declared.models.Picking.TheVariants.{Seed as SeedRows, Pick}
-use Rattle.mesh_base.specs.Picked.{same_text}
+use Rattle.mesh_values.specs.Picked.{same_text}
 use Rattle.mesh_csv.specs.declared.seed.Seed.{Seed}
 use Rattle.mesh_csv.specs.Seeds.{seed_text}
 use Rattle.mesh_io.specs.declared.files.File.{File}

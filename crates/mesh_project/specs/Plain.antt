@@ -2,7 +2,7 @@
 use Rattle.std.specs.Prelude.{ℕ, Bool, true, false, ◌&&◌, not, is_none, List, [], ◌∷◌, if◌then◌else◌}
 use Rattle.std.specs.declared.option.Option.{Option}
 use Rattle.std.specs.declared.option.Option.TheVariants.{None, Some}
-use Rattle.mesh_base.specs.declared.values.Name.{Name}
+use Rattle.mesh_values.specs.declared.values.Name.{Name}
 use Rattle.mesh_surface.specs.declared.expressions.Args.{Args}
 use Rattle.mesh_surface.specs.declared.expressions.Args.TheOpen.{NotExpr-F, NotExpr::Plain, Not, Primary-F, Column, Test-F, Nothing, Unary-F, Unary::Plain, Minus}
 use Rattle.mesh_surface.specs.declared.expressions.OrExpr.{OrExpr, out-OrExpr}

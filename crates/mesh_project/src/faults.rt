@@ -3,15 +3,15 @@ ghost use Rattle.std.specs.Prelude.{◌≡◌, IfOk, IsErrOf};
 ghost use Rattle.mesh_project.specs.Loading.{Gives, in_file, too_large, bad_path, outside, of_folder};
 ghost use Rattle.mesh_project.specs.declared.faults.LoadFault.TheVariants as fault;
 
-use mesh_base::Str;
 use mesh_io::IoFail;
 use mesh_list::{Duplicate, Memory};
 use mesh_tokens::{FaultKind, ReadFault};
+use mesh_values::Str;
 use std::alloc::Global;
 
 /// The first fault of the project's files, where it stands, or the folder failed, or memory ran out. `file` is a path in
 /// the project, and `-` for a fault of no one file; `at` is a place in its bytes.
-#[derive(Debug, Drop, PartialEq, Eq)]
+#[derive(Drop, PartialEq, Eq)]
 pub enum LoadFault {
     Fault { file: Str, at: u64, kind: FaultKind },
     Folder,

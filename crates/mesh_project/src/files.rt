@@ -7,10 +7,11 @@ ghost use Rattle.mesh_project.specs.Items.{file_within, below_models, is_sql, is
 ghost use Rattle.mesh_project.specs.Project.{is_read, paths_within, declared, sources_at, sources_in};
 
 use crate::faults::{LoadFault, in_file, too_large};
-use mesh_base::{Externals, LARGEST_FILE, MOST_MODELS, Str, Strs};
+use mesh_base::Externals;
 use mesh_external::read_external;
 use mesh_io::Folder;
 use mesh_list::{Duplicate, Memory, Seq};
+use mesh_values::{LARGEST_FILE, MOST_MODELS, Str, Strs};
 use std::alloc::Global;
 
 /// The bytes of a file, if it is there. One byte more than the limit is asked for, so that a longer file is seen.

@@ -3,19 +3,20 @@ ghost use Rattle.std.specs.Prelude.{◌≡◌, [], OnOk};
 ghost use Rattle.mesh_project.specs.Built.{nothing, with_file, with_item};
 
 use crate::item::{FileSays, Item};
-use mesh_base::{Columns, Model, Name};
+use mesh_base::Model;
 use mesh_list::{Duplicate, Memory, Seq, Sorted};
+use mesh_values::{Columns, Name};
 use std::alloc::Global;
 
 /// The columns that the file of a model declares.
-#[derive(Debug, Drop)]
+#[derive(Drop)]
 pub struct Check {
     pub name: Name,
     pub declared: Columns,
 }
 
 /// The models so far, what their files declare, and whether each is of a form that is built and has a name of its own.
-#[derive(Debug, Drop)]
+#[derive(Drop)]
 pub struct Gathered {
     pub models: Sorted<Model>,
     pub checks: Seq<Check>,

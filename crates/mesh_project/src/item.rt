@@ -8,22 +8,23 @@ ghost use Rattle.mesh_project.specs.Items.{seed_if_there, seed_at, seed_of, seed
 use crate::faults::{LoadFault, bad_path, in_file, outside};
 use crate::files::{below_models, is_python, read_within};
 use crate::plain::{Picked, picked_in};
-use mesh_base::{Columns, Kind, LARGEST_FILE, LARGEST_SEED, Model, Picking, Str};
+use mesh_base::{Model, Picking};
 use mesh_csv::{Seed, read_seed};
 use mesh_io::Folder;
 use mesh_list::{Duplicate, Memory, Seq};
 use mesh_text::{ModelText, read_model};
+use mesh_values::{Columns, Kind, LARGEST_FILE, LARGEST_SEED, Str};
 use std::alloc::Global;
 
 /// A model, and the columns that its file declares for its query.
-#[derive(Debug, Drop)]
+#[derive(Drop)]
 pub struct Item {
     pub model: Model,
     pub declared: Columns,
 }
 
 /// What a file says: nothing where it isn't there any more, or a model of a form that isn't built, or of one that is.
-#[derive(Debug, Drop)]
+#[derive(Drop)]
 pub enum FileSays {
     Nothing,
     Unbuilt,

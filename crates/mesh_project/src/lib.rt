@@ -1,7 +1,7 @@
 //! The files of a project. Its contract: `load` gives the models that the definition `IsLoaded` has for the files of a
 //! folder, or their first fault with its file and place: the declarations of sources, the model files in the order of
 //! their paths, each with its seed, and at last whether all are of the form that is built. It stands on `mesh_list`,
-//! `mesh_base`, `mesh_io`, `mesh_text`, `mesh_csv` and `mesh_external`.
+//! `mesh_values`, `mesh_base`, `mesh_io`, `mesh_text`, `mesh_csv` and `mesh_external`.
 #![tactic(auto)]
 
 mod built;

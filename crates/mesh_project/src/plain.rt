@@ -3,16 +3,16 @@ ghost use Rattle.std.specs.Prelude.{◌≡◌, [], ◌∷◌, None, IfOk};
 ghost use Rattle.std.specs.Option.{option_copied};
 ghost use Rattle.mesh_project.specs.Plain.{column_in, in_post, in_unary, in_product, in_sum, in_cat, unasked, in_pred, in_negation, in_conjunction, plain_column, in_item, in_items, in_relation, in_from, is_bare, in_select, picked_in};
 
-use mesh_base::{Name, Str, Strs};
 use mesh_list::{Duplicate, Memory, Seq};
 use mesh_surface::{
     AddExpr, AndExpr, CatExpr, MulExpr, NotExpr, OrExpr, Post, Pred, Primary, Surface, SurfaceFrom,
     SurfaceItem, SurfaceRel, SurfaceSelect, Test, Unary,
 };
+use mesh_values::{Name, Str, Strs};
 use std::alloc::Global;
 
 /// Columns of a relation, by their names.
-#[derive(Debug, Drop)]
+#[derive(Drop)]
 pub struct Picked {
     pub columns: Strs,
     pub from: Name,

@@ -8,9 +8,10 @@ use crate::faults::LoadFault;
 use crate::files::{paths_in, sources_in};
 use crate::gathered::{Gathered, add, nothing};
 use crate::item::file_says;
-use mesh_base::{Model, Str};
+use mesh_base::Model;
 use mesh_io::Folder;
 use mesh_list::Sorted;
+use mesh_values::Str;
 use std::alloc::Global;
 
 // What the files at these paths below `models` give, one after the other.

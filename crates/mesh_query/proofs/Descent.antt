@@ -6,7 +6,7 @@ use Rattle.std.proofs.lemmas.Bool.{cases_lt, cases_Bool, or_parts}
 use Rattle.mesh_tokens.specs.declared.tokens.Token.{Token}
 use Rattle.mesh_tokens.specs.declared.tokens.TokenKind.{TokenKind}
 use Rattle.mesh_tokens.specs.declared.tokens.TokenKind.TheVariants.{Number}
-use Rattle.mesh_base.specs.declared.values.ColType.{ColType}
+use Rattle.mesh_values.specs.declared.values.ColType.{ColType}
 use Rattle.mesh_surface.specs.declared.signs.AddSign.{AddSign}
 use Rattle.mesh_surface.specs.declared.signs.MulSign.{MulSign}
 use Rattle.mesh_surface.specs.declared.expressions.AddStep.{AddStep, roll-AddStep}

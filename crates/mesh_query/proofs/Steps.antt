@@ -1,6 +1,6 @@
 -- Steps of the descent, and how it ends.
 use Rattle.std.proofs.Common.{◌≡◌, ℕ, ◌+◌, List, ◌∷◌, Bool, true, false, refl, ap, sym, ◌∙◌, subst}
-use Rattle.mesh_base.specs.declared.values.ColType.{ColType}
+use Rattle.mesh_values.specs.declared.values.ColType.{ColType}
 use Rattle.mesh_tokens.specs.declared.tokens.Token.{Token}
 use Rattle.mesh_tokens.specs.declared.tokens.TokenKind.{TokenKind}
 use Rattle.mesh_tokens.specs.declared.tokens.TokenKind.TheVariants.{Ident, Sign}

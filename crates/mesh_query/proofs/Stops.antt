@@ -6,8 +6,8 @@ use Rattle.mesh_grammar.specs.Rules.{Rule, Tree}
 use Rattle.mesh_grammar.specs.Plans.{Plan, plan}
 use Rattle.mesh_grammar.specs.Machine.{begins, are_star, begins_star, Runs, ends, accepts, rejects, sees, misses, notes, reads, nests, days, stars, starless, Cause, syntax, nesting, Fails, fails_here, fails_deep, fails_day, fails_behind_day, fails_after, fails_without, fails_seen, fails_missed, fails_noted, fails_first, fails_then, fails_inside, fails_behind, fails_starred, fails_starless}
 use Rattle.mesh_tokens.specs.declared.tokens.TokenKind.TheVariants.{Text}
-use Rattle.mesh_time.specs.Moments.{IsDayText}
-use Rattle.mesh_time.proofs.TextLaws.{one_day}
+use Rattle.mesh_days.specs.Moments.{IsDayText}
+use Rattle.mesh_days.proofs.TextLaws.{one_day}
 use Rattle.mesh_grammar.proofs.Runs.{refused, Deep}
 use Rattle.mesh_grammar.proofs.Endings.{all}
 use Rattle.mesh_query.specs.Counts.{is_node, less, inside, entered, left_behind, left_at}

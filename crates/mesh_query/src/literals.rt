@@ -9,9 +9,9 @@ ghost use Rattle.mesh_query.specs.Answers.{AnswersOn, IsNoDay, function_in};
 ghost use Rattle.mesh_query.specs.Rests.{unopened, word_plan};
 
 use crate::nodes::Nodes;
+use mesh_days::day_of;
 use mesh_list::Duplicate;
 use mesh_surface::{Function, Primary};
-use mesh_time::day_of;
 use mesh_tokens::{Token, TokenKind};
 use mesh_words::{Fault, function_of, is_sign, is_word, name, place, word};
 

@@ -8,7 +8,7 @@ const MOST_NODES: u32 = 4_096;
 
 /// How many nodes of the expression that is read are left, of one more than it may have. Once none is left, none is left
 /// any more.
-#[derive(Debug, Clone, Copy)]
+#[derive(Clone, Copy)]
 pub struct Nodes {
     left: u32,
 }

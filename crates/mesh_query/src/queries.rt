@@ -10,10 +10,10 @@ use crate::expressions::expr;
 use crate::lists::one;
 use crate::nodes::Nodes;
 use crate::relations::source;
-use mesh_base::Str;
 use mesh_list::Seq;
 use mesh_surface::{OrExpr, Surface, SurfaceCte, SurfaceItem, SurfaceSelect, SurfaceUnion};
 use mesh_tokens::Token;
+use mesh_values::Str;
 use mesh_words::{Fault, is_name, is_sign, is_word, name, nested, place, sign, word};
 use std::alloc::Global;
 

@@ -13,10 +13,10 @@ ghost use Rattle.mesh_words.specs.Places.{deepest};
 
 use crate::nodes::Nodes;
 use crate::queries::query;
-use mesh_base::{DEEPEST_NESTING, LARGEST_EXPRESSION, Str};
 use mesh_list::{Duplicate, Memory, Seq};
 use mesh_surface::Surface;
 use mesh_tokens::{FaultKind, ReadFault, Token, Tokens};
+use mesh_values::{DEEPEST_NESTING, LARGEST_EXPRESSION, Str};
 use mesh_words::Fault;
 use std::alloc::Global;
 

@@ -9,10 +9,10 @@ ghost use Rattle.mesh_query.specs.Answers.{Answers, Onward};
 use crate::expressions::expr;
 use crate::nodes::Nodes;
 use crate::queries::alias;
-use mesh_base::Str;
 use mesh_list::Seq;
 use mesh_surface::{OrExpr, SurfaceFrom, SurfaceJoin, SurfaceRel};
 use mesh_tokens::Token;
+use mesh_values::Str;
 use mesh_words::{Fault, is_sign, is_word, name, place, word};
 use std::alloc::Global;
 

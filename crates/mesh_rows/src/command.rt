@@ -1,9 +1,9 @@
 // One command: its clock and streams, and what came of it.
 use crate::trouble::Trouble;
-use mesh_base::Str;
 use mesh_house::MemHouse;
 use mesh_io::{MemClock, MemFolder, MemSink, MemSource, Numbers};
 use mesh_list::{Duplicate, Seq};
+use mesh_values::Str;
 use std::alloc::Global;
 use std::thread::Threads;
 

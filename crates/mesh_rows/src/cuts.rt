@@ -3,8 +3,8 @@ use crate::command::Outcome;
 use crate::report::{put_cuts, put_run};
 use crate::stage::Stage;
 use crate::trouble::Trouble;
-use mesh_base::{Str, Strs};
 use mesh_list::{Duplicate, Seq};
+use mesh_values::{Str, Strs};
 use std::alloc::Global;
 use std::thread::Threads;
 

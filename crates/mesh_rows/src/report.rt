@@ -1,8 +1,8 @@
 // What is printed of a command.
 use crate::command::Outcome;
 use crate::trouble::Trouble;
-use mesh_base::{Cell, Name, Row, Str, Strs};
 use mesh_house::{Body, World};
+use mesh_values::{Cell, Name, Row, Str, Strs};
 use std::alloc::Global;
 
 /// A number in decimal digits.

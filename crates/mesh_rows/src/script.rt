@@ -1,8 +1,8 @@
 // The steps of a script.
 use crate::trouble::Trouble;
-use mesh_base::{Str, Strs};
 use mesh_house::Fail;
 use mesh_list::{Duplicate, Seq};
+use mesh_values::{Str, Strs};
 use std::alloc::Global;
 
 /// One step.

@@ -3,10 +3,10 @@ use crate::command::{Outcome, Streams};
 use crate::report::{put_command, put_texts, put_world};
 use crate::script::Step;
 use crate::trouble::Trouble;
-use mesh_base::{Str, Strs};
 use mesh_house::{Fail, MemHouse, Warehouse};
 use mesh_io::{File, MemFolder, Numbers};
 use mesh_list::{Duplicate, Seq};
+use mesh_values::{Str, Strs};
 use std::alloc::Global;
 use std::thread::Threads;
 

@@ -6,20 +6,20 @@ use Rattle.std.specs.declared.option.Option.{Option}
 use Rattle.std.specs.declared.cmp.Ordering.{Ordering}
 use Rattle.std.specs.Ordering.{is_eq, nat_cmp, ordering_then}
 use Rattle.mesh_list.specs.Keyed.{ascends}
-use Rattle.mesh_base.specs.declared.values.Column.{Column}
-use Rattle.mesh_base.specs.declared.values.Name.{Name}
+use Rattle.mesh_values.specs.declared.values.Column.{Column}
+use Rattle.mesh_values.specs.declared.values.Name.{Name}
 use Rattle.mesh_base.specs.declared.queries.Rel.{Rel}
 use Rattle.mesh_base.specs.declared.queries.Rel.TheVariants.{Named, Cte}
 use Rattle.mesh_base.specs.declared.queries.FromItem.{FromItem}
 use Rattle.mesh_base.specs.declared.queries.Select.{Select}
-use Rattle.mesh_base.specs.declared.definitions.Kind.{Kind}
-use Rattle.mesh_base.specs.declared.definitions.Kind.TheVariants.{Seed as SeedKind, Incremental}
+use Rattle.mesh_values.specs.declared.kinds.Kind.{Kind}
+use Rattle.mesh_values.specs.declared.kinds.Kind.TheVariants.{Seed as SeedKind, Incremental}
 use Rattle.mesh_base.specs.declared.definitions.Decl.{Decl}
 use Rattle.mesh_base.specs.declared.definitions.Defn.{Defn}
 use Rattle.mesh_base.specs.declared.definitions.Defn.TheVariants.{Seed, Sql}
 use Rattle.mesh_base.specs.declared.definitions.Own.{Own}
 use Rattle.mesh_base.specs.declared.snapshots.Node.{Node}
-use Rattle.mesh_base.specs.Names.{name_cmp, has_two_underscores}
+use Rattle.mesh_values.specs.Names.{name_cmp, has_two_underscores}
 use Rattle.mesh_base.specs.Outputs.{columns_of}
 use Rattle.mesh_rules.specs.Seen.{has_column, are_distinct, is_query_seen}
 

@@ -4,8 +4,8 @@ use Rattle.std.specs.List.{list_all, list_any, slice_get}
 use Rattle.std.specs.Option.{is_some, option_map}
 use Rattle.std.specs.declared.option.Option.{Option}
 use Rattle.std.specs.Ordering.{is_eq}
-use Rattle.mesh_base.specs.declared.values.Column.{Column}
-use Rattle.mesh_base.specs.declared.values.Name.{Name}
+use Rattle.mesh_values.specs.declared.values.Column.{Column}
+use Rattle.mesh_values.specs.declared.values.Name.{Name}
 use Rattle.mesh_base.specs.declared.expressions.Expr.{Expr, fold-Expr}
 use Rattle.mesh_base.specs.declared.expressions.Expr.TheOpen.{Expr-F, When-F, Literal, Col, Macro, Binary, Neg, Not, IsNull, Between, OneOf, Cast, Call, Case, CountAll, Agg}
 use Rattle.mesh_base.specs.declared.expressions.When.{When, fold-When}
@@ -16,9 +16,9 @@ use Rattle.mesh_base.specs.declared.queries.FromItem.{FromItem}
 use Rattle.mesh_base.specs.declared.queries.Select.{Select}
 use Rattle.mesh_base.specs.declared.queries.Query.{Query}
 use Rattle.mesh_base.specs.declared.definitions.Decl.{Decl}
-use Rattle.mesh_base.specs.Names.{name_cmp}
+use Rattle.mesh_values.specs.Names.{name_cmp}
 use Rattle.mesh_base.specs.Outputs.{select_columns}
-use Rattle.mesh_base.specs.Picked.{same_text}
+use Rattle.mesh_values.specs.Picked.{same_text}
 
 -- some column has that name
 abbrev pub has_column : List Column → List ℕ → Bool

@@ -1,12 +1,13 @@
 // What a command will do to an environment.
 use crate::projects::Project;
-use mesh_base::{Dues, Entries, Pairs, Str};
+use mesh_base::{Dues, Entries};
 use mesh_list::{Duplicate, Memory, Same};
+use mesh_values::{Pairs, Str};
 
 /// What a command will do to an environment at a moment. `run` computes what the environment lists, and plans no
 /// change of it. `entries` has one entry for each node of the project. A pair of `removed` is a model that goes and a
 /// name that has the word of its kind as its model part; one of `unsteady` is a model and one that it reads.
-#[derive(Debug, Drop)]
+#[derive(Drop)]
 pub struct Plan {
     pub env: Str,
     pub moment: i64,

@@ -5,8 +5,9 @@ ghost use Rattle.mesh_list.specs.Keyed.{ascends};
 ghost use Rattle.mesh_rules.specs.Proper.{are_fit, are_lower, has_lower_rank, has_node, have_distinct_names, is_fit, is_proper, node_cmp, node_itself, raised, rank_above, relation_of, relations_at, with_parent};
 
 use crate::well_formed::is_well_formed;
-use mesh_base::{Decl, MOST_MODELS, Name, Node, Own, Sources, columns_of};
+use mesh_base::{Decl, Node, Own, Sources, columns_of};
 use mesh_list::{Duplicate, Memory, Seq};
+use mesh_values::{MOST_MODELS, Name};
 use std::cmp::Ordering;
 
 fn has_lower_rank(nodes: &[Node], place: u32, rank: u32) -> bool

@@ -4,11 +4,9 @@ ghost use Rattle.std.specs.List.{list_all};
 ghost use Rattle.std.specs.Option.{option_copied};
 ghost use Rattle.mesh_rules.specs.Seen.{are_ctes_seen, are_selects_seen, are_there, column_at, conditions_see, has_column, is_query_seen, is_select_seen, items_see, keys_see, rel_columns, relation_columns, sees, sees_some, sees_when, select_sees, tables_of};
 
-use mesh_base::{
-    Column, Columns, Decl, Expr, FromItem, Item, Name, Query, Rel, Select, Selects, Str, When,
-    select_columns,
-};
+use mesh_base::{Decl, Expr, FromItem, Item, Query, Rel, Select, Selects, When, select_columns};
 use mesh_list::{Duplicate, Memory, Seq};
+use mesh_values::{Column, Columns, Name, Str};
 use std::alloc::Global;
 
 /// Names are compared by their bytes.

@@ -2,16 +2,14 @@
 ghost use Rattle.std.specs.Prelude.{◌≡◌, ◌++◌, IfOk, OnOk};
 ghost use Rattle.std.specs.List.{list_all};
 ghost use Rattle.mesh_list.specs.Keyed.{ascends};
-ghost use Rattle.mesh_base.specs.Names.{name_cmp};
+ghost use Rattle.mesh_values.specs.Names.{name_cmp};
 ghost use Rattle.mesh_rules.specs.Seen.{are_distinct};
 ghost use Rattle.mesh_rules.specs.Proper.{are_its_parents, are_known, are_named, decl_name, defn_names, has_its_time, is_among, is_body_of, is_body_seen, is_declared, is_plain_schema, is_well_formed, names_of_all, select_names, selects_names};
 
 use crate::seen::{has_column, is_query_seen};
-use mesh_base::{
-    Column, Decl, Defn, Kind, Name, Names, Own, Rel, Select, Selects, Sources, columns_of,
-    has_two_underscores,
-};
+use mesh_base::{Decl, Defn, Own, Rel, Select, Selects, Sources, columns_of};
 use mesh_list::{Duplicate, Memory, Seq};
+use mesh_values::{Column, Kind, Name, Names, has_two_underscores};
 
 fn is_plain_schema(schema: &[u8]) -> bool
     ensures { result ≡ is_plain_schema schema.now }

@@ -9,9 +9,9 @@ use Rattle.jiff_core.specs.Date.{epoch_day}
 use Rattle.jiff_core.proofs.SignedLemmas.{signed_arith, unsigned_abs-parts, one_part}
 use Rattle.jiff_core.proofs.CalendarLemmas.{days_in_month_bounds}
 use Rattle.jiff_core.proofs.DateLemmas.{days_from_civil-day, days_from_civil-next_month, days_from_civil-next_year, days_from_civil-min, days_from_civil-max}
-use Rattle.mesh_base.specs.Crons.{CronSets, is_cron}
+use Rattle.mesh_values.specs.Crons.{CronSets, is_cron}
 use Rattle.mesh_base.specs.declared.definitions.Own.{Own}
-use Rattle.mesh_time.specs.Moments.{moment, day_number, IsMoment}
+use Rattle.mesh_days.specs.Moments.{moment, day_number, IsMoment}
 use Rattle.mesh_time.specs.Ticks.{date_matches, minute_matches, IsFloor, IsQuiet}
 use Rattle.mesh_time.proofs.TickLaws.{tick_day, is_day_number, quiet_day, quiet_minutes, floor_on, quiet_over, floor_over, next_day, quiet_nowhere, moment_far, moment_le}
 use Rattle.mesh_time.proofs.Meets.{never_quiet}

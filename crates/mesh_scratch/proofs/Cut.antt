@@ -8,20 +8,20 @@ use Rattle.std.proofs.lemmas.Bool.{and_parts}
 use Rattle.std.proofs.lemmas.List.{length-map}
 use Rattle.std.proofs.lemmas.List.Elements.{All-nil, All-cons}
 use Rattle.std.proofs.Math.Nat.{mul-le-mul_right}
-use Rattle.mesh_base.specs.Picked.{same_text, cell_of, picked_row, picked_rows}
-use Rattle.mesh_base.specs.declared.times.Bounds.{Bounds}
+use Rattle.mesh_values.specs.Picked.{same_text, cell_of, picked_row, picked_rows}
+use Rattle.mesh_values.specs.declared.times.Bounds.{Bounds}
 use Rattle.mesh_base.specs.declared.jobs.Input.{Input}
-use Rattle.mesh_base.specs.declared.values.Cell.{Cell}
-use Rattle.mesh_base.specs.declared.values.ColType.{ColType}
-use Rattle.mesh_base.specs.declared.values.ColType.TheVariants.{Int, Text, Date, Bool as Truth}
-use Rattle.mesh_base.specs.declared.values.Column.{Column}
-use Rattle.mesh_base.specs.declared.times.Unit.{Unit as TimeUnit}
-use Rattle.mesh_base.specs.declared.times.Unit.TheVariants.{Hour, Day}
-use Rattle.mesh_base.specs.declared.times.Schedule.{Schedule}
+use Rattle.mesh_values.specs.declared.values.Cell.{Cell}
+use Rattle.mesh_values.specs.declared.values.ColType.{ColType}
+use Rattle.mesh_values.specs.declared.values.ColType.TheVariants.{Int, Text, Date, Bool as Truth}
+use Rattle.mesh_values.specs.declared.values.Column.{Column}
+use Rattle.mesh_values.specs.declared.times.Unit.{Unit as TimeUnit}
+use Rattle.mesh_values.specs.declared.times.Unit.TheVariants.{Hour, Day}
+use Rattle.mesh_values.specs.declared.times.Schedule.{Schedule}
 use Rattle.std.proofs.lemmas.Int.{ints, by_lt_z}
 use Rattle.mesh_time.specs.Ranges.{IsWithin, unit_size, unit_at}
 use Rattle.mesh_time.proofs.Apart.{lt_true, lt_says, le_true, le_says, and_true}
-use Rattle.mesh_scratch.specs.Times.{time_of, is_within, lies_in}
+use Rattle.mesh_seconds.specs.Times.{time_of, is_within, lies_in}
 use Rattle.mesh_scratch.specs.Sources.{same_type, is_of_type, has_shape, declared_rows}
 
 type_is : (a b : ColType) → same_type a b ≡ true → a ≡ b

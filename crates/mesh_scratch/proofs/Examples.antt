@@ -4,16 +4,16 @@ use Rattle.std.specs.Prelude.{codes}
 use Rattle.std.specs.declared.option.Option.TheVariants.{None, Some}
 use Rattle.std.specs.List.{position}
 use Rattle.std.specs.Ordering.{is_eq, is_lt}
-use Rattle.mesh_base.specs.declared.values.Cell.{Cell}
-use Rattle.mesh_base.specs.declared.values.Cell.TheVariants as cell
-use Rattle.mesh_base.specs.declared.values.ColType.TheVariants as type
-use Rattle.mesh_base.specs.declared.values.Column.{Column}
-use Rattle.mesh_base.specs.declared.values.Name.{Name}
-use Rattle.mesh_base.specs.declared.times.Bounds.{Bounds}
-use Rattle.mesh_base.specs.declared.times.Unit.TheVariants as unit
+use Rattle.mesh_values.specs.declared.values.Cell.{Cell}
+use Rattle.mesh_values.specs.declared.values.Cell.TheVariants as cell
+use Rattle.mesh_values.specs.declared.values.ColType.TheVariants as type
+use Rattle.mesh_values.specs.declared.values.Column.{Column}
+use Rattle.mesh_values.specs.declared.values.Name.{Name}
+use Rattle.mesh_values.specs.declared.times.Bounds.{Bounds}
+use Rattle.mesh_values.specs.declared.times.Unit.TheVariants as unit
 use Rattle.mesh_base.specs.declared.definitions.Decl.{Decl}
 use Rattle.mesh_base.specs.declared.definitions.Defn.TheVariants as defn
-use Rattle.mesh_base.specs.declared.definitions.Kind.TheVariants as kind
+use Rattle.mesh_values.specs.declared.kinds.Kind.TheVariants as kind
 use Rattle.mesh_base.specs.declared.definitions.Own.{Own}
 use Rattle.mesh_base.specs.declared.expressions.Expr.{Expr, roll-Expr, out-roll-Expr}
 use Rattle.mesh_base.specs.declared.expressions.Expr as expr
@@ -26,7 +26,7 @@ use Rattle.mesh_base.specs.declared.jobs.Input.{Input}
 use Rattle.mesh_base.specs.declared.queries.Query.{Query}
 use Rattle.mesh_base.specs.declared.queries.Rel.TheVariants as rel
 use Rattle.mesh_base.specs.declared.queries.Join.TheVariants as join
-use Rattle.mesh_base.specs.Crons.{CronSets}
+use Rattle.mesh_values.specs.Crons.{CronSets}
 use Rattle.mesh_meaning.specs.Cells.{compared, between}
 use Rattle.mesh_meaning.specs.Macros.{macro_value}
 use Rattle.mesh_meaning.specs.Ev.{Ev, Ev_node, Seen, Scope, at_row, key_or, same_expr, over_group, node_value, valued}
@@ -35,7 +35,7 @@ use Rattle.mesh_meaning.specs.Aggregates.{agg_value}
 use Rattle.mesh_scratch.specs.Closures.{Closure, Model, Alone, With}
 use Rattle.mesh_scratch.specs.Horizons.{Clock, horizon, schedule}
 use Rattle.mesh_scratch.specs.Sources.{declared}
-use Rattle.mesh_scratch.specs.Times.{lies_in}
+use Rattle.mesh_seconds.specs.Times.{lies_in}
 use Rattle.mesh_scratch.specs.Scratch.{from_scratch}
 use Rattle.mesh_scratch.proofs.Rows.{full_over_seed, incrementals}
 

@@ -5,7 +5,7 @@ use Rattle.std.proofs.lemmas.Int.{ints, by_lt_z}
 use Rattle.std.proofs.lemmas.List.Elements.{All-head, All-tail}
 use Rattle.mesh_base.specs.declared.definitions.Own.{Own}
 use Rattle.mesh_base.specs.declared.jobs.Input.{Input}
-use Rattle.mesh_base.specs.Crons.{CronSets, is_cron}
+use Rattle.mesh_values.specs.Crons.{CronSets, is_cron}
 use Rattle.mesh_time.specs.Ticks.{IsFloor}
 use Rattle.mesh_scratch.specs.Closures.{Closure, Closures, Model, Alone, With, own_of, standing, ancestors}
 use Rattle.mesh_scratch.specs.Horizons.{Clock, Shows, HasCrons, IsLastTick, floored, is_incremental, least_of, horizon_under, with_horizon, horizons_from, horizons_of, horizon, schedule, units_from}

@@ -2,20 +2,20 @@
 use Rattle.std.proofs.Common.{◌≡◌, ℕ, Bool, true, false, cond, ◌||◌, List, [], ◌∷◌, ◌++◌, map, refl, ap, sym, ◌∙◌, subst}
 use Rattle.std.specs.List.{All, filter, flat_map, list_any}
 use Rattle.std.proofs.lemmas.List.Elements.{All-nil, All-cons, All-append, All-weaker}
-use Rattle.mesh_base.specs.declared.times.Bounds.{Bounds}
+use Rattle.mesh_values.specs.declared.times.Bounds.{Bounds}
 use Rattle.mesh_base.specs.declared.definitions.Own.{Own}
-use Rattle.mesh_base.specs.declared.definitions.Kind.{Kind}
-use Rattle.mesh_base.specs.declared.definitions.Kind.TheVariants.{Full, View, Seed as SeedKind, Incremental}
+use Rattle.mesh_values.specs.declared.kinds.Kind.{Kind}
+use Rattle.mesh_values.specs.declared.kinds.Kind.TheVariants.{Full, View, Seed as SeedKind, Incremental}
 use Rattle.mesh_base.specs.declared.definitions.Defn.TheVariants.{Seed, Sql}
 use Rattle.mesh_base.specs.declared.queries.Query.{Query}
 use Rattle.mesh_base.specs.declared.jobs.Input.{Input}
-use Rattle.mesh_base.specs.declared.values.Cell.{Cell}
-use Rattle.mesh_base.specs.declared.values.Column.{Column}
+use Rattle.mesh_values.specs.declared.values.Cell.{Cell}
+use Rattle.mesh_values.specs.declared.values.Column.{Column}
 use Rattle.mesh_base.specs.Outputs.{columns_of, defn_columns}
 use Rattle.mesh_meaning.specs.Sel.{Sel}
 use Rattle.mesh_scratch.specs.Closures.{Closures, Model, Alone, With}
 use Rattle.mesh_scratch.specs.Horizons.{Clock, schedule}
-use Rattle.mesh_scratch.specs.Times.{lies_in}
+use Rattle.mesh_seconds.specs.Times.{lies_in}
 use Rattle.mesh_scratch.specs.Sources.{declared}
 use Rattle.mesh_scratch.specs.Scratch.{from_scratch, inputs_of, no_bounds, defn_rows, rows_over, piece, piece_over, tables}
 

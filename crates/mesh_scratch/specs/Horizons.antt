@@ -4,12 +4,12 @@ use Rattle.std.specs.List.{All, fold}
 use Rattle.std.specs.Int.{int_min, int_div_euclid}
 use Rattle.std.specs.declared.option.Option.{Option}
 use Rattle.std.specs.declared.option.Option.TheVariants.{None, Some}
-use Rattle.mesh_base.specs.declared.times.Unit.{Unit as TimeUnit}
-use Rattle.mesh_base.specs.declared.times.Bounds.{Bounds}
-use Rattle.mesh_base.specs.declared.definitions.Kind.{Kind}
-use Rattle.mesh_base.specs.declared.definitions.Kind.TheVariants.{Incremental}
+use Rattle.mesh_values.specs.declared.times.Unit.{Unit as TimeUnit}
+use Rattle.mesh_values.specs.declared.times.Bounds.{Bounds}
+use Rattle.mesh_values.specs.declared.kinds.Kind.{Kind}
+use Rattle.mesh_values.specs.declared.kinds.Kind.TheVariants.{Incremental}
 use Rattle.mesh_base.specs.declared.definitions.Own.{Own}
-use Rattle.mesh_base.specs.Crons.{is_cron}
+use Rattle.mesh_values.specs.Crons.{is_cron}
 use Rattle.mesh_time.specs.Ticks.{IsFloor}
 use Rattle.mesh_time.specs.Ranges.{unit_size, units}
 use Rattle.mesh_scratch.specs.Closures.{Closure, Closures, Model, Alone, With, own_of, standing}

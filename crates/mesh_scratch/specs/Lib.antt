@@ -2,8 +2,6 @@
 pub mod Closures
 -- Horizons: how far a model's rows go at a moment, and the units of its schedule.
 pub mod Horizons
--- Times: the second that a cell stands for, and the rows that lie in a unit.
-pub mod Times
 -- Sources: a source cut to what a model declares of it.
 pub mod Sources
 -- Scratch: the rows of a closure from scratch.

@@ -4,15 +4,15 @@ use Rattle.std.specs.List.{find, list_all}
 use Rattle.std.specs.declared.option.Option.{Option}
 use Rattle.std.specs.declared.option.Option.TheVariants.{None, Some}
 use Rattle.mesh_list.specs.Keyed.{found}
-use Rattle.mesh_base.specs.declared.values.Cell.{Cell}
-use Rattle.mesh_base.specs.declared.values.ColType.{ColType}
-use Rattle.mesh_base.specs.declared.values.ColType.TheVariants.{Int, Text, Date, Bool as Truth}
-use Rattle.mesh_base.specs.declared.values.Column.{Column}
+use Rattle.mesh_values.specs.declared.values.Cell.{Cell}
+use Rattle.mesh_values.specs.declared.values.ColType.{ColType}
+use Rattle.mesh_values.specs.declared.values.ColType.TheVariants.{Int, Text, Date, Bool as Truth}
+use Rattle.mesh_values.specs.declared.values.Column.{Column}
 use Rattle.mesh_base.specs.declared.jobs.Input.{Input}
 use Rattle.mesh_base.specs.declared.definitions.Decl.{Decl}
 use Rattle.mesh_base.specs.Keys.{input_name}
-use Rattle.mesh_base.specs.Names.{name_cmp}
-use Rattle.mesh_base.specs.Picked.{same_text, picked_rows}
+use Rattle.mesh_values.specs.Names.{name_cmp}
+use Rattle.mesh_values.specs.Picked.{same_text, picked_rows}
 
 abbrev pub same_type : ColType → ColType → Bool
 same_type Int Int = true

@@ -3,25 +3,25 @@ ghost use Rattle.std.specs.Prelude.{◌≡◌, true, false, ℕ, ℤ, pos, ◌*�
 ghost use Rattle.std.specs.List.{All, Contains, filter, find, flat_map, list_all, list_any, slice_get};
 ghost use Rattle.std.specs.Option.{option_to_list};
 ghost use Rattle.std.specs.declared.option.Option.{Option};
-ghost use Rattle.mesh_base.specs.Picked.{cell_of, same_text};
-ghost use Rattle.mesh_base.specs.declared.times.Bounds.{Bounds};
-ghost use Rattle.mesh_base.specs.declared.times.Schedule.{Schedule};
+ghost use Rattle.mesh_values.specs.Picked.{cell_of, same_text};
+ghost use Rattle.mesh_values.specs.declared.times.Bounds.{Bounds};
+ghost use Rattle.mesh_values.specs.declared.times.Schedule.{Schedule};
 ghost use Rattle.mesh_base.specs.declared.jobs.Input.{Input};
-ghost use Rattle.mesh_base.specs.declared.values.Cell.{Cell};
-ghost use Rattle.mesh_base.specs.declared.values.Column.{Column};
+ghost use Rattle.mesh_values.specs.declared.values.Cell.{Cell};
+ghost use Rattle.mesh_values.specs.declared.values.Column.{Column};
 ghost use Rattle.mesh_base.specs.declared.definitions.Own.{Own};
-ghost use Rattle.mesh_base.specs.declared.definitions.Kind.TheVariants as kind;
+ghost use Rattle.mesh_values.specs.declared.kinds.Kind.TheVariants as kind;
 ghost use Rattle.mesh_base.specs.declared.definitions.Defn.TheVariants as defn;
 ghost use Rattle.mesh_base.specs.declared.queries.Query.{Query};
 ghost use Rattle.mesh_base.specs.declared.snapshots.Node.{Node};
 ghost use Rattle.mesh_base.specs.Outputs.{columns_of};
-ghost use Rattle.mesh_time.specs.Moments.{IsMoment};
+ghost use Rattle.mesh_days.specs.Moments.{IsMoment};
 ghost use Rattle.mesh_time.specs.Ranges.{IsWithin, unit_at, units};
 ghost use Rattle.mesh_meaning.specs.Sel.{Sel};
 ghost use Rattle.mesh_scratch.specs.Closures.{Closure, Closures, Model, Alone, With, own_of, parents_of, each_of, ancestors, closures};
 ghost use Rattle.mesh_scratch.specs.Horizons.{Clock, Shows, HasCrons, is_incremental, is_timed, least_of, horizon, schedule};
 ghost use Rattle.mesh_scratch.specs.Sources.{declared_rows};
-ghost use Rattle.mesh_scratch.specs.Times.{lies_in, time_of};
+ghost use Rattle.mesh_seconds.specs.Times.{lies_in, time_of};
 ghost use Rattle.mesh_scratch.specs.Scratch.{from_scratch, inputs_of, no_bounds, piece};
 
 /// The closures of a project are one for each model, and the parents of each are among them. Where a model's parents

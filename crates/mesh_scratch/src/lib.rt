@@ -1,6 +1,6 @@
-//! What a model's rows are from scratch, at a moment and over the sources as they stand. Its definitions are read in this
-//! order: `Closures`, `Horizons`, `Times`, `Sources` and `Scratch`. They are its contract, with laws that show them at
-//! work. It stands on `mesh_meaning` and `mesh_time`.
+//! What a model's rows are from scratch, at a moment and over the sources as they stand. Its definitions are read in
+//! this order: `Closures`, `Horizons`, `Sources` and `Scratch`. They are its contract, with laws that show them at
+//! work. It stands on `mesh_meaning`, `mesh_time` and `mesh_seconds`.
 #![tactic(auto)]
 
 mod laws;

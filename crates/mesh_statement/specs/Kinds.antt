@@ -14,8 +14,8 @@ use Rattle.mesh_statement.specs.declared.kinds.KindWord.{KindWord}
 use Rattle.mesh_statement.specs.declared.kinds.KindWord.TheVariants as the_kind
 use Rattle.mesh_statement.specs.declared.kinds.Entries.{Entries}
 use Rattle.mesh_statement.specs.declared.kinds.KindText.{KindText}
-use Rattle.mesh_base.specs.declared.definitions.Kind.{Kind}
-use Rattle.mesh_base.specs.declared.definitions.Kind.TheVariants as base_kind
+use Rattle.mesh_values.specs.declared.kinds.Kind.{Kind}
+use Rattle.mesh_values.specs.declared.kinds.Kind.TheVariants as base_kind
 use Rattle.mesh_statement.specs.Faults.{bad, unknown, outside, provided, is_sign, is_word}
 use Rattle.mesh_statement.specs.Brackets.{or_fault, value_len}
 use Rattle.mesh_statement.specs.Paths.{file_at}

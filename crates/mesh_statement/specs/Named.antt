@@ -2,8 +2,8 @@
 use Rattle.std.specs.Prelude.{Bool, true}
 use Rattle.std.specs.declared.option.Option.{Option}
 use Rattle.std.specs.declared.option.Option.TheVariants.{None, Some}
-use Rattle.mesh_base.specs.Names.{is_schema}
-use Rattle.mesh_base.specs.declared.values.Name.{Name}
+use Rattle.mesh_values.specs.Names.{is_schema}
+use Rattle.mesh_values.specs.declared.values.Name.{Name}
 
 -- a name's schema is one
 abbrev pub has_schema : Option Name → Bool

@@ -4,7 +4,7 @@ use Rattle.std.specs.List.{list_any}
 use Rattle.std.specs.Str.{bytes_eq}
 use Rattle.std.specs.declared.option.Option.{Option}
 use Rattle.std.specs.declared.option.Option.TheVariants.{None, Some}
-use Rattle.mesh_base.specs.Names.{begins_with}
+use Rattle.mesh_values.specs.Names.{begins_with}
 use Rattle.mesh_statement.specs.Values.{◌>>=◌}
 
 abbrev pub has_slash : List ℕ → Bool

@@ -4,15 +4,15 @@ use Rattle.std.specs.List.{list_any}
 use Rattle.std.specs.Str.{bytes_eq}
 use Rattle.std.specs.declared.option.Option.{Option}
 use Rattle.std.specs.declared.option.Option.TheVariants.{None, Some}
-use Rattle.mesh_base.specs.Crons.{CronSets}
-use Rattle.mesh_base.specs.Names.{is_schema}
-use Rattle.mesh_base.specs.declared.crons.CronFault.{CronFault}
-use Rattle.mesh_base.specs.declared.values.Name.{Name}
-use Rattle.mesh_base.specs.declared.values.Column.{Column}
-use Rattle.mesh_base.specs.declared.times.Unit.{Unit as TimeUnit}
-use Rattle.mesh_base.specs.declared.times.Unit.TheVariants.{Hour, Day}
+use Rattle.mesh_values.specs.Crons.{CronSets}
+use Rattle.mesh_values.specs.Names.{is_schema}
+use Rattle.mesh_values.specs.declared.crons.CronFault.{CronFault}
+use Rattle.mesh_values.specs.declared.values.Name.{Name}
+use Rattle.mesh_values.specs.declared.values.Column.{Column}
+use Rattle.mesh_values.specs.declared.times.Unit.{Unit as TimeUnit}
+use Rattle.mesh_values.specs.declared.times.Unit.TheVariants.{Hour, Day}
 use Rattle.mesh_time.specs.CronText.{cron_of}
-use Rattle.mesh_meaning.specs.Dates.{day_named}
+use Rattle.mesh_casts.specs.Dates.{day_named}
 use Rattle.mesh_tokens.specs.declared.faults.FaultKind.TheVariants.{BadCron, TooLarge}
 use Rattle.mesh_tokens.specs.declared.faults.ReadFault.{ReadFault}
 use Rattle.mesh_tokens.specs.declared.faults.ReadFault.TheVariants.{Fault}

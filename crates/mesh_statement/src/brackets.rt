@@ -6,9 +6,9 @@ ghost use Rattle.mesh_statement.specs.Brackets.{or_fault, closed, rounds, opened
 
 use crate::faults::{broken, too_deep};
 use crate::look::is_sign;
-use mesh_base::DEEPEST_NESTING;
 use mesh_list::{Memory, Seq};
 use mesh_tokens::{ReadFault, Token};
+use mesh_values::DEEPEST_NESTING;
 use std::alloc::Global;
 
 // The brackets that are open, the innermost last; a parenthesis is true.

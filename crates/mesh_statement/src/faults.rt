@@ -4,9 +4,9 @@ ghost use Rattle.mesh_tokens.specs.Gives.{Gives, Refuses};
 ghost use Rattle.mesh_statement.specs.Faults.{broken, bad, unknown, outside, too_deep};
 ghost use Rattle.mesh_statement.specs.Answers.{Refused};
 
-use mesh_base::{DEEPEST_NESTING, Str};
 use mesh_list::{Duplicate, Memory};
 use mesh_tokens::{FaultKind, ReadFault};
+use mesh_values::{DEEPEST_NESTING, Str};
 use std::alloc::Global;
 
 /// A fault of syntax behind the token that ends here.

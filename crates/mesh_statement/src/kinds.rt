@@ -15,14 +15,14 @@ use crate::look::{is_number, is_sign, is_word, text, word};
 use crate::paths::file_at;
 use crate::values::behind;
 use crate::words::{is_entry, is_left_out, is_one_of, kind_named};
-use mesh_base::{Kind, Str, Strs};
 use mesh_list::{Duplicate, Memory, Seq};
 use mesh_tokens::{ReadFault, Token};
+use mesh_values::{Kind, Str, Strs};
 use mesh_words::is_same;
 use std::alloc::Global;
 
 /// The word of a kind.
-#[derive(Clone, Copy, Debug, PartialEq, Eq)]
+#[derive(Clone, Copy, PartialEq, Eq)]
 pub enum KindWord {
     Full,
     View,
@@ -31,7 +31,7 @@ pub enum KindWord {
 }
 
 /// The entries of a kind, and the names of all that have been read.
-#[derive(Debug, Drop)]
+#[derive(Drop)]
 pub struct Entries {
     pub seen: Strs,
     pub path: Option<Str>,
@@ -40,7 +40,7 @@ pub struct Entries {
 }
 
 /// A kind, and for a SEED the path of its file in the project and the byte at which that text begins.
-#[derive(Debug, Drop)]
+#[derive(Drop)]
 pub struct KindText {
     pub kind: Kind,
     pub path: Option<Str>,

@@ -1,6 +1,6 @@
-//! MODEL statements. Its contract: `read_statement` gives exactly what the definition `statement` says of the tokens of a
-//! model's file: the properties up to the semicolon, or the first fault among them. A seed's path is one of the project. It stands on `mesh_list`,
-//! `mesh_base`, `mesh_time`, `mesh_casts`, `mesh_tokens` and `mesh_words`.
+//! MODEL statements. Its contract: `read_statement` gives exactly what the definition `statement` says of the tokens of
+//! a model's file: the properties up to the semicolon, or the first fault among them. A seed's path is one of the
+//! project. It stands on `mesh_list`, `mesh_values`, `mesh_time`, `mesh_casts`, `mesh_tokens` and `mesh_words`.
 #![tactic(auto)]
 
 mod brackets;
@@ -12,8 +12,6 @@ mod look;
 mod parts;
 mod paths;
 mod properties;
-#[cfg(test)]
-mod tests;
 mod values;
 mod words;
 

@@ -5,8 +5,8 @@ ghost use Rattle.mesh_statement.specs.Values.{word, text, said_kind};
 ghost use Rattle.mesh_statement.specs.Kinds.{is_number, is_one_of};
 ghost use Rattle.mesh_statement.specs.Views.{seen};
 
-use mesh_base::Str;
 use mesh_tokens::{Token, TokenKind};
+use mesh_values::Str;
 use mesh_words::is_same;
 
 pub(crate) fn is_sign(token: &Token, sign: &[u8]) -> bool

@@ -7,15 +7,15 @@ use crate::faults::{bad, unknown};
 use crate::kinds::{KindText, kind_value};
 use crate::values::{columns_value, cron_value, name_of, start_of, unit_of};
 use crate::words::{is_one_of, is_property};
-use mesh_base::{Columns, Cron, Name, Strs, Unit};
 use mesh_list::{Duplicate, Memory, Seq};
 use mesh_tokens::{ReadFault, Token};
+use mesh_values::{Columns, Cron, Name, Strs, Unit};
 use mesh_words::is_same;
 use std::alloc::Global;
 
 /// The properties of a statement, and the names of all that stand in it. A start is a day counted from 1970-01-01; no
 /// columns stand where the property is absent.
-#[derive(Debug, Drop)]
+#[derive(Drop)]
 pub struct Parts {
     pub seen: Strs,
     pub name: Option<Name>,

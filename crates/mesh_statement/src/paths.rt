@@ -2,8 +2,8 @@
 ghost use Rattle.std.specs.Prelude.{◌≡◌, [], IfOk};
 ghost use Rattle.mesh_statement.specs.Paths.{folder_of, within, is_here, is_up, above, next_folder, file_in, behind_byte, file_from, file_at};
 
-use mesh_base::Str;
 use mesh_list::{Duplicate, Memory, Seq};
+use mesh_values::Str;
 use mesh_words::is_same;
 use std::alloc::Global;
 

@@ -7,11 +7,11 @@ ghost use Rattle.mesh_statement.specs.Answers.{Refused};
 
 use crate::faults::bad;
 use crate::look::{is_sign, said, text, word};
-use mesh_base::{Column, Columns, Cron, MOST_COLUMNS, Name, Unit, is_schema};
 use mesh_casts::day_named;
 use mesh_list::{Duplicate, Memory, Seq};
 use mesh_time::read_cron;
 use mesh_tokens::{FaultKind, ReadFault, Token, TokenKind};
+use mesh_values::{Column, Columns, Cron, MOST_COLUMNS, Name, Unit, is_schema};
 use mesh_words::{is_same, type_of};
 use std::alloc::Global;
 

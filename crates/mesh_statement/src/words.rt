@@ -4,7 +4,7 @@ ghost use Rattle.mesh_statement.specs.Kinds.{is_left_out, kind_named, is_one_of,
 ghost use Rattle.mesh_statement.specs.Statement.{is_free, is_property, words_read};
 
 use crate::kinds::KindWord;
-use mesh_base::Str;
+use mesh_values::Str;
 use mesh_words::is_same;
 
 pub(crate) fn is_one_of(words: &[Str], word: &[u8]) -> bool

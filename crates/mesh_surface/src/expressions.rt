@@ -1,11 +1,11 @@
 // Expressions as they are written. Each `at` is the place of the form's first byte.
 use crate::signs::{AddSign, Cmp, Function, MulSign};
-use mesh_base::{ColType, Str};
 use mesh_list::{Boxed, Seq};
+use mesh_values::{ColType, Str};
 
 /// One or more parts with OR between them: a whole expression.
 #[cycle(surface)]
-#[derive(Debug, Drop, PartialEq, Eq)]
+#[derive(Drop)]
 pub struct OrExpr {
     pub at: u64,
     pub parts: Seq<AndExpr>,
@@ -13,14 +13,14 @@ pub struct OrExpr {
 
 /// One or more parts with AND between them.
 #[cycle(surface)]
-#[derive(Debug, Drop, PartialEq, Eq)]
+#[derive(Drop)]
 pub struct AndExpr {
     pub at: u64,
     pub parts: Seq<NotExpr>,
 }
 
 #[cycle(surface)]
-#[derive(Debug, Drop, PartialEq, Eq)]
+#[derive(Drop)]
 pub enum NotExpr {
     Not { at: u64, inner: Boxed<NotExpr> },
     Plain { at: u64, pred: Pred },
@@ -28,7 +28,7 @@ pub enum NotExpr {
 
 /// A value, and what is asked about it.
 #[cycle(surface)]
-#[derive(Debug, Drop, PartialEq, Eq)]
+#[derive(Drop)]
 pub struct Pred {
     pub at: u64,
     pub left: CatExpr,
@@ -37,7 +37,7 @@ pub struct Pred {
 
 /// `negated` where NOT stands before it, or in IS NOT NULL.
 #[cycle(surface)]
-#[derive(Debug, Drop, PartialEq, Eq)]
+#[derive(Drop)]
 pub enum Test {
     Nothing,
     Compare {
@@ -60,14 +60,14 @@ pub enum Test {
 
 /// One or more parts with `||` between them.
 #[cycle(surface)]
-#[derive(Debug, Drop, PartialEq, Eq)]
+#[derive(Drop)]
 pub struct CatExpr {
     pub at: u64,
     pub parts: Seq<AddExpr>,
 }
 
 #[cycle(surface)]
-#[derive(Debug, Drop, PartialEq, Eq)]
+#[derive(Drop)]
 pub struct AddExpr {
     pub at: u64,
     pub first: MulExpr,
@@ -76,7 +76,7 @@ pub struct AddExpr {
 
 /// A sign and what it adds or takes away.
 #[cycle(surface)]
-#[derive(Debug, Drop, PartialEq, Eq)]
+#[derive(Drop)]
 pub struct AddStep {
     pub at: u64,
     pub sign: AddSign,
@@ -84,7 +84,7 @@ pub struct AddStep {
 }
 
 #[cycle(surface)]
-#[derive(Debug, Drop, PartialEq, Eq)]
+#[derive(Drop)]
 pub struct MulExpr {
     pub at: u64,
     pub first: Unary,
@@ -92,7 +92,7 @@ pub struct MulExpr {
 }
 
 #[cycle(surface)]
-#[derive(Debug, Drop, PartialEq, Eq)]
+#[derive(Drop)]
 pub struct MulStep {
     pub at: u64,
     pub sign: MulSign,
@@ -100,7 +100,7 @@ pub struct MulStep {
 }
 
 #[cycle(surface)]
-#[derive(Debug, Drop, PartialEq, Eq)]
+#[derive(Drop)]
 pub enum Unary {
     Minus { at: u64, inner: Boxed<Unary> },
     Plain { at: u64, post: Post },
@@ -108,7 +108,7 @@ pub enum Unary {
 
 /// A value and the types that `::` turns it into, one after the other.
 #[cycle(surface)]
-#[derive(Debug, Drop, PartialEq, Eq)]
+#[derive(Drop)]
 pub struct Post {
     pub at: u64,
     pub value: Primary,
@@ -117,7 +117,7 @@ pub struct Post {
 
 /// The day of a date counts from 1970-01-01. A macro's name is without the `@`.
 #[cycle(surface)]
-#[derive(Debug, Drop, PartialEq, Eq)]
+#[derive(Drop)]
 pub enum Primary {
     Number {
         at: u64,
@@ -171,7 +171,7 @@ pub enum Primary {
 
 /// A WHEN with its value.
 #[cycle(surface)]
-#[derive(Debug, Drop, PartialEq, Eq)]
+#[derive(Drop)]
 pub struct Arm {
     pub at: u64,
     pub test: OrExpr,
@@ -179,7 +179,7 @@ pub struct Arm {
 }
 
 #[cycle(surface)]
-#[derive(Debug, Drop, PartialEq, Eq)]
+#[derive(Drop)]
 pub enum Args {
     Star { at: u64 },
     Distinct { at: u64, value: Boxed<OrExpr> },

@@ -1,6 +1,5 @@
 //! The syntax tree of a query: one type for each rule of the grammar, with a field for each part of the rule and a
-//! variant for each of its alternatives. Its contract: two trees are the same exactly where all their parts are. It
-//! stands on `mesh_list` and `mesh_base`.
+//! variant for each of its alternatives. It stands on `mesh_list` and `mesh_values`.
 #![tactic(auto)]
 
 mod expressions;

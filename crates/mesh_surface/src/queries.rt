@@ -1,17 +1,17 @@
 // Queries as they are written. Each `at` is the place of the form's first byte.
 use crate::expressions::OrExpr;
-use mesh_base::Str;
 use mesh_list::Seq;
+use mesh_values::Str;
 
 /// A whole query: its common table expressions, and what is selected.
-#[derive(Debug, Drop, PartialEq, Eq)]
+#[derive(Drop)]
 pub struct Surface {
     pub at: u64,
     pub ctes: Seq<SurfaceCte>,
     pub body: SurfaceUnion,
 }
 
-#[derive(Debug, Drop, PartialEq, Eq)]
+#[derive(Drop)]
 pub struct SurfaceCte {
     pub at: u64,
     pub name: Str,
@@ -19,14 +19,14 @@ pub struct SurfaceCte {
 }
 
 /// One or more SELECTs with UNION ALL between them.
-#[derive(Debug, Drop, PartialEq, Eq)]
+#[derive(Drop)]
 pub struct SurfaceUnion {
     pub at: u64,
     pub selects: Seq<SurfaceSelect>,
 }
 
 /// `keys` are those of GROUP BY, and empty where it doesn't stand. A comma after the last item leaves no trace.
-#[derive(Debug, Drop, PartialEq, Eq)]
+#[derive(Drop)]
 pub struct SurfaceSelect {
     pub at: u64,
     pub distinct: bool,
@@ -38,7 +38,7 @@ pub struct SurfaceSelect {
 }
 
 /// `AllOf` has the columns of one FROM item.
-#[derive(Debug, Drop, PartialEq, Eq)]
+#[derive(Drop)]
 pub enum SurfaceItem {
     All {
         at: u64,
@@ -54,7 +54,7 @@ pub enum SurfaceItem {
     },
 }
 
-#[derive(Debug, Drop, PartialEq, Eq)]
+#[derive(Drop)]
 pub struct SurfaceFrom {
     pub at: u64,
     pub first: SurfaceRel,
@@ -62,7 +62,7 @@ pub struct SurfaceFrom {
 }
 
 /// A comma and CROSS JOIN mean the same join.
-#[derive(Debug, Drop, PartialEq, Eq)]
+#[derive(Drop)]
 pub enum SurfaceJoin {
     Comma {
         at: u64,
@@ -85,7 +85,7 @@ pub enum SurfaceJoin {
 }
 
 /// A name of one part or two, and another name for it in this SELECT.
-#[derive(Debug, Drop, PartialEq, Eq)]
+#[derive(Drop)]
 pub struct SurfaceRel {
     pub at: u64,
     pub schema: Option<Str>,

@@ -1,7 +1,7 @@
 // Operators and functions as they are written.
 
 /// How two values are compared.
-#[derive(Debug, Clone, Copy, PartialEq, Eq)]
+#[derive(Clone, Copy, PartialEq, Eq)]
 pub enum Cmp {
     Eq,
     Ne,
@@ -11,13 +11,13 @@ pub enum Cmp {
     Ge,
 }
 
-#[derive(Debug, Clone, Copy, PartialEq, Eq)]
+#[derive(Clone, Copy, PartialEq, Eq)]
 pub enum AddSign {
     Plus,
     Minus,
 }
 
-#[derive(Debug, Clone, Copy, PartialEq, Eq)]
+#[derive(Clone, Copy, PartialEq, Eq)]
 pub enum MulSign {
     Times,
     Over,
@@ -25,7 +25,7 @@ pub enum MulSign {
 }
 
 /// The functions of one row's values, and then those of a group's.
-#[derive(Debug, Clone, Copy, PartialEq, Eq)]
+#[derive(Clone, Copy, PartialEq, Eq)]
 pub enum Function {
     Abs,
     Length,

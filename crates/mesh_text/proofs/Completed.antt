@@ -4,9 +4,9 @@ use Rattle.std.specs.Option.{is_some, unwrap_or}
 use Rattle.std.specs.declared.option.Option.{Option}
 use Rattle.std.specs.declared.option.Option.TheVariants.{None, Some}
 use Rattle.mesh_list.proofs.Ascends.{and_both}
-use Rattle.mesh_base.specs.Crons.{CronSets}
-use Rattle.mesh_base.specs.declared.definitions.Kind.{Kind}
-use Rattle.mesh_base.specs.declared.values.Name.{Name}
+use Rattle.mesh_values.specs.Crons.{CronSets}
+use Rattle.mesh_values.specs.declared.kinds.Kind.{Kind}
+use Rattle.mesh_values.specs.declared.values.Name.{Name}
 use Rattle.mesh_tokens.specs.Gives.{◌>>=◌}
 use Rattle.mesh_tokens.specs.declared.faults.ReadFault.{ReadFault}
 use Rattle.mesh_tokens.specs.declared.tokens.Token.{Token}

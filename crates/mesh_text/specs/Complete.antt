@@ -3,8 +3,8 @@ use Rattle.std.specs.Prelude.{ℕ, Bool, true, ◌&&◌, not, nat_le, List, leng
 use Rattle.std.specs.Char.{is_ascii_uppercase}
 use Rattle.std.specs.List.{list_any}
 use Rattle.std.specs.Option.{is_some}
-use Rattle.mesh_base.specs.Names.{is_identifier, is_schema}
-use Rattle.mesh_base.specs.declared.values.Name.{Name}
+use Rattle.mesh_values.specs.Names.{is_identifier, is_schema}
+use Rattle.mesh_values.specs.declared.values.Name.{Name}
 use Rattle.mesh_tokens.specs.Pieces.{longest_name}
 use Rattle.mesh_text.specs.declared.model.ModelText.{ModelText}
 use Rattle.mesh_text.specs.ModelTexts.{is_seed_kind, is_timed}

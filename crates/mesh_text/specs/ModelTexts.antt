@@ -4,11 +4,11 @@ use Rattle.std.specs.Prelude.{ℕ, ℤ, ◌-◌, Bool, true, false, ◌&&◌, no
 use Rattle.std.specs.Option.{is_some, unwrap_or}
 use Rattle.std.specs.declared.option.Option.{Option}
 use Rattle.std.specs.declared.option.Option.TheVariants.{None, Some}
-use Rattle.mesh_base.specs.Crons.{CronSets, is_single}
-use Rattle.mesh_base.specs.declared.definitions.Kind.{Kind}
-use Rattle.mesh_base.specs.declared.definitions.Kind.TheVariants as kind
-use Rattle.mesh_base.specs.declared.times.Unit.{Unit as TimeUnit}
-use Rattle.mesh_base.specs.declared.times.Unit.TheVariants.{Hour, Day}
+use Rattle.mesh_values.specs.Crons.{CronSets, is_single}
+use Rattle.mesh_values.specs.declared.kinds.Kind.{Kind}
+use Rattle.mesh_values.specs.declared.kinds.Kind.TheVariants as kind
+use Rattle.mesh_values.specs.declared.times.Unit.{Unit as TimeUnit}
+use Rattle.mesh_values.specs.declared.times.Unit.TheVariants.{Hour, Day}
 use Rattle.mesh_time.specs.CronText.{cron_of}
 use Rattle.mesh_tokens.specs.Gives.{◌>>=◌}
 use Rattle.mesh_tokens.specs.declared.faults.FaultKind.TheVariants.{Syntax, NoStart}

@@ -7,11 +7,11 @@ ghost use Rattle.mesh_text.specs.ModelTexts.{is_seed_text, body, whole, query_at
 ghost use Rattle.mesh_text.specs.Reads.{IsQueryRead};
 
 use crate::model::Whole;
-use mesh_base::Kind;
 use mesh_query::parse;
 use mesh_statement::{KindText, read_statement};
 use mesh_surface::Surface;
 use mesh_tokens::{FaultKind, ReadFault, Token, Tokens};
+use mesh_values::Kind;
 
 fn is_seed(kind: &Option<KindText>) -> bool
     ensures { result ≡ is_seed_text kind.now }

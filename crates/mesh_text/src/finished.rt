@@ -7,11 +7,11 @@ ghost use Rattle.mesh_tokens.specs.Gives.{Gives};
 ghost use Rattle.mesh_text.specs.ModelTexts.{kind_of, is_timed, started, cron_or_daily, unit_of, finished};
 
 use crate::model::{ModelText, Whole};
-use mesh_base::{Cron, Kind, Name, Str, Unit};
 use mesh_list::{Duplicate, Memory};
 use mesh_statement::{KindText, Parts};
 use mesh_time::read_cron;
 use mesh_tokens::{FaultKind, ReadFault};
+use mesh_values::{Cron, Kind, Name, Str, Unit};
 use std::alloc::Global;
 
 fn kind_of(found: Option<KindText>) -> KindText

@@ -8,7 +8,7 @@ use mesh_tokens::{ReadFault, Tokens, tokens_of};
 use std::alloc::Global;
 
 /// The tokens in front of the first fault among them, and that fault.
-#[derive(Debug, Drop)]
+#[derive(Drop)]
 pub(crate) struct Lexed {
     pub(crate) tokens: Tokens,
     pub(crate) fault: Option<ReadFault>,

@@ -1,19 +1,15 @@
-//! The files of models. Its contract: `read_model` gives what the definition `model_of` says of a file's tokens: the MODEL
-//! statement, the query behind it and what follows from absent properties, or the first fault of the text. The query is
-//! read as `mesh_query` promises. It stands on `mesh_list`, `mesh_base`, `mesh_time`, `mesh_tokens`, `mesh_query` and
-//! `mesh_statement`.
+//! The files of models. Its contract: `read_model` gives what the definition `model_of` says of a file's tokens: the
+//! MODEL statement, the query behind it and what follows from absent properties, or the first fault of the text. The
+//! query is read as `mesh_query` promises. It stands on `mesh_list`, `mesh_values`, `mesh_time`, `mesh_tokens`,
+//! `mesh_query` and `mesh_statement`.
 #![tactic(auto)]
 
 mod behind;
-#[cfg(test)]
-mod cut_tests;
 mod finished;
 mod laws;
 mod lexed;
 mod model;
 mod read;
-#[cfg(test)]
-mod tests;
 
 pub use laws::models_are_complete;
 pub use model::ModelText;

@@ -8,9 +8,9 @@ use crate::behind::read_whole;
 use crate::finished::finished;
 use crate::lexed::{Lexed, read_tokens};
 use crate::model::{ModelText, Whole};
-use mesh_base::Str;
 use mesh_statement::end_of;
 use mesh_tokens::{FaultKind, ReadFault, Token};
+use mesh_values::Str;
 
 // Whether a fault only says that tokens are wanting.
 fn is_want(tokens: &[Token], fault: &ReadFault) -> bool

@@ -2,7 +2,6 @@ pub mod TickLaws
 pub mod CronFacts
 pub mod Years
 pub mod Meets
-pub mod TextLaws
 pub mod FieldLaws
 pub mod SetLaws
 pub mod MadeCron

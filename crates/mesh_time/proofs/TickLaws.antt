@@ -4,8 +4,9 @@ use Rattle.jiff_core.specs.declared.civil.date.Date.{Date}
 use Rattle.jiff_core.specs.Date.{epoch_day}
 use Rattle.jiff_core.proofs.SignedLemmas.{signed_arith, int_div_euclid-parts, int_rem_euclid-parts, unsigned_abs-parts, one_part}
 use Rattle.jiff_core.proofs.DateLemmas.{epoch_day_injective}
-use Rattle.mesh_base.specs.Crons.{CronSets, has, count_below}
-use Rattle.mesh_time.specs.Moments.{moment, day_number, day_at, second_at, IsDayNumber}
+use Rattle.mesh_values.specs.Crons.{CronSets, has, count_below}
+use Rattle.mesh_days.specs.Moments.{moment, day_number, day_at, second_at, IsDayNumber}
+use Rattle.mesh_days.proofs.TextLaws.{parts_at}
 use Rattle.mesh_time.specs.Ticks.{calendar_day, date_matches, day_matches, minute_matches, weekday, IsFloor, IsQuiet, IsTick, IsTickDay}
 
 pub count_more : (p : ℕ → Bool) (n : ℕ) → count_below p (n + 1) ≡ count_below p n + cond (p n) 1 0
@@ -29,13 +30,6 @@ tick_day c day d h e =
 pub is_day_number : (day : ℕ) → day ≤ 3_652_058 → IsDayNumber (day_number day)
 unfolding day_number
 is_day_number day h = (omega (arith, signed_arith), omega (arith, signed_arith))
-
-pub parts_at : (t : ℤ) (day second : ℕ) → t ≡ moment day second → second < 86_400 → (day_at t ≡ day_number day) × (second_at t ≡ second)
-unfolding moment day_number
-parts_at t day second e h =
-    let d = int_div_euclid-parts t 86_400 (omega arith) in
-    let r = int_rem_euclid-parts t 86_400 (omega arith) in
-    (omega (arith, signed_arith), omega (arith, signed_arith))
 
 pub tick_at : (c : CronSets) (t : ℤ) (day second : ℕ) → t ≡ moment day second → second < 86_400 → IsTick c t ↔ ((second % 60 ≡ 0) × IsTrue (minute_matches c (second / 60)) × IsTickDay c (day_number day))
 unfolding IsTick

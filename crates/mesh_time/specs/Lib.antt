@@ -1,5 +1,3 @@
--- Moments: days and moments, their texts, and the time value of a cell.
-pub mod Moments
 -- Ticks: the moments that a cron names, and the last of them.
 pub mod Ticks
 -- CronText: the text of a cron, what it means and why it may be none.

@@ -1,12 +1,12 @@
 // Ranges of seconds: spans that ascend, none empty, no two touching. A hole is what lies between two spans.
 ghost use Rattle.std.specs.Prelude.{◌≡◌, true, ℕ, [], ◌++◌, ◌∷◌, ◌↔◌, ◌⊎◌, ◌<◌, IsTrue, IfOk, OnOk, OnErr, List, ℤ, ◌<ℤ◌, ◌≤ℤ◌};
 ghost use Rattle.std.specs.List.{flat_map, list_any};
-ghost use Rattle.mesh_base.specs.declared.times.Bounds.{Bounds};
+ghost use Rattle.mesh_values.specs.declared.times.Bounds.{Bounds};
 ghost use Rattle.mesh_time.specs.Ranges.{IsWithin, Has, is_apart, covers, is_held, unit_size, unit_count, unit_at, missing_units};
 ghost use Rattle.mesh_time.specs.Edits.{hull, added, filled, pieces, open_after, front_covers, spans_with, spans_without};
 
-use mesh_base::{Bounds, Schedule, Spans, Unit};
 use mesh_list::{Duplicate, Memory, Same, Seq};
+use mesh_values::{Bounds, Schedule, Spans, Unit};
 use std::alloc::Global;
 use std::marker::Model;
 
@@ -17,14 +17,14 @@ pub const FIRST_SECOND: i64 = -62_135_596_800;
 pub const END_OF_SECONDS: i64 = 253_402_300_800;
 
 /// The seconds that are recorded, which contracts see as the list of their spans.
-#[derive(Debug, Drop, PartialEq, Eq)]
+#[derive(Drop, PartialEq, Eq)]
 pub struct Ranges {
     spans: Spans,
 }
 
 impl Model for Ranges {
     ghost use Rattle.std.specs.Prelude.{List, true, ◌≡◌};
-    ghost use Rattle.mesh_base.specs.declared.times.Bounds.{Bounds};
+    ghost use Rattle.mesh_values.specs.declared.times.Bounds.{Bounds};
     ghost use Rattle.mesh_time.specs.Ranges.{is_apart};
 
     ghost Value = { List Bounds };

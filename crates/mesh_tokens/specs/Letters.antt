@@ -1,7 +1,7 @@
 -- The bytes that blanks, words, numbers and signs are made of.
 use Rattle.std.specs.Prelude.{ℕ, ◌+◌, ◌*◌, ◌-◌, Bool, ◌&&◌, ◌||◌, nat_le, ◌==◌, List, [], ◌∷◌, map}
 use Rattle.std.specs.Char.{to_ascii_lowercase}
-use Rattle.mesh_base.specs.Names.{is_letter}
+use Rattle.mesh_values.specs.Names.{is_letter}
 
 -- space, tab, carriage return and line feed
 abbrev pub is_blank : ℕ → Bool

@@ -2,11 +2,11 @@
 ghost use Rattle.std.specs.Prelude.{◌≡◌};
 ghost use Rattle.mesh_tokens.specs.declared.faults.ReadFault.TheVariants.{Memory as OutOfMemory};
 
-use mesh_base::{CronFault, Name, Names, Str};
 use mesh_list::Memory;
+use mesh_values::{CronFault, Name, Names, Str};
 
 /// What is wrong, in the order of the printed faults M1 to M20, of which M17 has two.
-#[derive(Debug, Drop, PartialEq, Eq)]
+#[derive(Drop, PartialEq, Eq)]
 pub enum FaultKind {
     Syntax,
     TooLarge { what: Str, limit: u64 },
@@ -32,7 +32,7 @@ pub enum FaultKind {
 }
 
 /// `at` is a place in the text's bytes.
-#[derive(Debug, Drop, PartialEq, Eq)]
+#[derive(Drop, PartialEq, Eq)]
 pub enum ReadFault {
     Fault { at: u64, kind: FaultKind },
     Memory,

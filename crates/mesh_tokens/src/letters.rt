@@ -1,6 +1,6 @@
 // The bytes that blanks, words, numbers and signs are made of.
 ghost use Rattle.std.specs.Prelude.{◌≡◌};
-ghost use Rattle.mesh_base.specs.Names.{is_name_byte};
+ghost use Rattle.mesh_values.specs.Names.{is_name_byte};
 ghost use Rattle.mesh_tokens.specs.Letters.{begins_word, is_blank, is_digit, is_long_sign, is_sign};
 
 pub(crate) fn is_blank(byte: u8) -> bool

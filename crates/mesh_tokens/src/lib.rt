@@ -1,6 +1,6 @@
 //! The tokens of model files and queries, and the faults of every text that is read. Its contract: `tokens_of` gives
 //! exactly the tokens of a text, each as long as it can be and with its place, or the text's first fault. It stands on
-//! `mesh_list` and `mesh_base`.
+//! `mesh_list` and `mesh_values`.
 #![tactic(auto)]
 
 mod copies;
@@ -10,8 +10,6 @@ mod letters;
 mod pieces;
 mod read;
 mod same;
-#[cfg(test)]
-mod tests;
 mod tokens;
 
 pub use faults::{FaultKind, ReadFault};

@@ -10,8 +10,8 @@ use crate::faults::{FaultKind, ReadFault};
 use crate::lengths::{digits_len, line_len, note_len, text_len, valid_len, word_len};
 use crate::letters::{begins_word, is_blank, is_digit, is_long_sign, is_sign};
 use crate::tokens::TokenKind;
-use mesh_base::{LARGEST_NUMBER, LONGEST_NAME, Str};
 use mesh_list::{Memory, Seq};
+use mesh_values::{LARGEST_NUMBER, LONGEST_NAME, Str};
 use std::alloc::Global;
 
 /// What a piece is, if it is a token, and its length in bytes.

@@ -8,8 +8,8 @@ ghost use Rattle.mesh_tokens.specs.Text.{file_word, in_order, largest_file, toke
 use crate::faults::{FaultKind, ReadFault};
 use crate::pieces::{copied, piece_at};
 use crate::tokens::{Token, Tokens};
-use mesh_base::LARGEST_FILE;
 use mesh_list::Seq;
+use mesh_values::LARGEST_FILE;
 use std::alloc::Global;
 
 fn file_too_large(alloc: Global) -> Result<Tokens, ReadFault>

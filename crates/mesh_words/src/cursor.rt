@@ -9,9 +9,9 @@ ghost use Rattle.mesh_grammar.specs.Machine.{begins};
 
 use crate::fault::Fault;
 use crate::words::{is_reserved, is_same, type_of};
-use mesh_base::{ColType, Str};
 use mesh_list::Duplicate;
 use mesh_tokens::{Token, TokenKind};
+use mesh_values::{ColType, Str};
 
 /// The place of a token's first byte, or 0 at the end of the tokens.
 pub fn place(tokens: &[Token], at: usize) -> u64

@@ -5,7 +5,7 @@ ghost use Rattle.mesh_words.specs.declared.fault.Fault.TheVariants.{Memory as Ou
 use mesh_list::Memory;
 
 /// Memory is out, a token can't stand there, or too much is open at once.
-#[derive(Debug, Clone, Copy)]
+#[derive(Clone, Copy)]
 pub enum Fault {
     Memory,
     Syntax { token: usize },

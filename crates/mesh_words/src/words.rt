@@ -3,8 +3,8 @@ ghost use Rattle.std.specs.Prelude.{◌≡◌, ◌↔◌, IsTrue};
 ghost use Rattle.std.specs.Str.{bytes_eq};
 ghost use Rattle.mesh_grammar.specs.Words.{words_a_to_c, words_d_to_g, words_h_to_l, words_n_to_r, words_s_to_w, is_one_of, is_reserved, type_of, function_of, row_function_of, group_function_of};
 
-use mesh_base::ColType;
 use mesh_surface::Function;
+use mesh_values::ColType;
 
 pub fn is_same(a: &[u8], b: &[u8]) -> bool
     ensures value { result ≡ bytes_eq a.now b.now }

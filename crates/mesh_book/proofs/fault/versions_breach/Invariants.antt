@@ -1,6 +1,6 @@
 use Rattle.std.proofs.Common.{◌≡◌, drop, None}
 use Rattle.std.specs.Option.{option_copied}
-use Rattle.mesh_base.specs.Names.{name_cmp}
+use Rattle.mesh_values.specs.Names.{name_cmp}
 use Rattle.mesh_book.specs.Changes.{version_object}
 use Rattle.mesh_book.specs.WellFormed.{breach_from, is_above}
 use Rattle.mesh_book.proofs.fault.versions_breach.Given as goal

@@ -4,7 +4,7 @@ use Rattle.std.specs.Ordering.{is_eq}
 use Rattle.std.proofs.lemmas.List.{length-take, take_rest}
 use Rattle.mesh_list.specs.Keyed.{ascends}
 use Rattle.mesh_base.specs.declared.snapshots.Ref.{Ref}
-use Rattle.mesh_base.specs.Names.{name_cmp}
+use Rattle.mesh_values.specs.Names.{name_cmp}
 use Rattle.mesh_base.specs.Keys.{ref_cmp, ref_name}
 use Rattle.mesh_book.specs.WellFormed.{is_listed}
 use Rattle.mesh_book.proofs.Halves.{ascends_drop, ascends_take, listed_behind, listed_before, listed_here}

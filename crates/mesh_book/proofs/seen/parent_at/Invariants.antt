@@ -1,6 +1,6 @@
 use Rattle.std.proofs.Common.{◌≡◌, drop}
 use Rattle.mesh_list.specs.Keyed.{found}
-use Rattle.mesh_base.specs.Names.{name_cmp}
+use Rattle.mesh_values.specs.Names.{name_cmp}
 use Rattle.mesh_base.specs.Keys.{ref_name}
 use Rattle.mesh_book.proofs.seen.parent_at.Given as goal
 

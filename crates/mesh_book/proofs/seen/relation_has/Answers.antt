@@ -1,9 +1,9 @@
 use Rattle.std.proofs.Common.{Some, None, List, sym, ◌∙◌, ap}
 use Rattle.std.specs.declared.option.Option.{Option}
 use Rattle.std.specs.Option.{option_copied}
-use Rattle.mesh_base.specs.declared.values.Column.{Column}
+use Rattle.mesh_values.specs.declared.values.Column.{Column}
 use Rattle.mesh_base.specs.declared.definitions.Decl.{Decl}
-use Rattle.mesh_base.specs.Names.{name_cmp}
+use Rattle.mesh_values.specs.Names.{name_cmp}
 use Rattle.mesh_base.specs.Keys.{ref_name}
 use Rattle.mesh_list.specs.Keyed.{found}
 use Rattle.mesh_rules.specs.Seen.{has_column, has_in, relation_columns}

@@ -1,7 +1,7 @@
 use Rattle.std.proofs.Common.{Some, None, List, sym, ◌∙◌, ap}
 use Rattle.std.specs.Option.{is_some, option_copied}
 use Rattle.mesh_base.specs.declared.definitions.Decl.{Decl}
-use Rattle.mesh_base.specs.Names.{name_cmp}
+use Rattle.mesh_values.specs.Names.{name_cmp}
 use Rattle.mesh_base.specs.Keys.{ref_name}
 use Rattle.mesh_list.specs.Keyed.{found}
 use Rattle.mesh_rules.specs.Seen.{relation_columns}

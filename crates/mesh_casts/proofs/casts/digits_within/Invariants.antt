@@ -1,5 +1,5 @@
 use Rattle.std.proofs.Common.{◌≡◌, ◌≤◌, ◌+◌, drop}
-use Rattle.mesh_meaning.specs.Casts.{digits_after}
+use Rattle.mesh_casts.specs.Casts.{digits_after}
 use Rattle.mesh_casts.proofs.casts.digits_within.Given as goal
 
 abbrev pub invariant-loop-byte : goal.invariant-loop-byte

@@ -1,5 +1,5 @@
 use Rattle.std.proofs.Common.{◌≡◌, drop}
-use Rattle.mesh_base.specs.Picked.{kind_of}
+use Rattle.mesh_values.specs.Picked.{kind_of}
 use Rattle.mesh_cli.proofs.pick.kind_of.Given as goal
 
 abbrev pub invariant-loop-column : goal.invariant-loop-column

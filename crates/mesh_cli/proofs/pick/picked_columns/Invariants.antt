@@ -1,5 +1,5 @@
 use Rattle.std.proofs.Common.{◌≡◌, take}
-use Rattle.mesh_base.specs.Picked.{picked_columns}
+use Rattle.mesh_values.specs.Picked.{picked_columns}
 use Rattle.mesh_cli.proofs.pick.picked_columns.Given as goal
 
 abbrev pub invariant-loop-name : goal.invariant-loop-name

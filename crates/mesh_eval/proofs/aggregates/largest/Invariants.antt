@@ -1,6 +1,6 @@
 use Rattle.std.proofs.Common.{◌≡◌, take}
 use Rattle.std.specs.List.{fold}
-use Rattle.mesh_base.specs.declared.values.Cell.TheVariants.{Null}
+use Rattle.mesh_values.specs.declared.values.Cell.TheVariants.{Null}
 use Rattle.mesh_meaning.specs.Aggregates.{larger}
 use Rattle.mesh_eval.proofs.aggregates.largest.Given as goal
 

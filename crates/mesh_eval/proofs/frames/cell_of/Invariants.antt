@@ -1,5 +1,5 @@
 use Rattle.std.proofs.Common.{◌≡◌, drop}
-use Rattle.mesh_base.specs.Picked.{cell_of}
+use Rattle.mesh_values.specs.Picked.{cell_of}
 use Rattle.mesh_eval.proofs.frames.cell_of.Given as goal
 
 -- the cell is that of what is left

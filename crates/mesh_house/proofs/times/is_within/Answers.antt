@@ -1,7 +1,7 @@
 use Rattle.std.proofs.Common.{ap, sym, arith}
 use Rattle.std.proofs.lemmas.Int.{ints}
-use Rattle.mesh_scratch.specs.Times.{is_within}
-use Rattle.mesh_laws.proofs.Seconds.{time_value}
+use Rattle.mesh_seconds.specs.Times.{is_within}
+use Rattle.mesh_seconds.proofs.Seconds.{time_value}
 use Rattle.mesh_house.proofs.Days.{time_of-none}
 use Rattle.mesh_house.proofs.times.is_within.Goals as goal
 

@@ -1,6 +1,6 @@
 use Rattle.std.proofs.Common.{rules, ◌++◌, ◌∙◌, ap, not, List, filter}
 use Rattle.std.proofs.lemmas.Fn.{filter_same}
-use Rattle.mesh_base.specs.declared.values.Cell.{Cell}
+use Rattle.mesh_values.specs.declared.values.Cell.{Cell}
 use Rattle.mesh_house.specs.Times.{lies_within}
 use Rattle.mesh_house.proofs.times.write.Goals as goal
 

@@ -1,5 +1,5 @@
 use Rattle.std.proofs.Common.{◌≡◌, List, ◌++◌, ◌∷◌, [], length, ap, sym, ◌∙◌, arith, length-append}
-use Rattle.mesh_base.specs.declared.values.Cell.{Cell}
+use Rattle.mesh_values.specs.declared.values.Cell.{Cell}
 use Rattle.mesh_index.proofs.OneOfEach.{kept-step, taken_front}
 use Rattle.mesh_index.proofs.distinct.kept.Goals as goal
 

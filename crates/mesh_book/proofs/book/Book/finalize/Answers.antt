@@ -1,7 +1,7 @@
 use Rattle.std.proofs.Common.{false, List, refl, sym, ◌∙◌, ap}
 use Rattle.mesh_list.specs.Keyed.{exchanged}
 use Rattle.mesh_base.specs.declared.snapshots.Ref.{Ref}
-use Rattle.mesh_base.specs.Names.{text_cmp}
+use Rattle.mesh_values.specs.Names.{text_cmp}
 use Rattle.mesh_base.specs.Keys.{env_name}
 use Rattle.mesh_book.specs.Changes.{as_final}
 use Rattle.mesh_book.proofs.Exchanged.{env_absent, env_changed}

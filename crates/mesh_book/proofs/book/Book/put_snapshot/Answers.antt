@@ -2,9 +2,9 @@ use Rattle.std.proofs.Common.{◌≡◌, false, Some, None, refl, sym, ◌∙◌
 use Rattle.std.specs.declared.option.Option.{Option}
 use Rattle.std.specs.Option.{is_some, option_copied}
 use Rattle.mesh_list.specs.Keyed.{found, without}
-use Rattle.mesh_base.specs.declared.values.Name.{Name}
-use Rattle.mesh_base.specs.Names.{name_cmp}
-use Rattle.mesh_base.specs.NameOrder.{names_total}
+use Rattle.mesh_values.specs.declared.values.Name.{Name}
+use Rattle.mesh_values.specs.Names.{name_cmp}
+use Rattle.mesh_values.specs.NameOrder.{names_total}
 use Rattle.mesh_book.specs.Changes.{version_object}
 use Rattle.mesh_book.specs.declared.versions.Version.{Version}
 use Rattle.mesh_book.proofs.Exchanged.{without_placed}

@@ -3,8 +3,8 @@ use Rattle.std.specs.Int.Signed.{lt_z, le_z}
 use Rattle.std.proofs.lemmas.Int.{ints}
 use Rattle.std.proofs.lemmas.Result.{on_ok_weaker, on_err_weaker}
 use Rattle.mesh_list.specs.Keyed.{exchanged}
-use Rattle.mesh_base.specs.Names.{name_cmp}
-use Rattle.mesh_base.specs.declared.times.Bounds.{Bounds}
+use Rattle.mesh_values.specs.Names.{name_cmp}
+use Rattle.mesh_values.specs.declared.times.Bounds.{Bounds}
 use Rattle.mesh_time.specs.Edits.{spans_with}
 use Rattle.mesh_book.specs.Changes.{version_object, with_range}
 use Rattle.mesh_book.specs.declared.versions.Version.{Version}

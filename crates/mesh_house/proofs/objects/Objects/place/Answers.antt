@@ -1,4 +1,4 @@
-use Rattle.mesh_base.specs.Names.{name_cmp}
+use Rattle.mesh_values.specs.Names.{name_cmp}
 use Rattle.mesh_house.specs.Objects.{object_name, is_physical}
 use Rattle.mesh_house.proofs.Tested.{all-placed}
 use Rattle.mesh_house.proofs.objects.Objects.place.Goals as goal

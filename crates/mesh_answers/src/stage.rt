@@ -1,0 +1,150 @@
+// One case: a text that is read, and the rows that it stands for.
+use crate::shown::{put_places, put_rows, put_sum};
+use crate::words::{Word, expanded};
+use mesh_base::{Defn, Input, Inputs, Own, columns_of};
+use mesh_canon::read_own;
+use mesh_cases::{Trouble, halves};
+use mesh_eval::eval;
+use mesh_index::distinct_rows;
+use mesh_list::Duplicate;
+use mesh_values::{Bounds, Rows};
+use std::alloc::Global;
+
+/// The second day of 1970.
+const DAY: Bounds = Bounds {
+    start: 86_400,
+    end: 172_800,
+};
+
+/// The words and the tables that the lines so far have made, and what is to be printed.
+#[derive(Drop)]
+pub struct Stage {
+    pub words: Vec<Word>,
+    pub tables: Inputs,
+    pub report: Vec<u8>,
+}
+
+/// The definition of a model of the schema `a`, which is written as in canonical text.
+fn definition(alloc: Global, name: &[u8], body: &[u8]) -> Result<Own, Trouble> {
+    let mut text = Vec::from_slice(alloc, b"(own 1:a ")?;
+    text.extend_from_slice(name)?;
+    text.extend_from_slice(b" (full) 9:0 0 * * * day none [] ")?;
+    text.extend_from_slice(body)?;
+    text.push(b')')?;
+    read_own(alloc, text.as_slice()).map_err(|_| Trouble::Case)
+}
+
+/// The query of an expression.
+fn of_expression(alloc: Global, expression: &[u8]) -> Result<Vec<u8>, Trouble> {
+    let front = b"(query [] [(select all plain [(as 1:x int ";
+    let mut text = Vec::from_slice(alloc, front)?;
+    text.extend_from_slice(expression)?;
+    text.extend_from_slice(b")] [] none [] none)])")?;
+    Ok(text)
+}
+
+/// The rows of a seed, or those of a query over the tables.
+fn rows_of(alloc: Global, tables: &Inputs, own: &Own) -> Result<Rows, Trouble> {
+    match &own.defn {
+        Defn::Seed { rows, .. } => Ok(rows.copy()?),
+        Defn::Sql(query) => Ok(eval(alloc, query, tables.as_slice(), DAY)?),
+    }
+}
+
+fn put_distinct(alloc: Global, report: &mut Vec<u8>, rows: Rows) -> Result<(), Trouble> {
+    let kept = distinct_rows(rows)?;
+    put_rows(alloc, report, &kept)
+}
+
+impl Stage {
+    /// Adds a word.
+    fn word(&mut self, alloc: Global, name: &[u8], text: Vec<u8>) -> Result<(), Trouble> {
+        let name = Vec::from_slice(alloc, name)?;
+        self.words.push(Word { name, text })?;
+        Ok(())
+    }
+
+    /// Adds a table.
+    fn table(&mut self, own: &Own, rows: Rows) -> Result<(), Trouble> {
+        let name = own.name.copy()?;
+        let columns = columns_of(own)?;
+        self.tables.push(Input {
+            name,
+            columns,
+            rows,
+        })?;
+        Ok(())
+    }
+
+    /// Adds the places of rows in the last table.
+    fn places(&mut self, alloc: Global, rows: &Rows) -> Result<(), Trouble> {
+        match self.tables.as_slice() {
+            [.., last] => put_places(alloc, &mut self.report, &last.rows, rows),
+            [] => Err(Trouble::Case),
+        }
+    }
+
+    /// Adds what rows show.
+    fn rows(&mut self, alloc: Global, head: &[u8], rows: Rows) -> Result<(), Trouble> {
+        if head.starts_with(b"sum ") {
+            put_sum(alloc, &mut self.report, &rows)
+        } else if head.starts_with(b"distinct ") {
+            put_distinct(alloc, &mut self.report, rows)
+        } else if head.starts_with(b"places ") {
+            self.places(alloc, &rows)
+        } else {
+            put_rows(alloc, &mut self.report, &rows)
+        }
+    }
+
+    /// Adds the line of a case.
+    fn line(&mut self, alloc: Global, head: &[u8], rows: Rows) -> Result<(), Trouble> {
+        self.report.extend_from_slice(head)?;
+        self.report.push(b':')?;
+        self.rows(alloc, head, rows)?;
+        self.report.push(b'\n')?;
+        Ok(())
+    }
+
+    /// Reads the text of a table, and adds it.
+    fn named(&mut self, alloc: Global, name: &[u8], text: &[u8]) -> Result<(), Trouble> {
+        let own = definition(alloc, name, text)?;
+        let rows = rows_of(alloc, &self.tables, &own)?;
+        self.table(&own, rows)
+    }
+
+    /// Reads the text of a case, and adds its line.
+    fn case(&mut self, alloc: Global, head: &[u8], text: &[u8]) -> Result<(), Trouble> {
+        let own = definition(alloc, b"0:", text)?;
+        let rows = rows_of(alloc, &self.tables, &own)?;
+        self.line(alloc, head, rows)
+    }
+
+    /// Runs a line whose text stands behind a head.
+    fn headed(&mut self, alloc: Global, line: &[u8]) -> Result<(), Trouble> {
+        let (head, behind) = halves(line)?;
+        let text = expanded(alloc, self.words.as_slice(), behind)?;
+        if let Some(name) = head.strip_prefix(b"$") {
+            self.word(alloc, name, text)
+        } else if let Some(name) = head.strip_prefix(b"table ") {
+            self.named(alloc, name, text.as_slice())
+        } else {
+            self.case(alloc, head, text.as_slice())
+        }
+    }
+
+    /// Runs a line that is an expression.
+    fn expression(&mut self, alloc: Global, line: &[u8]) -> Result<(), Trouble> {
+        let text = expanded(alloc, self.words.as_slice(), line)?;
+        let query = of_expression(alloc, text.as_slice())?;
+        self.case(alloc, line, query.as_slice())
+    }
+
+    pub fn run(&mut self, alloc: Global, line: &[u8]) -> Result<(), Trouble> {
+        if line.starts_with(b"(") {
+            self.expression(alloc, line)
+        } else {
+            self.headed(alloc, line)
+        }
+    }
+}

@@ -1,0 +1,245 @@
+// Books by their lines, the breaches of a well-formed one, and the rules that books stand on.
+use crate::changes::snapshot;
+use crate::line::{Line, Named, Owns, parted};
+use crate::owns::{add_own, put_columns_of, put_sorted};
+use mesh_base::{Decl, Env, Indexes, Node, Nodes, Snapshot, columns_of};
+use mesh_book::{Book, Version, book_fault};
+use mesh_cases::{Trouble, cases_of};
+use mesh_list::{Duplicate, Register, Same, Seq};
+use mesh_rules::{Project, is_well_formed};
+use mesh_time::Ranges;
+use std::alloc::Global;
+
+/// The parts of a book.
+#[derive(Drop)]
+struct Parts {
+    moment: i64,
+    snapshots: Vec<Snapshot>,
+    versions: Vec<Version>,
+    environments: Vec<Env>,
+}
+
+fn version(line: &Line) -> Result<Version, Trouble> {
+    Ok(Version {
+        object: line.name(1)?,
+        made: false,
+        ranges: Ranges::new(line.alloc()),
+        marks: None,
+    })
+}
+
+fn environment(line: &Line) -> Result<Env, Trouble> {
+    Ok(Env {
+        name: line.text(1)?,
+        pending: false,
+        list: line.refs(b"list")?,
+        previous: line.refs(b"previous")?,
+        expires: None,
+    })
+}
+
+impl Parts {
+    fn add(&mut self, line: &Line, owns: &[Named]) -> Result<(), Trouble> {
+        if line.is(0, b"moment") {
+            self.moment = line.number(1)?;
+        } else if line.is(0, b"snapshot") {
+            self.snapshots.push(snapshot(line, owns)?)?;
+        } else if line.is(0, b"version") {
+            self.versions.push(version(line)?)?;
+        } else if line.is(0, b"environment") {
+            self.environments.push(environment(line)?)?;
+        } else {
+            return Err(Trouble::Case);
+        }
+        Ok(())
+    }
+}
+
+fn book(alloc: Global, lines: &[&[u8]], owns: &[Named]) -> Result<Book, Trouble> {
+    let mut parts = Parts {
+        moment: 0,
+        snapshots: Vec::new(alloc),
+        versions: Vec::new(alloc),
+        environments: Vec::new(alloc),
+    };
+    for text in lines {
+        parts.add(&Line::of(alloc, text)?, owns)?;
+    }
+    let Parts {
+        moment,
+        snapshots,
+        versions,
+        environments,
+    } = parts;
+    Ok(Book {
+        moment,
+        snapshots: Register::from_vec(snapshots),
+        versions: Register::from_vec(versions),
+        environments: Register::from_vec(environments),
+    })
+}
+
+fn put_fault(alloc: Global, report: &mut Vec<u8>, book: &Book) -> Result<(), Trouble> {
+    match book_fault(book) {
+        Some(fault) => {
+            let text = format!(in alloc; "part {} place {}", fault.part, fault.place)?;
+            report.extend_from_slice(text.as_bytes())?;
+        }
+        None => report.extend_from_slice(b"well formed")?,
+    }
+    if !book.copy()?.same(book) {
+        report.extend_from_slice(b", unlike its copy")?;
+    }
+    Ok(())
+}
+
+fn decl(named: &Line, owns: &[Named], at: usize) -> Result<Decl, Trouble> {
+    let own = named.own(owns, at)?;
+    Ok(Decl {
+        name: own.name.copy()?,
+        columns: columns_of(own)?,
+        time: None,
+    })
+}
+
+/// Whether a definition is well formed over the parents that are named behind it.
+fn is_fit(line: &Line, owns: &[Named]) -> Result<bool, Trouble> {
+    let mut parents = Vec::new(line.alloc());
+    for at in 2..line.len() {
+        parents.push(decl(line, owns, at)?)?;
+    }
+    Ok(is_well_formed(parents.as_slice(), line.own(owns, 1)?)?)
+}
+
+fn places(line: &Line) -> Result<Indexes, Trouble> {
+    let mut places = Seq::new(line.alloc());
+    for at in 3..line.len() {
+        places.push(line.rank(at)?)?;
+    }
+    Ok(places)
+}
+
+fn node(line: &Line, owns: &[Named]) -> Result<Node, Trouble> {
+    Ok(Node {
+        own: line.own(owns, 1)?.copy()?,
+        parents: places(line)?,
+        rank: line.rank(2)?,
+        fingerprint: [7; 32],
+    })
+}
+
+fn put_project(alloc: Global, report: &mut Vec<u8>, nodes: Nodes) -> Result<(), Trouble> {
+    match Project::new(nodes)? {
+        Some(made) => {
+            let text = format!(in alloc; "{} nodes", made.as_slice().len())?;
+            report.extend_from_slice(text.as_bytes())?;
+            if !made.copy()?.same(&made) {
+                report.extend_from_slice(b", unlike its copy")?;
+            }
+        }
+        None => report.extend_from_slice(b"none")?,
+    }
+    Ok(())
+}
+
+/// The lines of a good book, the same with those that are changed, and the nodes of a project.
+#[derive(Drop)]
+struct Stage<'a> {
+    good: Vec<&'a [u8]>,
+    now: Vec<&'a [u8]>,
+    nodes: Nodes,
+    report: Vec<u8>,
+}
+
+impl<'a> Stage<'a> {
+    fn with(&mut self, alloc: Global, rest: &'a [u8]) -> Result<(), Trouble> {
+        let (place, text) = parted(rest, b' ');
+        let at = Line::of(alloc, place)?.rank(0)?;
+        match self.now.get_mut((at as usize).wrapping_sub(1)) {
+            Some(line) => {
+                *line = text;
+                Ok(())
+            }
+            None => Err(Trouble::Case),
+        }
+    }
+
+    fn fault(&mut self, alloc: Global, owns: &[Named]) -> Result<(), Trouble> {
+        let book = book(alloc, self.now.as_slice(), owns)?;
+        self.now = Vec::from_slice(alloc, self.good.as_slice())?;
+        put_fault(alloc, &mut self.report, &book)
+    }
+
+    fn project(&mut self, alloc: Global) -> Result<(), Trouble> {
+        let nodes = std::mem::replace(&mut self.nodes, Seq::new(alloc));
+        put_project(alloc, &mut self.report, nodes)
+    }
+
+    /// A step that prints a line.
+    fn shown(&mut self, line: &Line, owns: &[Named]) -> Result<(), Trouble> {
+        if line.is(0, b"fault") {
+            self.fault(line.alloc(), owns)
+        } else if line.is(0, b"project") {
+            self.project(line.alloc())
+        } else if line.is(0, b"well_formed") {
+            let fit = is_fit(line, owns)?;
+            Ok(
+                self.report
+                    .extend_from_slice(if fit { b"yes" } else { b"no" })?,
+            )
+        } else if line.is(0, b"columns_of") {
+            put_columns_of(line.alloc(), &mut self.report, line.own(owns, 1)?)
+        } else if line.is(0, b"sort_rows") {
+            put_sorted(line.alloc(), &mut self.report, line.own(owns, 1)?)
+        } else {
+            Err(Trouble::Case)
+        }
+    }
+
+    fn told(&mut self, alloc: Global, owns: &[Named], text: &[u8]) -> Result<(), Trouble> {
+        self.report.extend_from_slice(text)?;
+        self.report.extend_from_slice(b": ")?;
+        self.shown(&Line::of(alloc, text)?, owns)?;
+        self.report.push(b'\n')?;
+        Ok(())
+    }
+
+    fn step(&mut self, alloc: Global, owns: &mut Owns, text: &'a [u8]) -> Result<(), Trouble> {
+        let (word, rest) = parted(text, b' ');
+        if word == b"own".as_slice() {
+            add_own(alloc, owns, rest)
+        } else if word == b"line".as_slice() {
+            self.good.push(rest)?;
+            Ok(self.now.push(rest)?)
+        } else if word == b"with".as_slice() {
+            self.with(alloc, rest)
+        } else if word == b"node".as_slice() {
+            let node = node(&Line::of(alloc, text)?, owns)?;
+            Ok(self.nodes.push(node)?)
+        } else {
+            self.told(alloc, owns, text)
+        }
+    }
+}
+
+fn steps<'a>(alloc: Global, stage: &mut Stage<'a>, file: &'a [u8]) -> Result<(), Trouble> {
+    let mut owns = Vec::new(alloc);
+    for text in &cases_of(alloc, file)? {
+        stage.step(alloc, &mut owns, text)?;
+    }
+    Ok(())
+}
+
+/// Adds what comes of each step of a file.
+pub fn run(alloc: Global, file: &[u8], report: &mut Vec<u8>) -> Result<(), Trouble> {
+    let mut stage = Stage {
+        good: Vec::new(alloc),
+        now: Vec::new(alloc),
+        nodes: Seq::new(alloc),
+        report: Vec::new(alloc),
+    };
+    let done = steps(alloc, &mut stage, file);
+    report.extend_from_slice(b"== well-formed books, and the rules that they stand on\n")?;
+    report.extend_from_slice(stage.report.as_slice())?;
+    done
+}

@@ -1,0 +1,171 @@
+// The changes that lines say.
+use crate::line::{Line, Named, columns};
+use mesh_base::{Own, Ref, Snapshot};
+use mesh_cases::Trouble;
+use mesh_house::Change;
+use mesh_list::{Duplicate, Seq};
+
+fn snapshot_with(line: &Line, key: Ref, own: Own) -> Result<Snapshot, Trouble> {
+    let Ref { name, fingerprint } = key;
+    Ok(Snapshot {
+        name,
+        fingerprint,
+        own,
+        parents: line.refs(b"parents")?,
+        rank: line.rank(3)?,
+        object: line.name(4)?,
+        expires: line.number(5)?,
+    })
+}
+
+/// The snapshot that a line says from its second word on.
+pub fn snapshot(line: &Line, owns: &[Named]) -> Result<Snapshot, Trouble> {
+    let own = line.own(owns, 2)?.copy()?;
+    snapshot_with(line, line.reference(1)?, own)
+}
+
+fn load(line: &Line) -> Result<Change, Trouble> {
+    Ok(Change::Load {
+        name: line.name(1)?,
+        columns: columns(line.alloc())?,
+        rows: line.rows(3)?,
+        keep: line.is(2, b"keep"),
+    })
+}
+
+fn make_view(line: &Line, owns: &[Named]) -> Result<Change, Trouble> {
+    Ok(Change::MakeView {
+        object: line.name(1)?,
+        columns: columns(line.alloc())?,
+        own: line.own(owns, 2)?.copy()?,
+        targets: line.pairs(3)?,
+    })
+}
+
+fn write_range(line: &Line) -> Result<Change, Trouble> {
+    Ok(Change::WriteRange {
+        object: line.name(1)?,
+        time: line.text(2)?,
+        start: line.number(3)?,
+        end: line.number(4)?,
+        rows: line.rows(5)?,
+    })
+}
+
+fn record_range(line: &Line) -> Result<Change, Trouble> {
+    Ok(Change::RecordRange {
+        object: line.name(1)?,
+        start: line.number(2)?,
+        end: line.number(3)?,
+    })
+}
+
+fn set_pending(line: &Line) -> Result<Change, Trouble> {
+    Ok(Change::SetPending {
+        env: line.text(1)?,
+        expires: line.expiry(2)?,
+        list: line.refs(b"list")?,
+    })
+}
+
+fn make_table(line: &Line) -> Result<Change, Trouble> {
+    Ok(Change::MakeTable {
+        object: line.name(1)?,
+        columns: columns(line.alloc())?,
+    })
+}
+
+fn replace_rows(line: &Line) -> Result<Change, Trouble> {
+    Ok(Change::ReplaceRows {
+        object: line.name(1)?,
+        rows: line.rows(2)?,
+    })
+}
+
+fn record_marks(line: &Line) -> Result<Change, Trouble> {
+    Ok(Change::RecordMarks {
+        object: line.name(1)?,
+        marks: Seq::from_vec(line.numbers(2)?),
+    })
+}
+
+fn point_view(line: &Line) -> Result<Change, Trouble> {
+    Ok(Change::PointView {
+        view: line.name(1)?,
+        target: line.name(2)?,
+    })
+}
+
+fn delete_snapshot(line: &Line) -> Result<Change, Trouble> {
+    let Ref { name, fingerprint } = line.reference(1)?;
+    Ok(Change::DeleteSnapshot { name, fingerprint })
+}
+
+fn table_change(line: &Line, owns: &[Named]) -> Result<Change, Trouble> {
+    if line.is(0, b"load") {
+        load(line)
+    } else if line.is(0, b"make_table") {
+        make_table(line)
+    } else if line.is(0, b"make_view") {
+        make_view(line, owns)
+    } else if line.is(0, b"replace_rows") {
+        replace_rows(line)
+    } else if line.is(0, b"write_range") {
+        write_range(line)
+    } else if line.is(0, b"point_view") {
+        point_view(line)
+    } else {
+        book_change(line, owns)
+    }
+}
+
+fn book_change(line: &Line, owns: &[Named]) -> Result<Change, Trouble> {
+    if line.is(0, b"put_snapshot") {
+        let snapshot = snapshot(line, owns)?;
+        Ok(Change::PutSnapshot { snapshot })
+    } else if line.is(0, b"record_range") {
+        record_range(line)
+    } else if line.is(0, b"record_marks") {
+        record_marks(line)
+    } else if line.is(0, b"set_pending") {
+        set_pending(line)
+    } else if line.is(0, b"delete_snapshot") {
+        delete_snapshot(line)
+    } else {
+        change_of_env(line)
+    }
+}
+
+fn change_of_env(line: &Line) -> Result<Change, Trouble> {
+    let env = line.text(1)?;
+    if line.is(0, b"finalize") {
+        Ok(Change::Finalize { env })
+    } else if line.is(0, b"expire") {
+        Ok(Change::Expire { env })
+    } else if line.is(0, b"delete_env") {
+        Ok(Change::DeleteEnv { env })
+    } else {
+        change_of_object(line)
+    }
+}
+
+fn change_of_object(line: &Line) -> Result<Change, Trouble> {
+    let object = line.name(1)?;
+    if line.is(0, b"drop_view") {
+        Ok(Change::DropView { view: object })
+    } else if line.is(0, b"forget_version") {
+        Ok(Change::ForgetVersion { object })
+    } else if line.is(0, b"drop_object") {
+        Ok(Change::DropObject { object })
+    } else {
+        Err(Trouble::Case)
+    }
+}
+
+/// The change that a line says.
+pub fn change(line: &Line, owns: &[Named]) -> Result<Change, Trouble> {
+    if line.is(0, b"moment") {
+        return Ok(Change::Moment { t: line.number(1)? });
+    }
+    table_change(line, owns)
+}

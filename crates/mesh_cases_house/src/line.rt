@@ -1,0 +1,190 @@
+// A line of a case, in words, and what its words say.
+use mesh_base::{Own, Ref, Refs};
+use mesh_cases::Trouble;
+use mesh_list::{Duplicate, Seq};
+use mesh_values::{Cell, ColType, Column, Columns, Name, Pair, Pairs, Row, Rows, Str};
+use std::alloc::Global;
+
+/// What stands in front of the first such byte of a text, and what behind it. Where there is none, the text and nothing.
+pub fn parted(text: &[u8], byte: u8) -> (&[u8], &[u8]) {
+    for (at, other) in text.iter().enumerate() {
+        if *other == byte {
+            let front = text.get(..at).unwrap_or(text);
+            return (front, text.get(at.saturating_add(1)..).unwrap_or(&[]));
+        }
+    }
+    (text, &[])
+}
+
+fn number_of(word: &[u8]) -> Result<i64, Trouble> {
+    let digits = std::str::from_utf8(word).map_err(|_| Trouble::Case)?;
+    digits.parse::<i64>().map_err(|_| Trouble::Case)
+}
+
+fn name_of(alloc: Global, word: &[u8]) -> Result<Name, Trouble> {
+    let (schema, model) = parted(word, b'.');
+    Ok(Name {
+        schema: u8::copy_items(alloc, schema)?,
+        model: u8::copy_items(alloc, model)?,
+    })
+}
+
+fn reference_of(alloc: Global, name: &[u8], mark: &[u8]) -> Result<Ref, Trouble> {
+    let byte = u8::try_from(number_of(mark)?).map_err(|_| Trouble::Case)?;
+    Ok(Ref {
+        name: name_of(alloc, name)?,
+        fingerprint: [byte; 32],
+    })
+}
+
+fn column(alloc: Global, name: &[u8], kind: ColType) -> Result<Column, Trouble> {
+    Ok(Column {
+        name: u8::copy_items(alloc, name)?,
+        kind,
+    })
+}
+
+/// One column of days and one of numbers, which all tables have.
+pub fn columns(alloc: Global) -> Result<Columns, Trouble> {
+    let mut columns = Seq::new(alloc);
+    columns.push(column(alloc, b"day", ColType::Date)?)?;
+    columns.push(column(alloc, b"n", ColType::Int)?)?;
+    Ok(columns)
+}
+
+fn row(alloc: Global, number: i64) -> Result<Row, Trouble> {
+    let day = i32::try_from(number).map_err(|_| Trouble::Case)?;
+    let mut row = Seq::new(alloc);
+    row.push(Cell::Date(day))?;
+    row.push(Cell::Int(number))?;
+    Ok(row)
+}
+
+/// A definition, and the word that cases call it by.
+#[derive(Drop)]
+pub struct Named {
+    pub word: Str,
+    pub own: Own,
+}
+
+pub type Owns = Vec<Named>;
+
+/// The words of a line.
+#[derive(Drop)]
+pub struct Line<'a> {
+    alloc: Global,
+    words: Vec<&'a [u8]>,
+}
+
+impl<'a> Line<'a> {
+    pub fn of(alloc: Global, text: &'a [u8]) -> Result<Line<'a>, Trouble> {
+        let mut words = Vec::new(alloc);
+        for word in text.split(|byte| *byte == b' ') {
+            words.push(word)?;
+        }
+        Ok(Line { alloc, words })
+    }
+
+    pub fn len(&self) -> usize {
+        self.words.len()
+    }
+
+    pub fn alloc(&self) -> Global {
+        self.alloc
+    }
+
+    /// The word at a place, and nothing behind the last one.
+    pub fn word(&self, at: usize) -> &'a [u8] {
+        match self.words.get(at) {
+            Some(word) => *word,
+            None => &[],
+        }
+    }
+
+    pub fn is(&self, at: usize, word: &[u8]) -> bool {
+        self.word(at) == word
+    }
+
+    pub fn number(&self, at: usize) -> Result<i64, Trouble> {
+        number_of(self.word(at))
+    }
+
+    pub fn rank(&self, at: usize) -> Result<u32, Trouble> {
+        u32::try_from(self.number(at)?).map_err(|_| Trouble::Case)
+    }
+
+    /// A number, or none where the word is `none`.
+    pub fn expiry(&self, at: usize) -> Result<Option<i64>, Trouble> {
+        if self.is(at, b"none") {
+            return Ok(None);
+        }
+        Ok(Some(self.number(at)?))
+    }
+
+    pub fn text(&self, at: usize) -> Result<Str, Trouble> {
+        Ok(u8::copy_items(self.alloc, self.word(at))?)
+    }
+
+    pub fn name(&self, at: usize) -> Result<Name, Trouble> {
+        name_of(self.alloc, self.word(at))
+    }
+
+    pub fn reference(&self, at: usize) -> Result<Ref, Trouble> {
+        let (name, mark) = parted(self.word(at), b'/');
+        reference_of(self.alloc, name, mark)
+    }
+
+    /// The references behind a word, up to the next word that is none.
+    pub fn refs(&self, word: &[u8]) -> Result<Refs, Trouble> {
+        let mut refs = Seq::new(self.alloc);
+        let mut behind = false;
+        for (at, other) in self.words.iter().enumerate() {
+            behind = *other == word || (behind && other.contains(&b'/'));
+            if behind && *other != word {
+                refs.push(self.reference(at)?)?;
+            }
+        }
+        Ok(refs)
+    }
+
+    /// The numbers from a place on.
+    pub fn numbers(&self, from: usize) -> Result<Vec<i64>, Trouble> {
+        let mut numbers = Vec::new(self.alloc);
+        for word in self.words.iter().skip(from) {
+            numbers.push(number_of(word)?)?;
+        }
+        Ok(numbers)
+    }
+
+    /// A row for each number from a place on, whose day is that number too.
+    pub fn rows(&self, from: usize) -> Result<Rows, Trouble> {
+        let mut rows = Seq::new(self.alloc);
+        for number in &self.numbers(from)? {
+            rows.push(row(self.alloc, *number)?)?;
+        }
+        Ok(rows)
+    }
+
+    /// The pairs `MODEL=OBJECT` from a place on.
+    pub fn pairs(&self, from: usize) -> Result<Pairs, Trouble> {
+        let mut pairs = Seq::new(self.alloc);
+        for word in self.words.iter().skip(from) {
+            let (model, object) = parted(word, b'=');
+            pairs.push(Pair {
+                first: name_of(self.alloc, model)?,
+                second: name_of(self.alloc, object)?,
+            })?;
+        }
+        Ok(pairs)
+    }
+
+    /// The definition that a word calls.
+    pub fn own<'b>(&self, owns: &'b [Named], at: usize) -> Result<&'b Own, Trouble> {
+        for named in owns {
+            if self.is(at, named.word.as_slice()) {
+                return Ok(&named.own);
+            }
+        }
+        Err(Trouble::Case)
+    }
+}

@@ -1,0 +1,70 @@
+//! Each kind of change in a house in memory, what that house answers, each breach of a well-formed book, and the rules
+//! that books stand on. What comes of each step is printed, and is compared with the crate's `stdout`, whose values were
+//! worked out by hand.
+//!
+//! A step is a line, and a line that has nothing or begins with `#` is none. In both files `own WORD TEXT` has WORD call
+//! the definition with this canonical text. A reference `S.M/N` has the fingerprint of 32 bytes N. All tables have the two
+//! columns `day` and `n`, a row is given by the number that it has in both, and is printed by it.
+//!
+//! The steps of `changes.txt`:
+//! - `== TITLE` begins anew with an empty house;
+//! - a change is made, by its kind:
+//!   `moment T`,
+//!   `load NAME keep|new ROW..`,
+//!   `put_snapshot REF OWN RANK OBJECT EXPIRES parents REF..`,
+//!   `make_table OBJECT`,
+//!   `make_view OBJECT OWN MODEL=OBJECT..`,
+//!   `replace_rows OBJECT ROW..`,
+//!   `write_range OBJECT COLUMN START END ROW..`,
+//!   `record_range OBJECT START END`,
+//!   `record_marks OBJECT MARK..`,
+//!   `set_pending ENV EXPIRES|none list REF..`,
+//!   `point_view VIEW OBJECT`,
+//!   and `drop_view`, `finalize`, `expire`, `forget_version`, `drop_object`, `delete_snapshot` and `delete_env` with what
+//!   they are of. The world is printed as the house has it after the change. Where the world's own step makes another one
+//!   of it, a complaint follows;
+//! - `also CHANGE` keeps a change for `make_all`, which makes those kept, one after another, and prints the world. Where
+//!   a copy of them isn't equal to them, a complaint follows;
+//! - `fail change N before`, `fail change N after` and `fail read N` have one call of the next ones fail, counted from 0;
+//! - `head NAME`, `body NAME`, `view NAME` and `book` print what the house answers, and `counts` how many changes it was
+//!   given and how many calls failed.
+//!
+//! The steps of `books.txt`:
+//! - `line LINE` adds a line to the good book: `moment T`, `snapshot ..` with the words of `put_snapshot`,
+//!   `version OBJECT`, or `environment ENV list REF.. previous REF..`;
+//! - `with N LINE` has a line, counted from 1, stand in place of the good book's;
+//! - `fault TITLE` prints the first breach of the book with these lines, by its part and place, and goes back to the good
+//!   one. Where a copy of the book isn't equal to it, a complaint follows;
+//! - `well_formed OWN PARENT..` prints whether a definition is well formed over these definitions' columns;
+//! - `columns_of OWN` prints a definition with its columns in place of its query, and `sort_rows OWN` a seed with its rows
+//!   sorted;
+//! - `node OWN RANK PLACE..` adds a node, with its parents' places, and `project` prints how many nodes their project has.
+//!
+//! It stands on `mesh_base`, `mesh_rules`, `mesh_time`, `mesh_book`, `mesh_house`, `mesh_canon`, `mesh_io` and `mesh_cases`.
+#![tactic(auto)]
+
+mod books;
+mod changes;
+mod house;
+mod line;
+mod owns;
+mod written;
+
+use mesh_cases::{Trouble, file_of, printed};
+use mesh_io::DirFolder;
+use std::alloc::Global;
+use std::process::ExitCode;
+
+fn run(alloc: Global, data: &mut DirFolder, report: &mut Vec<u8>) -> Result<(), Trouble> {
+    let changes = file_of(alloc, data, b"changes.txt")?;
+    house::run(alloc, changes.as_slice(), report)?;
+    let books = file_of(alloc, data, b"books.txt")?;
+    books::run(alloc, books.as_slice(), report)
+}
+
+fn main(rt: HostRuntime) -> ExitCode {
+    let mut report = Vec::new(rt.alloc());
+    let mut data = DirFolder::new(&rt);
+    let done = run(rt.alloc(), &mut data, &mut report);
+    printed(&rt, report.as_slice(), done)
+}

@@ -1,0 +1,78 @@
+// Faults that are made from their number and what they name.
+use crate::notation::number_of;
+use mesh_cases::{Trouble, halves};
+use mesh_list::Duplicate;
+use mesh_tokens::FaultKind;
+use mesh_values::{Name, Names, Str};
+use std::alloc::Global;
+
+fn of_a_text(number: u64, name: Str) -> FaultKind {
+    match number {
+        3 => FaultKind::UnknownProperty { name },
+        4 => FaultKind::BadProperty { name },
+        6 => FaultKind::UnknownRelation { name },
+        7 => FaultKind::UnknownColumn { name },
+        8 => FaultKind::Ambiguous { name },
+        10 => FaultKind::Duplicate { name },
+        15 => FaultKind::TimeColumn { name },
+        18 => FaultKind::BadMacro { name },
+        _ => FaultKind::Outside { name },
+    }
+}
+
+/// The name of two parts, with a point between them.
+fn name_of(alloc: Global, word: &[u8]) -> Result<Name, Trouble> {
+    let mut parts = word.split(|byte| *byte == b'.');
+    let schema = parts.next().ok_or(Trouble::Case)?;
+    let model = parts.next().ok_or(Trouble::Case)?;
+    Ok(Name {
+        schema: u8::copy_items(alloc, schema)?,
+        model: u8::copy_items(alloc, model)?,
+    })
+}
+
+fn of_a_name(number: u64, name: Name) -> FaultKind {
+    match number {
+        5 => FaultKind::DuplicateModel { name },
+        17 => FaultKind::SourceMissing { name },
+        _ => FaultKind::SourceShape { name },
+    }
+}
+
+fn of_names(alloc: Global, text: &[u8]) -> Result<FaultKind, Trouble> {
+    let mut names = Names::new(alloc);
+    for word in text.split(|byte| *byte == b' ') {
+        names.push(name_of(alloc, word)?)?;
+    }
+    Ok(FaultKind::Cycle { names })
+}
+
+fn of_two(number: u64, text: &[u8]) -> Result<FaultKind, Trouble> {
+    let (first, second) = halves(text)?;
+    let first = number_of(first)?;
+    let second = number_of(second)?;
+    if number == 16 {
+        return Ok(FaultKind::BadRow {
+            row: first,
+            field: second,
+        });
+    }
+    Ok(FaultKind::FingerprintClash {
+        stored: [first as u8; 32],
+        given: [second as u8; 32],
+    })
+}
+
+/// The fault of a number, as it is printed, and of what is behind it.
+pub fn kind_of(alloc: Global, text: &[u8]) -> Result<FaultKind, Trouble> {
+    let (number, text) = halves(text)?;
+    let number = number_of(number)?;
+    match number {
+        5 | 17 | 21 => Ok(of_a_name(number, name_of(alloc, text)?)),
+        9 => Ok(FaultKind::TypeMismatch),
+        11 => Ok(FaultKind::NotGrouped),
+        12 => of_names(alloc, text),
+        16 | 19 => of_two(number, text),
+        _ => Ok(of_a_text(number, u8::copy_items(alloc, text)?)),
+    }
+}

@@ -1,0 +1,2 @@
+-- Moments: days and moments, their texts, and the time value of a cell.
+pub mod Moments

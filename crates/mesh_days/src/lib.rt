@@ -1,0 +1,10 @@
+//! Days and moments, in the proleptic Gregorian calendar and in seconds since 1970-01-01T00:00:00 UTC, and their texts. Its
+//! contract: a text is read exactly where it stands for a day or a moment, and is written back so. It stands on
+//! `mesh_values` and the calendar of `jiff`.
+#![tactic(auto)]
+
+mod days;
+mod moments;
+
+pub use days::{date_of, day_of, day_text};
+pub use moments::{day_and_second, moment, moment_of, moment_text, time_value};

@@ -1,0 +1,2 @@
+-- Seconds: the second that a cell stands for.
+pub mod Seconds

@@ -1,0 +1,77 @@
+// Cells, rows, columns and names.
+ghost use Rattle.std.specs.Prelude.{◌≡◌};
+ghost use Rattle.mesh_values.specs.Names.{name_cmp};
+
+use mesh_list::Seq;
+use std::cmp::Ordering;
+
+/// Bytes.
+pub type Str = Seq<u8>;
+
+pub type Strs = Seq<Str>;
+
+/// One cell for each column, in the columns' order.
+pub type Row = Seq<Cell>;
+
+pub type Rows = Seq<Row>;
+
+pub type RowsList = Seq<Rows>;
+
+pub type Columns = Seq<Column>;
+
+pub type Names = Seq<Name>;
+
+pub type Pairs = Seq<Pair>;
+
+pub type Numbers = Seq<u64>;
+
+/// The type of a column. INT has 64 bits with a sign, DATE is a day.
+#[derive(Clone, Copy, PartialEq, Eq, PartialOrd, Ord)]
+pub enum ColType {
+    Int,
+    Text,
+    Date,
+    Bool,
+}
+
+/// One value of a row, or NULL. The day of a DATE counts from 1970-01-01, in days.
+#[derive(Drop, PartialEq, Eq, PartialOrd, Ord)]
+pub enum Cell {
+    Null,
+    Int(i64),
+    Text(Str),
+    Date(i32),
+    Bool(bool),
+}
+
+/// The two-part name of a model, a source, a table or a view.
+#[derive(Drop, PartialEq, Eq, PartialOrd, Ord)]
+pub struct Name {
+    pub schema: Str,
+    pub model: Str,
+}
+
+#[derive(Drop, PartialEq, Eq)]
+pub struct Column {
+    pub name: Str,
+    pub kind: ColType,
+}
+
+/// Two names that belong together, as a model and the table that has its rows.
+#[derive(Drop)]
+pub struct Pair {
+    pub first: Name,
+    pub second: Name,
+}
+
+impl Name {
+    /// By the bytes of the schema, and then by those of the model.
+    pub fn compare(&self, other: &Name) -> Ordering
+        ensures { result ≡ name_cmp self.now other.now }
+    {
+        self.schema
+            .as_slice()
+            .cmp(&other.schema.as_slice())
+            .then(self.model.as_slice().cmp(&other.model.as_slice()))
+    }
+}
