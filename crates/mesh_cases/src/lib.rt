@@ -1,6 +1,6 @@
 //! What the programs that run cases share: the files of their `data/` folder, the lines of such a file, texts that are
 //! written with escapes and copies, cells, why a run may end early, and how its report is printed. It stands on
-//! `mesh_list`, `mesh_base` and `mesh_io`.
+//! `mesh_list`, `mesh_values` and `mesh_io`.
 #![tactic(auto)]
 
 mod cells;

@@ -3,25 +3,17 @@ use crate::canon::{Answer, own_again};
 use mesh_cases::Trouble;
 use std::alloc::Global;
 
-/// A text with a byte put in at a place, where there is one to be put, and the byte of the place dropped or kept.
+/// A text whose bytes from a place up to another one are replaced.
 fn edited(
     alloc: Global,
     text: &[u8],
     at: usize,
-    put: Option<u8>,
-    kept: bool,
+    put: &[u8],
+    behind: usize,
 ) -> Result<Vec<u8>, Trouble> {
-    let mut made = Vec::new(alloc);
-    for (here, byte) in text.iter().enumerate() {
-        if here == at {
-            if let Some(put) = put {
-                made.push(put)?;
-            }
-        }
-        if here != at || kept {
-            made.push(*byte)?;
-        }
-    }
+    let mut made = Vec::from_slice(alloc, text.get(..at).unwrap_or(text))?;
+    made.extend_from_slice(put)?;
+    made.extend_from_slice(text.get(behind..).unwrap_or(&[]))?;
     Ok(made)
 }
 
@@ -34,10 +26,11 @@ fn is_told_apart(alloc: Global, text: &Vec<u8>) -> Result<bool, Trouble> {
 }
 
 fn is_told_apart_at(alloc: Global, text: &[u8], at: usize) -> Result<bool, Trouble> {
-    let mut each = is_told_apart(alloc, &edited(alloc, text, at, None, false)?)?;
+    let next = at.saturating_add(1);
+    let mut each = is_told_apart(alloc, &edited(alloc, text, at, b"", next)?)?;
     for byte in b" 0)a" {
-        for kept in [false, true] {
-            let near = edited(alloc, text, at, Some(*byte), kept)?;
+        for behind in [next, at] {
+            let near = edited(alloc, text, at, &[*byte], behind)?;
             each = is_told_apart(alloc, &near)? && each;
         }
     }
