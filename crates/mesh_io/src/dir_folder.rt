@@ -194,6 +194,9 @@ impl Folder for DirFolder<'_> {
     }
 
     fn list(&mut self, alloc: Global, dir: &Str) -> Result<Strs, IoFail> {
+        if !names_a_file(dir.as_slice()) {
+            return Ok(Seq::new(alloc));
+        }
         match list_files(self.rt, alloc, dir.as_slice()) {
             Ok(paths) => Ok(paths),
             Err(error) => Err(refused(&mut self.faults, error.kind())),
