@@ -3,18 +3,19 @@
 of which half the rows have no partner, groups, DISTINCT, COUNT(DISTINCT), a filter and a CASE of ten branches, each over
 1,000,000, 100,000 and 50,000 rows. Prints seconds of processor of one evaluation, growth from 50,000 to 100,000 rows, and
 beside them SQLite's seconds for the same rows, all of which it hands over. Last it prints the most memory that a run took,
-and that of the tables alone.
+and that of the tables alone. The program reads its cases where it runs, so each run gets a folder with a file of its own.
 
 Usage: bench/eval.py [PROGRAM], where PROGRAM is crates/mesh_answers/out/mesh_answers if left out (`rt run` makes it)."""
 import os
-import resource
 import sqlite3
 import subprocess
 import sys
+import tempfile
 import time
 
 TOP = os.path.dirname(os.path.dirname(os.path.abspath(__file__)))
 SIZES = (1_000_000, 100_000, 50_000)
+BLOCK = 1000
 WHENS = " ".join(f"WHEN v % 10 = {n} THEN {n}" for n in range(9))
 QUERIES = {
     "join": "SELECT COUNT(*) AS n, SUM(y.v) AS s FROM l AS x JOIN r AS y ON x.k = y.k",
@@ -27,23 +28,71 @@ QUERIES = {
     "case": f"SELECT CASE {WHENS} ELSE 9 END FROM l",
 }
 
+# The same in canonical text.
+K = "(col 0 1:k)"
+V = "(col 0 1:v)"
+SAME = f"(eq {K} (col 1 1:k))"
+BOTH = "(as 1:n int (count)) (as 1:s int (agg sum (col 1 1:v)))"
+LEFT = "(item first (rel 1:a 1:l) none)"
+RIGHT = "(rel 1:a 1:r)"
+BRANCHES = " ".join(f"(when (eq (rem {V} (int 10)) (int {n})) (int {n}))" for n in range(9))
+
+
+def select(items, more="", where="none", keys="", how="all plain"):
+    """A SELECT from the left table and more."""
+    return f"(select {how} [{items}] [{LEFT}{more}] {where} [{keys}] none)"
+
+
+SELECTS = {
+    "join": select(BOTH, f" (item inner {RIGHT} {SAME})", how="all grouped"),
+    "where": select(BOTH, f" (item cross {RIGHT} none)", SAME, how="all grouped"),
+    "left": select(BOTH, f" (item left {RIGHT} {SAME})", how="all grouped"),
+    "group": select(f"(as 1:k int {K}) (as 1:n int (count))", keys=K, how="all grouped"),
+    "distinct": select(f"(as 1:v int {V})", how="distinct plain"),
+    "number": select(f"(as 1:n int (agg countd {V}))", how="all grouped"),
+    "filter": select(f"(as 1:k int {K})", where=f"(lt {V} (int {{half}}))"),
+    "case": select(f"(as 1:n int (case [{BRANCHES}] (int 9)))"),
+}
+
+
+def table(name, rows, step):
+    """The line of a table: rows by the thousand, whose v is their number and whose k is so many times that."""
+    said = []
+    for begin in range(0, rows, BLOCK):
+        v = f"(add (col 0 1:n) (int {begin}))"
+        k = v if step == 1 else f"(mul {v} (int {step}))"
+        said.append(f"(select all plain [(as 1:k int {k}) (as 1:v int {v})] [(item first (rel 1:a 1:b) none)] none [] none)")
+    return f"table 1:{name} | (query [] [{' '.join(said)}])\n"
+
+
+def cases(what, rows, times):
+    """The file of a query that is evaluated so often over two tables of so many rows, which are whole thousands."""
+    numbers = " ".join(f"[(int {n})]" for n in range(BLOCK))
+    block = f"table 1:b | (seed [(column 1:n int)] [{numbers}])\n"
+    tables = table("l", rows, 1) + table("r", rows, 2 if what == "left" else 1)
+    query = SELECTS[what].format(half=rows // 2)
+    return block + tables + f"sum {what} | (query [] [{query}])\n" * times
+
 
 def run(program, what, rows, times):
     """Seconds of processor, megabytes at the most, and what was printed."""
-    words = [program, what, str(rows), str(times)]
-    child = subprocess.Popen(words, stdout=subprocess.PIPE, text=True)
-    said = child.stdout.read()
-    _, status, used = os.wait4(child.pid, 0)
+    with tempfile.TemporaryDirectory() as folder:
+        with open(f"{folder}/cases.txt", "w") as file:
+            file.write(cases(what, rows, times))
+        child = subprocess.Popen([program], stdout=subprocess.PIPE, text=True, cwd=folder)
+        said = child.stdout.read()
+        _, status, used = os.wait4(child.pid, 0)
     assert status == 0, status
     return used.ru_utime + used.ru_stime, used.ru_maxrss / 1024, said
 
 
 def ours(program, what, rows):
-    """The least seconds of one evaluation, without those that making the tables takes, and its answer."""
+    """The least seconds of one evaluation, without those that making the tables takes, and what one prints."""
     times = 1 if rows > 100_000 else 5
     none = min(run(program, what, rows, 0)[0] for _ in range(3))
     runs = [run(program, what, rows, times) for _ in range(3)]
-    return (min(r[0] for r in runs) - none) / times, runs[0][2]
+    said = set(runs[0][2].splitlines())
+    return (min(r[0] for r in runs) - none) / times, " ".join(said)
 
 
 def theirs(what, rows):
@@ -61,11 +110,11 @@ def theirs(what, rows):
         answer = base.execute(query).fetchall()
         passed = time.process_time() - begin
         best = passed if best is None else min(best, passed)
-    return best, f"{len(answer)} rows, sum {sum(cell for row in answer for cell in row)}\n"
+    return best, f"sum {what}: {len(answer)} {sum(cell for row in answer for cell in row)}"
 
 
 def main():
-    program = sys.argv[1] if len(sys.argv) > 1 else f"{TOP}/crates/mesh_answers/out/mesh_answers"
+    program = os.path.abspath(sys.argv[1]) if len(sys.argv) > 1 else f"{TOP}/crates/mesh_answers/out/mesh_answers"
     for what in QUERIES:
         taken = {}
         for rows in SIZES:
