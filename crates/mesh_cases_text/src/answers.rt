@@ -6,7 +6,7 @@ use crate::pen::Pen;
 use crate::query::put_query;
 use mesh_base::Str;
 use mesh_cases::{Trouble, halves};
-use mesh_list::{Duplicate, Same};
+use mesh_list::Duplicate;
 use mesh_query::parse;
 use mesh_statement::read_statement;
 use mesh_text::read_model;
@@ -46,20 +46,17 @@ fn put_token(pen: &mut Pen, token: &Token) {
     pen.put(b"]");
 }
 
-/// The tokens of a text, which are copied first.
-pub fn put_tokens(alloc: Global, pen: &mut Pen, text: &[u8]) -> Result<(), Trouble> {
+/// The tokens of a text.
+pub fn put_tokens(alloc: Global, pen: &mut Pen, text: &[u8]) {
     match tokens_of(alloc, text) {
         Ok(found) => {
-            let copied = found.copy()?;
-            pen.put_if(!copied.same(&found), b" another copy:");
-            for token in copied.as_slice() {
+            for token in found.as_slice() {
                 put_token(pen, token);
             }
             pen.put(b"\n");
         }
         Err(fault) => pen.fault(&fault),
     }
-    Ok(())
 }
 
 fn put_tree_from(alloc: Global, pen: &mut Pen, text: &[u8], from: u32) -> Result<(), Trouble> {

@@ -5,7 +5,7 @@
 //!
 //! A line writes a text: `\n`, `\r`, `\t`, `\\` and `\xHH` stand for one byte each, and `{N*TEXT}` for a text N times, in
 //! which `#` is how often it stood before. Where a text has a fault, the fault's line is printed, with `-` for the file.
-//! - `tokens.txt`: the tokens of a text, after a copy of them, each as `[START-END KIND WHAT]`, where the kind is `i` for an
+//! - `tokens.txt`: the tokens of a text, each as `[START-END KIND WHAT]`, where the kind is `i` for an
 //!   identifier, `n` a number, `t` a text, `m` a macro and `s` a sign;
 //! - `queries.txt`: the tree of a query, each list of parts in parentheses with its operator first;
 //! - `behind.txt`: `N | TEXT`, the tree of the query that begins at token N, counted from 0;
@@ -66,7 +66,10 @@ const FILES: [(&[u8], Asked); 8] = [
 
 fn answer(alloc: Global, pen: &mut Pen, asked: Asked, text: &[u8]) -> Result<(), Trouble> {
     match asked {
-        Asked::Tokens => put_tokens(alloc, pen, text),
+        Asked::Tokens => {
+            put_tokens(alloc, pen, text);
+            Ok(())
+        }
         Asked::Tree => put_tree(alloc, pen, text),
         Asked::TreeBehind => put_tree_behind(alloc, pen, text),
         Asked::Limit => put_limit(alloc, pen, text),

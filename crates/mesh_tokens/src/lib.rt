@@ -3,13 +3,11 @@
 //! `mesh_list` and `mesh_base`.
 #![tactic(auto)]
 
-mod copies;
 mod faults;
 mod lengths;
 mod letters;
 mod pieces;
 mod read;
-mod same;
 mod tokens;
 
 pub use faults::{FaultKind, ReadFault};

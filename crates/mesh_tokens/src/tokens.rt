@@ -7,7 +7,7 @@ pub type Tokens = Seq<Token>;
 
 /// What a token is. Identifiers and the names of macros are in lower case and texts are without their quotes, `''` in
 /// them being one quote. The sign `!=` is `<>`.
-#[derive(Debug, Drop, PartialEq, Eq)]
+#[derive(Debug, Drop)]
 pub enum TokenKind {
     Ident(Str),
     Number(u64),
@@ -17,7 +17,7 @@ pub enum TokenKind {
 }
 
 /// A token, and the bytes from `start` up to `end` that it was read from.
-#[derive(Debug, Drop, PartialEq, Eq)]
+#[derive(Debug, Drop)]
 pub struct Token {
     pub start: u64,
     pub end: u64,
