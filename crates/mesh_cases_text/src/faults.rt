@@ -20,15 +20,16 @@ fn of_a_text(number: u64, name: Str) -> FaultKind {
     }
 }
 
+fn copied(alloc: Global, part: Option<&[u8]>) -> Result<Str, Trouble> {
+    Ok(u8::copy_items(alloc, part.ok_or(Trouble::Case)?)?)
+}
+
 /// The name of two parts, with a point between them.
 fn name_of(alloc: Global, word: &[u8]) -> Result<Name, Trouble> {
     let mut parts = word.split(|byte| *byte == b'.');
-    let schema = parts.next().ok_or(Trouble::Case)?;
-    let model = parts.next().ok_or(Trouble::Case)?;
-    Ok(Name {
-        schema: u8::copy_items(alloc, schema)?,
-        model: u8::copy_items(alloc, model)?,
-    })
+    let schema = copied(alloc, parts.next())?;
+    let model = copied(alloc, parts.next())?;
+    Ok(Name { schema, model })
 }
 
 fn of_a_name(number: u64, name: Name) -> FaultKind {
@@ -63,10 +64,7 @@ fn of_two(number: u64, text: &[u8]) -> Result<FaultKind, Trouble> {
     })
 }
 
-/// The fault of a number, as it is printed, and of what is behind it.
-pub fn kind_of(alloc: Global, text: &[u8]) -> Result<FaultKind, Trouble> {
-    let (number, text) = halves(text)?;
-    let number = number_of(number)?;
+fn of_number(alloc: Global, number: u64, text: &[u8]) -> Result<FaultKind, Trouble> {
     match number {
         5 | 17 | 21 => Ok(of_a_name(number, name_of(alloc, text)?)),
         9 => Ok(FaultKind::TypeMismatch),
@@ -75,4 +73,10 @@ pub fn kind_of(alloc: Global, text: &[u8]) -> Result<FaultKind, Trouble> {
         16 | 19 => of_two(number, text),
         _ => Ok(of_a_text(number, u8::copy_items(alloc, text)?)),
     }
+}
+
+/// The fault of a number, as it is printed, and of what is behind it.
+pub fn kind_of(alloc: Global, text: &[u8]) -> Result<FaultKind, Trouble> {
+    let (number, text) = halves(text)?;
+    of_number(alloc, number_of(number)?, text)
 }

@@ -27,12 +27,17 @@ fn put_numbered(
     Ok(())
 }
 
-/// Adds what `N*TEXT` stands for.
-fn put_repeated(alloc: Global, made: &mut Vec<u8>, repeated: &[u8]) -> Result<(), Trouble> {
+/// What stands in front of the first `*` of a text, and what behind it.
+fn times_and_text(repeated: &[u8]) -> Result<(&[u8], &[u8]), Trouble> {
     let times = repeated.split(|byte| *byte == b'*').next();
     let times = times.ok_or(Trouble::Case)?;
-    let text = repeated.get(times.len().wrapping_add(1)..);
-    let text = text.ok_or(Trouble::Case)?;
+    let text = repeated.get(times.len().saturating_add(1)..);
+    Ok((times, text.ok_or(Trouble::Case)?))
+}
+
+/// Adds what `N*TEXT` stands for.
+fn put_repeated(alloc: Global, made: &mut Vec<u8>, repeated: &[u8]) -> Result<(), Trouble> {
+    let (times, text) = times_and_text(repeated)?;
     for number in 0..number_of(times)? {
         put_numbered(alloc, made, text, number)?;
     }
