@@ -1,5 +1,5 @@
 // What a change makes of a world.
-ghost use Rattle.std.specs.Prelude.{◌≡◌, ◌++◌, true, IfOk, OnOk, OnErr};
+ghost use Rattle.std.specs.Prelude.{◌≡◌, [], ◌++◌, true, IfOk, OnOk, OnErr};
 ghost use Rattle.std.specs.Option.{option_copied};
 ghost use Rattle.mesh_book.specs.Changes.{at_version};
 ghost use Rattle.mesh_house.specs.Objects.{is_physical};
@@ -12,9 +12,39 @@ use crate::times::rewrite;
 use crate::world::{Change, ViewOf, World};
 use mesh_base::{Input, Own, Ref};
 use mesh_book::{Book, Version};
-use mesh_list::{Duplicate, Memory, Seq, Sorted};
+use mesh_list::{Duplicate, Memory, Seq, Sorted, both};
 use mesh_values::{Columns, Name, Pairs, Rows, Str, has_two_underscores};
 use std::alloc::Global;
+
+// A table that has no rows yet.
+fn empty_table(alloc: Global, name: &Name, columns: &Columns) -> Result<Object, Memory>
+    ensures { IfOk result (λ made. made ≡ record { name = name.now; columns = columns.now; body = Body.Rows [] }) }
+{
+    let (name, columns) = both(name, columns)?;
+    Ok(Object {
+        name,
+        columns,
+        body: Body::Rows(Seq::new(alloc)),
+    })
+}
+
+// A view that stores a query.
+fn stored_query(
+    name: &Name,
+    columns: &Columns,
+    own: &Own,
+    targets: &Pairs,
+) -> Result<Object, Memory>
+    ensures { IfOk result (λ made. made ≡ record { name = name.now; columns = columns.now; body = Body.Stored own.now targets.now }) }
+{
+    let (name, columns) = both(name, columns)?;
+    let (own, targets) = both(own, targets)?;
+    Ok(Object {
+        name,
+        columns,
+        body: Body::Stored { own, targets },
+    })
+}
 
 // One list of rows after another.
 fn joined(front: Rows, back: Rows) -> Result<Rows, Memory>
@@ -135,11 +165,7 @@ impl World {
         if !has_two_underscores(object.schema.as_slice()) {
             return Ok(());
         }
-        let made = Object {
-            name: object.copy()?,
-            columns: columns.copy()?,
-            body: Body::Rows(Seq::new(alloc)),
-        };
+        let made = empty_table(alloc, object, columns)?;
         let before = self.version_of(object)?;
         self.book.make_table(object)?;
         self.put_made(made, before)
@@ -158,14 +184,7 @@ impl World {
         if !has_two_underscores(object.schema.as_slice()) {
             return Ok(());
         }
-        let made = Object {
-            name: object.copy()?,
-            columns: columns.copy()?,
-            body: Body::Stored {
-                own: own.copy()?,
-                targets: targets.copy()?,
-            },
-        };
+        let made = stored_query(object, columns, own, targets)?;
         let before = self.version_of(object)?;
         self.book.make_view(object)?;
         self.put_made(made, before)
