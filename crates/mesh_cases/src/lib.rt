@@ -13,6 +13,6 @@ mod words;
 pub use cells::{cell_of, kind_of, kind_word, put_cell};
 pub use escapes::{shown, unescaped};
 pub use files::{cases_of, file_of, halves};
-pub use report::{printed, put_number};
+pub use report::{printed, put_count, put_number};
 pub use trouble::Trouble;
 pub use words::{filled, front_word, number_of};

@@ -11,6 +11,13 @@ pub fn put_number(alloc: Global, report: &mut Vec<u8>, number: i64) -> Result<()
     Ok(())
 }
 
+/// Adds a count in decimal digits.
+pub fn put_count(alloc: Global, report: &mut Vec<u8>, count: u64) -> Result<(), Trouble> {
+    let digits = format!(in alloc; "{count}")?;
+    report.extend_from_slice(digits.as_bytes())?;
+    Ok(())
+}
+
 /// Prints the report of a run, and what it ended with where that is trouble.
 pub fn printed(rt: &HostRuntime, report: &[u8], done: Result<(), Trouble>) -> ExitCode {
     let mut out = StdSink::output(rt);

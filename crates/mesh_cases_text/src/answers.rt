@@ -82,7 +82,8 @@ pub fn put_tree(alloc: Global, pen: &mut Pen, text: &[u8]) -> Result<(), Trouble
 /// The tree of a query that begins at a token behind others.
 pub fn put_tree_behind(alloc: Global, pen: &mut Pen, text: &[u8]) -> Result<(), Trouble> {
     let (from, text) = halves(text)?;
-    put_tree_from(alloc, pen, text, number_of(from)? as u32)
+    let from = u32::try_from(number_of(from)?).map_err(|_| Trouble::Case)?;
+    put_tree_from(alloc, pen, text, from)
 }
 
 /// Whether a query is read.

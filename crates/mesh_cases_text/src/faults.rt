@@ -48,6 +48,11 @@ fn of_names(alloc: Global, text: &[u8]) -> Result<FaultKind, Trouble> {
     Ok(FaultKind::Cycle { names })
 }
 
+// The byte of a number, and the greatest one of a number that has none.
+fn byte_of(number: u64) -> u8 {
+    u8::try_from(number).unwrap_or(u8::MAX)
+}
+
 fn of_two(number: u64, text: &[u8]) -> Result<FaultKind, Trouble> {
     let (first, second) = halves(text)?;
     let first = number_of(first)?;
@@ -59,8 +64,8 @@ fn of_two(number: u64, text: &[u8]) -> Result<FaultKind, Trouble> {
         });
     }
     Ok(FaultKind::FingerprintClash {
-        stored: [first as u8; 32],
-        given: [second as u8; 32],
+        stored: [byte_of(first); 32],
+        given: [byte_of(second); 32],
     })
 }
 

@@ -1,5 +1,5 @@
 // The texts of cases, as their lines write them.
-use mesh_cases::{Trouble, put_number, unescaped};
+use mesh_cases::{Trouble, put_count, unescaped};
 use std::alloc::Global;
 
 /// The number that a word says in decimal digits.
@@ -19,7 +19,7 @@ fn put_numbered(
 ) -> Result<(), Trouble> {
     for byte in text {
         if *byte == b'#' {
-            put_number(alloc, made, number as i64)?;
+            put_count(alloc, made, number)?;
         } else {
             made.push(*byte)?;
         }

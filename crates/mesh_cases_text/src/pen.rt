@@ -1,5 +1,5 @@
 // What is printed. Whoever writes needn't ask each time whether memory was there: it is told at the end.
-use mesh_cases::{Trouble, put_number, shown};
+use mesh_cases::{Trouble, put_count, put_number, shown};
 use mesh_fault_text::fault_line;
 use mesh_tokens::{FaultKind, ReadFault};
 use std::alloc::Global;
@@ -67,7 +67,9 @@ impl Pen {
 
     /// A place or a count.
     pub fn count(&mut self, count: u64) {
-        self.number(count as i64);
+        if put_count(self.alloc, &mut self.text, count).is_err() {
+            self.lost = true;
+        }
     }
 
     /// The line of a fault, which begins with a blank.

@@ -8,7 +8,7 @@ use std::alloc::Global;
 use std::thread::Threads;
 
 /// A command's status, how many changes it made, and what it wrote.
-#[derive(Debug, Drop, PartialEq, Eq)]
+#[derive(Drop, PartialEq, Eq)]
 pub struct Outcome {
     pub status: u8,
     pub changes: u64,

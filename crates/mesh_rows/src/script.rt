@@ -6,7 +6,7 @@ use mesh_values::{Str, Strs};
 use std::alloc::Global;
 
 /// One step.
-#[derive(Debug, Drop)]
+#[derive(Drop)]
 pub enum Step {
     /// A command.
     Mesh(Strs),
