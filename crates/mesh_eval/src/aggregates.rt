@@ -8,6 +8,7 @@ use mesh_base::AggKind;
 use mesh_index::distinct_rows;
 use mesh_list::{Duplicate, Memory};
 use mesh_values::{Cell, Row, Rows, cell_cmp};
+use std::alloc::Global;
 
 pub(crate) fn aggregate(kind: AggKind, cells: &Row) -> Result<Cell, Memory>
     ensures { IfOk result (λ v. v ≡ agg_value kind cells.now) }
@@ -33,15 +34,22 @@ fn known_cells(cells: &Row) -> Result<Row, Memory>
     Ok(made)
 }
 
+/// A row of one cell.
+fn single_row(alloc: Global, c: &Cell) -> Result<Row, Memory>
+    ensures { IfOk result (λ made. made ≡ c.now ∷ []) }
+{
+    let mut made = Row::new(alloc);
+    made.push(c.copy()?)?;
+    Ok(made)
+}
+
 /// Rows of one cell each.
 fn single_rows(cells: &Row) -> Result<Rows, Memory>
     ensures { IfOk result (λ made. made ≡ map (λ c. c ∷ []) cells.now) }
 {
     let mut made = Rows::new(cells.alloc());
     for c in cells.as_slice() {
-        let mut row = Row::new(cells.alloc());
-        row.push(c.copy()?)?;
-        made.push(row)?;
+        made.push(single_row(cells.alloc(), c)?)?;
     }
     Ok(made)
 }
