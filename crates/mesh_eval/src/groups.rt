@@ -10,7 +10,7 @@ use crate::cells::is_true;
 use crate::expressions::{ev, item_row, key_list};
 use crate::frames::{Frame, Members};
 use crate::joined::JoinedRows;
-use crate::lists::append;
+use crate::lists::{append, push_made};
 use mesh_base::{Expr, Select};
 use mesh_index::Index;
 use mesh_list::Memory;
@@ -41,7 +41,7 @@ fn key_lists(
 {
     let mut made = Rows::new(alloc);
     for at in 0..rows.len() {
-        made.push(key_list(alloc, keys, columns, rows.at(at), u)?)?;
+        push_made(&mut made, key_list(alloc, keys, columns, rows.at(at), u))?;
     }
     Ok(made)
 }
