@@ -12,6 +12,7 @@ ghost use Rattle.mesh_eval.specs.Joined.{shown};
 use crate::aggregates::aggregate;
 use crate::cells::{call, equal, is_null, is_true, lies_between, negate, not, operate, or};
 use crate::frames::{Frame, Members, cell_at, column};
+use crate::lists::push_made;
 use crate::macros::bound;
 use mesh_base::{AggKind, Expr, Func, Item, Op, When};
 use mesh_casts::cast;
@@ -154,7 +155,7 @@ pub(crate) fn ev_each(alloc: Global, all: &[Expr], f: &Frame) -> Result<Row, Mem
 {
     let mut made = Row::new(alloc);
     for e in all {
-        made.push(ev(alloc, e, f)?)?;
+        push_made(&mut made, ev(alloc, e, f))?;
     }
     Ok(made)
 }
@@ -216,8 +217,8 @@ fn ev_rows(
 {
     let mut made = Row::new(alloc);
     for at in group.places {
-        let value_here = ev_row(alloc, value, columns, group.rows.get(*at), bounds)?;
-        made.push(value_here)?;
+        let row = group.rows.get(*at);
+        push_made(&mut made, ev_row(alloc, value, columns, row, bounds))?;
     }
     Ok(made)
 }
@@ -249,7 +250,7 @@ pub(crate) fn item_row(alloc: Global, items: &[Item], f: &Frame) -> Result<Row, 
 {
     let mut made = Row::new(alloc);
     for item in items {
-        made.push(ev(alloc, &item.expr, f)?)?;
+        push_made(&mut made, ev(alloc, &item.expr, f))?;
     }
     Ok(made)
 }

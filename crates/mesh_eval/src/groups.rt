@@ -68,7 +68,7 @@ fn group_row<'a, 'x>(
     };
     let mut made = Rows::new(alloc);
     if holds(alloc, &q.having, &f)? {
-        made.push(item_row(alloc, q.items.as_slice(), &f)?)?;
+        push_made(&mut made, item_row(alloc, q.items.as_slice(), &f))?;
     }
     Ok(made)
 }
