@@ -11,3 +11,7 @@ pub mod Steps
 pub mod Rows
 -- Trimmed: rows that give no row of the query may be left out of a FROM
 pub mod Trimmed
+-- Nodes: the value of a node, from the values of its parts
+pub mod Nodes
+-- Sides: where the columns of a node stand
+pub mod Sides

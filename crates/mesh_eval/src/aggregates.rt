@@ -4,10 +4,12 @@ ghost use Rattle.std.specs.List.{fold, list_any};
 ghost use Rattle.mesh_meaning.specs.Aggregates.{distinct, same_cell, known, is_number, addend, total, smaller, larger, agg_value};
 
 use crate::cells::is_null;
+use crate::lists::push_made;
 use mesh_base::AggKind;
 use mesh_index::distinct_rows;
 use mesh_list::{Duplicate, Memory};
 use mesh_values::{Cell, Row, Rows, cell_cmp};
+use std::alloc::Global;
 
 pub(crate) fn aggregate(kind: AggKind, cells: &Row) -> Result<Cell, Memory>
     ensures { IfOk result (λ v. v ≡ agg_value kind cells.now) }
@@ -27,9 +29,18 @@ fn known_cells(cells: &Row) -> Result<Row, Memory>
     let mut made = Row::new(cells.alloc());
     for c in cells.as_slice() {
         if !is_null(c) {
-            made.push(c.copy()?)?;
+            push_made(&mut made, c.copy())?;
         }
     }
+    Ok(made)
+}
+
+/// A row of one cell.
+fn single_row(alloc: Global, c: &Cell) -> Result<Row, Memory>
+    ensures { IfOk result (λ made. made ≡ c.now ∷ []) }
+{
+    let mut made = Row::new(alloc);
+    push_made(&mut made, c.copy())?;
     Ok(made)
 }
 
@@ -39,9 +50,7 @@ fn single_rows(cells: &Row) -> Result<Rows, Memory>
 {
     let mut made = Rows::new(cells.alloc());
     for c in cells.as_slice() {
-        let mut row = Row::new(cells.alloc());
-        row.push(c.copy()?)?;
-        made.push(row)?;
+        push_made(&mut made, single_row(cells.alloc(), c))?;
     }
     Ok(made)
 }

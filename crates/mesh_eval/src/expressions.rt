@@ -1,7 +1,8 @@
 // The value of an expression.
-ghost use Rattle.std.specs.Prelude.{◌≡◌, IfOk, map, pos, length};
+ghost use Rattle.std.specs.Prelude.{◌≡◌, List, IfOk, map, pos, length};
 ghost use Rattle.std.specs.List.{fold};
-ghost use Rattle.mesh_meaning.specs.Cells.{chosen, one_of, func_value};
+ghost use Rattle.mesh_meaning.specs.Cells.{is_null, negative, opposite, op_value, between, chosen, one_of, func_value};
+ghost use Rattle.mesh_casts.specs.Casts.{cast_value};
 ghost use Rattle.mesh_meaning.specs.Ev.{Ev, Ev_node, Ev_each, Ev_when, Ev_whens, at_row, seen, key_of, over_group};
 ghost use Rattle.mesh_meaning.specs.Aggregates.{agg_value, count_of};
 ghost use Rattle.mesh_meaning.specs.Sel.{item_row, key_list};
@@ -11,11 +12,12 @@ ghost use Rattle.mesh_eval.specs.Joined.{shown};
 use crate::aggregates::aggregate;
 use crate::cells::{call, equal, is_null, is_true, lies_between, negate, not, operate, or};
 use crate::frames::{Frame, Members, cell_at, column};
+use crate::lists::push_made;
 use crate::macros::bound;
-use mesh_base::{AggKind, Expr, Func, Item, When};
+use mesh_base::{AggKind, Expr, Func, Item, Op, When};
 use mesh_casts::cast;
-use mesh_list::{Duplicate, Memory};
-use mesh_values::{Bounds, Cell, Columns, Row};
+use mesh_list::{Duplicate, Memory, together};
+use mesh_values::{Bounds, Cell, ColType, Columns, Row};
 use std::alloc::Global;
 
 #[tactic(auto, using(mesh_meaning::proofs::Nodes::Ev_out))]
@@ -43,42 +45,86 @@ fn ev_node(alloc: Global, e: &Expr, f: &Frame) -> Result<Cell, Memory>
         Expr::Literal(c) => c.copy(),
         Expr::Col { item, name } => column(f, *item, name),
         Expr::Macro(var) => bound(alloc, *var, f.bounds),
-        Expr::Binary { op, left, right } => operate(
+        Expr::Binary { op, left, right } => operated(
             *op,
-            &ev(alloc, left.get(), f)?,
-            &ev(alloc, right.get(), f)?,
+            ev(alloc, left.get(), f),
+            ev(alloc, right.get(), f),
         ),
-        Expr::Neg(value) => Ok(negate(&ev(alloc, value.get(), f)?)),
-        Expr::Not(value) => Ok(not(&ev(alloc, value.get(), f)?)),
-        Expr::IsNull(value) => Ok(Cell::Bool(is_null(&ev(alloc, value.get(), f)?))),
-        Expr::Between { value, low, high } => Ok(lies_between(
-            &ev(alloc, value.get(), f)?,
-            &ev(alloc, low.get(), f)?,
-            &ev(alloc, high.get(), f)?,
-        )),
+        Expr::Neg(value) => negated(ev(alloc, value.get(), f)),
+        Expr::Not(value) => opposed(ev(alloc, value.get(), f)),
+        Expr::IsNull(value) => null_test(ev(alloc, value.get(), f)),
+        Expr::Between { value, low, high } => placed(
+            ev(alloc, value.get(), f),
+            ev(alloc, low.get(), f),
+            ev(alloc, high.get(), f),
+        ),
         Expr::OneOf { value, of } => {
             let x = ev(alloc, value.get(), f)?;
-            Ok(ev_one_of(alloc, &x, of.as_slice(), f)?)
+            ev_one_of(alloc, &x, of.as_slice(), f)
         }
-        Expr::Cast { to, value } => cast(alloc, *to, ev(alloc, value.get(), f)?),
-        Expr::Call { func, args } => Ok(ev_call(alloc, *func, args.as_slice(), f)?),
+        Expr::Cast { to, value } => converted(alloc, *to, ev(alloc, value.get(), f)),
+        Expr::Call { func, args } => called(*func, ev_each(alloc, args.as_slice(), f)),
         Expr::Case { whens, otherwise } => {
             // ELSE has its value only where no WHEN is true.
-            match ev_whens(alloc, whens.as_slice(), f)? {
+            let found = ev_whens(alloc, whens.as_slice(), f)?;
+            match found {
                 Some(v) => Ok(v),
-                None => Ok(ev(alloc, otherwise.get(), f)?),
+                None => ev(alloc, otherwise.get(), f),
             }
         }
         Expr::CountAll => Ok(count_group(f)),
-        Expr::Agg { kind, value } => Ok(ev_agg(alloc, *kind, value.get(), f)?),
+        Expr::Agg { kind, value } => ev_agg(alloc, *kind, value.get(), f),
     }
 }
 
-#[cycle(ev)]
-fn ev_call(alloc: Global, func: Func, args: &[Expr], f: &Frame) -> Result<Cell, Memory>
-    ensures { IfOk result (λ v. v ≡ func_value func (Ev_each args.now (scope_of f.now))) }
+// The value of a node where each operand has its own, outside the recursion.
+
+fn operated(op: Op, left: Result<Cell, Memory>, right: Result<Cell, Memory>) -> Result<Cell, Memory>
+    ensures { (x y : Cell) → IfOk left (λ v. v ≡ x) → IfOk right (λ v. v ≡ y) → IfOk result (λ v. v ≡ op_value op x y) }
 {
-    call(func, ev_each(alloc, args, f)?)
+    let (x, y) = together(left, right)?;
+    operate(op, &x, &y)
+}
+
+fn negated(value: Result<Cell, Memory>) -> Result<Cell, Memory>
+    ensures { (x : Cell) → IfOk value (λ v. v ≡ x) → IfOk result (λ v. v ≡ negative x) }
+{
+    Ok(negate(&value?))
+}
+
+fn opposed(value: Result<Cell, Memory>) -> Result<Cell, Memory>
+    ensures { (x : Cell) → IfOk value (λ v. v ≡ x) → IfOk result (λ v. v ≡ opposite x) }
+{
+    Ok(not(&value?))
+}
+
+fn null_test(value: Result<Cell, Memory>) -> Result<Cell, Memory>
+    ensures { (x : Cell) → IfOk value (λ v. v ≡ x) → IfOk result (λ v. v ≡ Cell.Bool (is_null x)) }
+{
+    Ok(Cell::Bool(is_null(&value?)))
+}
+
+fn placed(
+    value: Result<Cell, Memory>,
+    low: Result<Cell, Memory>,
+    high: Result<Cell, Memory>,
+) -> Result<Cell, Memory>
+    ensures { (x a b : Cell) → IfOk value (λ v. v ≡ x) → IfOk low (λ v. v ≡ a) → IfOk high (λ v. v ≡ b) → IfOk result (λ v. v ≡ between x a b) }
+{
+    let (x, (a, b)) = together(value, together(low, high))?;
+    Ok(lies_between(&x, &a, &b))
+}
+
+fn converted(alloc: Global, to: ColType, value: Result<Cell, Memory>) -> Result<Cell, Memory>
+    ensures { (x : Cell) → IfOk value (λ v. v ≡ x) → IfOk result (λ v. v ≡ cast_value to x) }
+{
+    cast(alloc, to, value?)
+}
+
+fn called(func: Func, args: Result<Row, Memory>) -> Result<Cell, Memory>
+    ensures { (xs : List Cell) → IfOk args (λ v. v ≡ xs) → IfOk result (λ v. v ≡ func_value func xs) }
+{
+    call(func, args?)
 }
 
 #[cycle(ev)]
@@ -109,7 +155,7 @@ pub(crate) fn ev_each(alloc: Global, all: &[Expr], f: &Frame) -> Result<Row, Mem
 {
     let mut made = Row::new(alloc);
     for e in all {
-        made.push(ev(alloc, e, f)?)?;
+        push_made(&mut made, ev(alloc, e, f))?;
     }
     Ok(made)
 }
@@ -171,8 +217,8 @@ fn ev_rows(
 {
     let mut made = Row::new(alloc);
     for at in group.places {
-        let value_here = ev_row(alloc, value, columns, group.rows.get(*at), bounds)?;
-        made.push(value_here)?;
+        let row = group.rows.get(*at);
+        push_made(&mut made, ev_row(alloc, value, columns, row, bounds))?;
     }
     Ok(made)
 }
@@ -204,7 +250,7 @@ pub(crate) fn item_row(alloc: Global, items: &[Item], f: &Frame) -> Result<Row, 
 {
     let mut made = Row::new(alloc);
     for item in items {
-        made.push(ev(alloc, &item.expr, f)?)?;
+        push_made(&mut made, ev(alloc, &item.expr, f))?;
     }
     Ok(made)
 }

@@ -1,7 +1,8 @@
 // Groups of rows, each as the places of its rows.
-ghost use Rattle.std.specs.Prelude.{◌≡◌, [], map, IfOk};
+ghost use Rattle.std.specs.Prelude.{◌≡◌, [], ◌++◌, map, IfOk, OnOk};
 ghost use Rattle.std.specs.List.{flat_map};
 ghost use Rattle.mesh_meaning.specs.Aggregates.{distinct};
+ghost use Rattle.mesh_index.specs.Places.{places};
 ghost use Rattle.mesh_eval.specs.Frames.{scope_of, picked, all_places};
 ghost use Rattle.mesh_meaning.specs.Sel.{holds, same_row, key_list, group_of, group_row, grouped_rows};
 
@@ -9,11 +10,11 @@ use crate::cells::is_true;
 use crate::expressions::{ev, item_row, key_list};
 use crate::frames::{Frame, Members};
 use crate::joined::JoinedRows;
-use crate::lists::append;
+use crate::lists::{append, push_made};
 use mesh_base::{Expr, Select};
 use mesh_index::Index;
 use mesh_list::Memory;
-use mesh_values::{Bounds, Cell, Columns, Rows};
+use mesh_values::{Bounds, Cell, Columns, Row, Rows};
 use std::alloc::Global;
 
 fn holds(alloc: Global, condition: &Option<Expr>, f: &Frame) -> Result<bool, Memory>
@@ -40,7 +41,7 @@ fn key_lists(
 {
     let mut made = Rows::new(alloc);
     for at in 0..rows.len() {
-        made.push(key_list(alloc, keys, columns, rows.at(at), u)?)?;
+        push_made(&mut made, key_list(alloc, keys, columns, rows.at(at), u))?;
     }
     Ok(made)
 }
@@ -67,7 +68,7 @@ fn group_row<'a, 'x>(
     };
     let mut made = Rows::new(alloc);
     if holds(alloc, &q.having, &f)? {
-        made.push(item_row(alloc, q.items.as_slice(), &f)?)?;
+        push_made(&mut made, item_row(alloc, q.items.as_slice(), &f))?;
     }
     Ok(made)
 }
@@ -96,6 +97,52 @@ fn row_of_all(
     group_row(alloc, q, columns, &[], rows, all.as_slice(), u)
 }
 
+/// Adds the row of the group of a key. `found` is for the places of its rows.
+fn add_group(
+    alloc: Global,
+    q: &Select,
+    columns: &[Columns],
+    rows: &JoinedRows,
+    key: &Row,
+    index: &Index,
+    found: &mut Vec<usize>,
+    made: &mut Rows,
+    u: Bounds,
+) -> Result<(), Memory>
+    ensures { OnOk result (made.new ≡ made.old ++ group_row u columns.now q.now (record { key_values = key.now; rows = picked rows.now.rows (places (same_row key.now) index.now) })) }
+{
+    index.find(key, found)?;
+    let own = group_row(alloc, q, columns, key.as_slice(), rows, found.as_slice(), u)?;
+    append(made, own)
+}
+
+/// The rows of the groups of equal keys, by the index of these.
+fn indexed_groups(
+    alloc: Global,
+    q: &Select,
+    columns: &[Columns],
+    rows: &JoinedRows,
+    keys: &Rows,
+    index: &Index,
+    u: Bounds,
+) -> Result<Rows, Memory>
+    requires keys { keys.now ≡ map (key_list u columns.now q.now.keys) rows.now.rows }
+    requires index { index.now ≡ keys.now }
+    ensures { IfOk result (λ made. made ≡ flat_map (group_row u columns.now q.now) (map (group_of u columns.now q.now.keys rows.now.rows) (distinct same_row (map (key_list u columns.now q.now.keys) rows.now.rows)))) }
+{
+    let mut found = Vec::new(alloc);
+    let mut made = Rows::new(alloc);
+    for at in 0..keys.len() {
+        if index.is_first(at) {
+            let key = keys.at(at);
+            add_group(
+                alloc, q, columns, rows, key, index, &mut found, &mut made, u,
+            )?;
+        }
+    }
+    Ok(made)
+}
+
 /// The rows of the groups of equal keys.
 fn rows_by_key(
     alloc: Global,
@@ -108,25 +155,7 @@ fn rows_by_key(
 {
     let keys = key_lists(alloc, q.keys.as_slice(), columns, rows, u)?;
     let index = Index::new(alloc, keys.as_slice())?;
-    let mut found = Vec::new(alloc);
-    let mut made = Rows::new(alloc);
-    for at in 0..keys.len() {
-        if index.is_first(at) {
-            let key = keys.at(at);
-            index.find(key, &mut found)?;
-            let own = group_row(
-                alloc,
-                q,
-                columns,
-                key.as_slice(),
-                &*rows,
-                found.as_slice(),
-                u,
-            )?;
-            append(&mut made, own)?;
-        }
-    }
-    Ok(made)
+    indexed_groups(alloc, q, columns, rows, &keys, &index, u)
 }
 
 pub(crate) fn grouped_rows(
