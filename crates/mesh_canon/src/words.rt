@@ -1,5 +1,5 @@
 // Words, numbers and texts at the front of what is left to read.
-ghost use Rattle.std.specs.Prelude.{◌≡◌, ◌<◌, ◌≤◌, ◌^◌, ◌+◌, pos, negsuc, ◌≤ℤ◌, MatchOption, IfOk};
+ghost use Rattle.std.specs.Prelude.{◌≡◌, ◌<◌, ◌≤◌, ◌^◌, ◌+◌, ◌-◌, pos, negsuc, ◌≤ℤ◌, MatchOption, IfOk};
 ghost use Rattle.mesh_canon.specs.Reading.{Gives, after, below_at, digits_at, number_at, signed_at, text_at, then_at};
 
 use crate::fault::CanonFault;
@@ -85,7 +85,16 @@ fn negative(bytes: &[u8], most: u64) -> Result<(i64, &[u8]), CanonFault>
     if number == 0 {
         return Err(CanonFault::NotCanonical);
     }
-    Ok((-((number - 1) as i64) - 1, rest))
+    Ok((opposite(number), rest))
+}
+
+// The number as far below zero.
+fn opposite(number: u64) -> i64
+    requires above { 0 < number }
+    requires bound { number ≤ 2 ^ 63 }
+    ensures { result ≡ negsuc (number - 1) }
+{
+    -((number - 1) as i64) - 1
 }
 
 /// A text with its length.
