@@ -8,7 +8,7 @@ use Rattle.std.proofs.lemmas.Fmt.{length-decimal-le}
 use Rattle.std.proofs.lemmas.List.{append-nil, length-append}
 use Rattle.mesh_values.specs.Crons.{CronSets, has, is_cron, is_set, is_single, some_below}
 use Rattle.mesh_canon_text.specs.Text.{behind_commas, commas, cron_text, field_text, fields_text, places}
-use Rattle.mesh_canon.specs.Reading.{after, cron_at, field_at, fields_at, fields_in, number_at, values_at}
+use Rattle.mesh_canon.specs.Reading.{after, cron_at, field_at, fields_at, fields_in, number_at, then_at, values_at}
 use Rattle.mesh_canon.proofs.Numbers.{Ends, begins, number_again, text_again}
 
 -- the values of a set ascend, from low to most
@@ -214,7 +214,7 @@ fields_regrouped : (a b c d x : List ℕ) → a ++ (32 ∷ (b ++ (32 ∷ (c ++ (
 fields_regrouped a b c d x = ap (λ y. a ++ (32 ∷ (b ++ (32 ∷ (c ++ (32 ∷ (d ++ (32 ∷ y)))))))) (sym (append-nil x))
 
 fields_again : (c : CronSets) → Rule c → fields_in (fields_text c) ≡ Some c
-unfolding fields_in fields_at fields_text after
+unfolding fields_in fields_at then_at fields_text after
 fields_again c rule =
     let m : List ℕ = field_text (c.minute == 0xfff_ffff_ffff_ffff) 60 c.minute in
     let h : List ℕ = field_text (c.hour == 0xff_ffff) 24 c.hour in

@@ -16,7 +16,7 @@ use Rattle.mesh_base.specs.declared.definitions.Own.{Own}
 use Rattle.mesh_canon.specs.declared.fault.CanonFault.{CanonFault}
 use Rattle.mesh_canon_text.specs.Text.{body_text, column_text, cron_text, cte_text, kind_text, list_of, list_text, own_text, query_text, row_text, select_text, source_text, start_text, text_of, time_text, unit_word}
 use Rattle.mesh_canon.specs.Fits.{are_texts, body_fits, column_fits, is_own, kind_fits, name_fits, row_fits, source_fits, start_fits, text_fits, time_fits}
-use Rattle.mesh_canon.specs.Reading.{Refuses, after, body_at, column_at, incremental_at, kind_at, list_at, list_in, own_at, own_in, row_at, seed_at, source_at, start_at, text_at, time_at, unit_at, whole}
+use Rattle.mesh_canon.specs.Reading.{Refuses, after, body_at, column_at, incremental_at, kind_at, list_at, list_in, own_at, own_in, row_at, seed_at, source_at, start_at, text_at, then_at, time_at, timed_at, titled_at, unit_at, whole}
 use Rattle.mesh_canon.proofs.Numbers.{signed_again, signed_some, text_again, text_some}
 use Rattle.mesh_canon.proofs.Lists.{Member, each_of, list_again}
 use Rattle.mesh_canon.proofs.Values.{column_member, name_again, row_member, text_member}
@@ -54,7 +54,7 @@ kind_again kinds.Seed rest fits = refl
 kind_again (kinds.Incremental time) rest fits = rw (append_assoc (text_of time) (41 ∷ []) rest, text_again time (41 ∷ rest) fits) refl
 
 source_again : (d : Decl) (rest : List ℕ) → source_fits d ≡ true → source_at (source_text d ++ rest) ≡ Some (d, rest)
-unfolding source_at source_text after
+unfolding source_at source_text then_at after
 source_again d rest fits =
     let p = and_parts (name_fits d.name) _ fits in
     let q = and_parts (list_all column_fits d.columns) (time_fits d.time) p.1 in
@@ -72,7 +72,7 @@ unfolding source_text after
 source_member d fits = record { opens = λ rest. refl; again = λ rest. source_again d rest fits }
 
 body_again : (b : Defn) (rest : List ℕ) → body_fits b ≡ true → body_at (body_text b ++ rest) ≡ Some (b, rest)
-unfolding body_at body_text seed_at query_text after
+unfolding body_at body_text seed_at query_text then_at after
 body_again (bodies.Seed columns rows) rest fits =
     let p = and_parts (list_all column_fits columns) (list_all row_fits rows) fits in
     let e : (list_of column_text columns ++ (32 ∷ (list_of row_text rows ++ (41 ∷ [])))) ++ rest ≡ list_of column_text columns ++ (32 ∷ (list_of row_text rows ++ (41 ∷ rest))) = simp append_assoc in
@@ -108,7 +108,7 @@ own_regrouped : (a b c d x y z w rest : List ℕ) → (a ++ (32 ∷ (b ++ (32 �
 own_regrouped a b c d x y z w rest = simp append_assoc
 
 own_again : (m : Own) (rest : List ℕ) → is_own m ≡ true → own_at (own_text m ++ rest) ≡ Some (m, rest)
-unfolding own_at own_text after
+unfolding own_at titled_at timed_at then_at own_text after
 own_again m rest fits =
     let p = own_parts m fits in
     let w : List ℕ = body_text m.defn ++ (41 ∷ rest) in
@@ -122,9 +122,9 @@ own_again m rest fits =
       name_again m.name (32 ∷ c) p.name,
       kind_again m.kind (32 ∷ d) p.kind,
       cron_again m.cron (32 ∷ x) p.cron,
-      p.cron,
       unit_again m.unit y,
       start_again m.start z p.start,
+      p.cron,
       list_again source_at source_text m.sources (each_of source_at source_text source_fits source_member m.sources p.sources) (32 ∷ w),
       body_again m.defn (41 ∷ rest) p.body,
     ) refl

@@ -13,14 +13,14 @@ use Rattle.mesh_base.specs.declared.queries.Select.{Select}
 use Rattle.mesh_base.specs.declared.queries.Query.{Query}
 use Rattle.mesh_canon_text.specs.Text.{cte_text, distinct_word, expr_text, from_text, grouped_word, item_text, join_word, list_of, option_text, rel_text, select_text, text_of, type_word}
 use Rattle.mesh_canon.specs.Fits.{cte_fits, expr_fits, from_fits, item_fits, option_fits, query_fits, rel_fits, select_fits, text_fits}
-use Rattle.mesh_canon.specs.Reading.{after, any_expr_at, cte_at, distinct_at, from_at, grouped_at, item_at, join_at, named_at, place_at, query_at, rel_at, select_at}
+use Rattle.mesh_canon.specs.Reading.{after, any_expr_at, cte_at, distinct_at, filters_at, from_at, grouped_at, item_at, join_at, modes_at, named_at, place_at, query_at, rel_at, select_at, tables_at, then_at}
 use Rattle.mesh_canon.proofs.Numbers.{number_again, text_again}
 use Rattle.mesh_canon.proofs.Lists.{Member, each_of, list_again}
 use Rattle.mesh_canon.proofs.Values.{name_again, type_again}
 use Rattle.mesh_canon.proofs.Exprs.{expr_member, option_again}
 
 item_again : (i : Item) (rest : List ℕ) → item_fits i ≡ true → item_at (item_text i ++ rest) ≡ Some (i, rest)
-unfolding item_at item_text after
+unfolding item_at item_text then_at after
 item_again i rest fits =
     let p = and_parts (text_fits i.name) (expr_fits i.expr) fits in
     let e : (text_of i.name ++ (32 ∷ (type_word i.kind ++ (32 ∷ (expr_text i.expr ++ (41 ∷ [])))))) ++ rest ≡ text_of i.name ++ (32 ∷ (type_word i.kind ++ (32 ∷ (expr_text i.expr ++ (41 ∷ rest))))) = simp append_assoc in
@@ -46,7 +46,7 @@ join_again joins.Left rest = refl
 join_again joins.Cross rest = refl
 
 from_again : (f : FromItem) (rest : List ℕ) → from_fits f ≡ true → from_at (from_text f ++ rest) ≡ Some (f, rest)
-unfolding from_at from_text after
+unfolding from_at from_text then_at after
 from_again f rest fits =
     let p = and_parts (rel_fits f.rel) (option_fits f.on) fits in
     let e : (join_word f.join ++ (32 ∷ (rel_text f.rel ++ (32 ∷ (option_text f.on ++ (41 ∷ [])))))) ++ rest ≡ join_word f.join ++ (32 ∷ (rel_text f.rel ++ (32 ∷ (option_text f.on ++ (41 ∷ rest))))) = simp append_assoc in
@@ -87,7 +87,7 @@ select_regrouped : (a b c d x y z rest : List ℕ) → (a ++ (32 ∷ (b ++ (32 �
 select_regrouped a b c d x y z rest = simp append_assoc
 
 select_again : (s : Select) (rest : List ℕ) → select_fits s ≡ true → select_at (select_text s ++ rest) ≡ Some (s, rest)
-unfolding select_at select_text after
+unfolding select_at modes_at tables_at filters_at then_at select_text after
 select_again s rest fits =
     let p = select_parts s fits in
     let z : List ℕ = option_text s.having ++ (41 ∷ rest) in
@@ -121,7 +121,7 @@ unfolding cte_text after
 cte_member c fits = record { opens = λ rest. refl; again = λ rest. cte_again c rest fits }
 
 pub query_again : (q : Query) (rest : List ℕ) → query_fits q ≡ true → query_at (list_of cte_text q.ctes ++ (32 ∷ (list_of select_text q.selects ++ (41 ∷ rest)))) ≡ Some (q, rest)
-unfolding query_at after
+unfolding query_at then_at after
 query_again q rest fits =
     let p = and_parts (list_all cte_fits q.ctes) (list_all select_fits q.selects) fits in
     rw (

@@ -11,7 +11,7 @@ use Rattle.mesh_values.specs.declared.values.Column.{Column}
 use Rattle.mesh_values.specs.declared.values.Name.{Name}
 use Rattle.mesh_canon_text.specs.Text.{cell_text, column_text, row_text, text_of, type_word}
 use Rattle.mesh_canon.specs.Fits.{cell_fits, column_fits, name_fits, row_fits, text_fits}
-use Rattle.mesh_canon.specs.Reading.{after, cell_at, cell_head_at, cell_parts_at, column_at, name_at, row_at, text_at, type_at}
+use Rattle.mesh_canon.specs.Reading.{after, bare_head_at, cell_at, cell_head_at, cell_parts_at, column_at, name_at, row_at, text_at, then_at, type_at, valued_head_at}
 use Rattle.mesh_canon.proofs.Numbers.{signed_again, text_again, text_opens}
 use Rattle.mesh_canon.proofs.Lists.{Member, each_of, list_again, list_opens}
 
@@ -23,7 +23,7 @@ type_again types.Date rest = refl
 type_again types.Bool rest = refl
 
 pub cell_again : (c : Cell) (rest : List ℕ) → cell_fits c ≡ true → cell_at (cell_text c ++ rest) ≡ Some (c, rest)
-unfolding cell_at cell_head_at cell_parts_at cell_text after
+unfolding cell_at cell_head_at valued_head_at bare_head_at cell_parts_at cell_text after
 cell_again cells.Null rest fits = refl
 cell_again (cells.Int n) rest fits =
     rw (append_assoc (signed_decimal n) (41 ∷ []) rest, signed_again (2 ^ 63 - 1) n (41 ∷ rest) (omega arith) fits refl) refl
@@ -51,7 +51,7 @@ row_member cs fits =
     record { opens = list_opens cell_text cs; again = list_again cell_at cell_text cs (each_of cell_at cell_text cell_fits cell_member cs fits) }
 
 column_again : (c : Column) (rest : List ℕ) → column_fits c ≡ true → column_at (column_text c ++ rest) ≡ Some (c, rest)
-unfolding column_at column_text after
+unfolding column_at column_text then_at after
 column_again c rest fits =
     let e : (text_of c.name ++ (32 ∷ (type_word c.kind ++ (41 ∷ [])))) ++ rest ≡ text_of c.name ++ (32 ∷ (type_word c.kind ++ (41 ∷ rest))) = simp append_assoc in
     rw (e, text_again c.name (32 ∷ (type_word c.kind ++ (41 ∷ rest))) fits, type_again c.kind (41 ∷ rest)) refl
@@ -61,7 +61,7 @@ unfolding column_text after
 column_member c fits = record { opens = λ rest. refl; again = λ rest. column_again c rest fits }
 
 pub name_again : (n : Name) (rest : List ℕ) → name_fits n ≡ true → name_at (text_of n.schema ++ (32 ∷ (text_of n.model ++ rest))) ≡ Some (n, rest)
-unfolding name_at after
+unfolding name_at then_at after
 name_again n rest fits =
     let p = and_parts (text_fits n.schema) (text_fits n.model) fits in
     rw (text_again n.schema (32 ∷ (text_of n.model ++ rest)) p.0, text_again n.model rest p.1) refl

@@ -71,6 +71,13 @@ after [] bytes = Some bytes
 after (w ∷ word) [] = None
 after (w ∷ word) (b ∷ bytes) = if w == b then after word bytes else None
 
+-- what is read, where a sign stands behind it
+unfoldable pub then_at : {A : Type 0} → List ℕ → (List ℕ → Option (A × List ℕ)) → List ℕ → Option (A × List ℕ)
+then_at sign read bytes = do
+  x ← read bytes
+  rest ← after sign x.1
+  Some (x.0, rest)
+
 -- a value and what is left, where its word was there, and else another choice
 abbrev pub behind : {A : Type 0} → A → Option (List ℕ) → Option (A × List ℕ) → Option (A × List ℕ)
 behind x None other = other
@@ -147,57 +154,105 @@ list_at read bytes = do
   inner ← after (codes "[") bytes
   none_or (after (codes "]") inner) (members_at read inner)
 
--- how a cell begins
-unfoldable pub cell_head_at : List ℕ → Option (CellHead × List ℕ)
-cell_head_at = word_at (
+-- the first of two choices that is there
+abbrev pub or_else : {A B : Type 0} → (B → A) → Option (B × List ℕ) → Option (A × List ℕ) → Option (A × List ℕ)
+or_else f None other = other
+or_else f (Some x) other = Some (f x.0, x.1)
+
+-- how a cell with a value behind its word begins
+unfoldable pub valued_head_at : List ℕ → Option (CellHead × List ℕ)
+valued_head_at = word_at (
     (codes "(int ", cell_heads.Int)
     ∷ (codes "(text ", cell_heads.Text)
-    ∷ (codes "null", cell_heads.Null)
     ∷ (codes "(date ", cell_heads.Date)
+    ∷ [])
+
+-- how a cell that is a word begins
+unfoldable pub bare_head_at : List ℕ → Option (CellHead × List ℕ)
+bare_head_at = word_at (
+    (codes "null", cell_heads.Null)
     ∷ (codes "true", cell_heads.True)
     ∷ (codes "false", cell_heads.False)
     ∷ [])
 
--- how a node begins that is neither a literal nor an operator
-unfoldable pub node_head_at : List ℕ → Option (Head × List ℕ)
-node_head_at = word_at (
+-- how a cell begins
+unfoldable pub cell_head_at : List ℕ → Option (CellHead × List ℕ)
+cell_head_at bytes = or_else (λ head. head) (valued_head_at bytes) (bare_head_at bytes)
+
+-- how a column, a macro, NEG and NOT begin
+unfoldable pub plain_head_at : List ℕ → Option (Head × List ℕ)
+plain_head_at = word_at (
     (codes "(col ", heads.Col)
     ∷ (codes "(var ", heads.Macro)
     ∷ (codes "(neg ", heads.Neg)
     ∷ (codes "(not ", heads.Not)
-    ∷ (codes "(isnull ", heads.IsNull)
+    ∷ [])
+
+-- how a test and a cast begin
+unfoldable pub test_head_at : List ℕ → Option (Head × List ℕ)
+test_head_at = word_at (
+    (codes "(isnull ", heads.IsNull)
     ∷ (codes "(between ", heads.Between)
     ∷ (codes "(in ", heads.OneOf)
     ∷ (codes "(cast ", heads.Cast)
-    ∷ (codes "(call ", heads.Call)
+    ∷ [])
+
+-- how a call, a CASE and an aggregate begin
+unfoldable pub call_head_at : List ℕ → Option (Head × List ℕ)
+call_head_at = word_at (
+    (codes "(call ", heads.Call)
     ∷ (codes "(case ", heads.Case)
     ∷ (codes "(count", heads.CountAll)
     ∷ (codes "(agg ", heads.Agg)
     ∷ [])
 
--- how an operator begins
-unfoldable pub op_head_at : List ℕ → Option (Op × List ℕ)
-op_head_at = word_at (
+-- how a node begins that is neither a literal nor an operator
+unfoldable pub node_head_at : List ℕ → Option (Head × List ℕ)
+node_head_at bytes =
+    or_else (λ head. head) (plain_head_at bytes) (or_else (λ head. head) (test_head_at bytes) (call_head_at bytes))
+
+-- how an operator of numbers begins
+unfoldable pub number_op_at : List ℕ → Option (Op × List ℕ)
+number_op_at = word_at (
     (codes "(add ", ops.Add)
     ∷ (codes "(sub ", ops.Sub)
     ∷ (codes "(mul ", ops.Mul)
     ∷ (codes "(div ", ops.Div)
     ∷ (codes "(rem ", ops.Rem)
-    ∷ (codes "(cat ", ops.Cat)
+    ∷ [])
+
+-- how an operator of texts, and one that asks whether two are equal, begins
+unfoldable pub equal_op_at : List ℕ → Option (Op × List ℕ)
+equal_op_at = word_at (
+    (codes "(cat ", ops.Cat)
     ∷ (codes "(eq ", ops.Eq)
     ∷ (codes "(ne ", ops.Ne)
-    ∷ (codes "(lt ", ops.Lt)
+    ∷ [])
+
+-- how an operator begins that asks which of two comes first
+unfoldable pub order_op_at : List ℕ → Option (Op × List ℕ)
+order_op_at = word_at (
+    (codes "(lt ", ops.Lt)
     ∷ (codes "(le ", ops.Le)
     ∷ (codes "(gt ", ops.Gt)
     ∷ (codes "(ge ", ops.Ge)
-    ∷ (codes "(and ", ops.And)
+    ∷ [])
+
+-- how an operator of truth values begins
+unfoldable pub truth_op_at : List ℕ → Option (Op × List ℕ)
+truth_op_at = word_at (
+    (codes "(and ", ops.And)
     ∷ (codes "(or ", ops.Or)
     ∷ [])
 
--- the first of two choices that is there
-abbrev pub or_else : {A B : Type 0} → (B → A) → Option (B × List ℕ) → Option (A × List ℕ) → Option (A × List ℕ)
-or_else f None other = other
-or_else f (Some x) other = Some (f x.0, x.1)
+-- how an operator begins that compares
+unfoldable pub compare_op_at : List ℕ → Option (Op × List ℕ)
+compare_op_at bytes = or_else (λ op. op) (equal_op_at bytes) (order_op_at bytes)
+
+-- how an operator begins
+unfoldable pub op_head_at : List ℕ → Option (Op × List ℕ)
+op_head_at bytes =
+    or_else (λ op. op) (number_op_at bytes) (or_else (λ op. op) (compare_op_at bytes) (truth_op_at bytes))
 
 -- how a node of an expression begins
 unfoldable pub head_at : List ℕ → Option (Head × List ℕ)
@@ -213,16 +268,25 @@ type_at = word_at (
     ∷ (codes "bool", types.Bool)
     ∷ [])
 
--- the word of a function and a space
-unfoldable pub func_at : List ℕ → Option (Func × List ℕ)
-func_at = word_at (
+-- the word of a function of one value and a space
+unfoldable pub one_func_at : List ℕ → Option (Func × List ℕ)
+one_func_at = word_at (
     (codes "abs ", functions.Abs)
     ∷ (codes "length ", functions.Length)
     ∷ (codes "upper ", functions.Upper)
     ∷ (codes "lower ", functions.Lower)
-    ∷ (codes "nullif ", functions.Nullif)
+    ∷ [])
+
+-- the word of a function of several values and a space
+unfoldable pub many_func_at : List ℕ → Option (Func × List ℕ)
+many_func_at = word_at (
+    (codes "nullif ", functions.Nullif)
     ∷ (codes "coalesce ", functions.Coalesce)
     ∷ [])
+
+-- the word of a function and a space
+unfoldable pub func_at : List ℕ → Option (Func × List ℕ)
+func_at bytes = or_else (λ func. func) (one_func_at bytes) (many_func_at bytes)
 
 -- the word of an aggregate and a space
 unfoldable pub agg_at : List ℕ → Option (AggKind × List ℕ)
@@ -318,15 +382,11 @@ field_at each most bytes = each_or each (after (codes "*") bytes) (values_at 60 
 
 unfoldable pub fields_at : List ℕ → Option (CronSets × List ℕ)
 fields_at bytes = do
-  minute ← field_at 0xfff_ffff_ffff_ffff 59 bytes
-  b0 ← after (codes " ") minute.1
-  hour ← field_at 0xff_ffff 23 b0
-  b1 ← after (codes " ") hour.1
-  dom ← field_at 0xffff_fffe 31 b1
-  b2 ← after (codes " ") dom.1
-  month ← field_at 0x1ffe 12 b2
-  b3 ← after (codes " ") month.1
-  dow ← field_at 0x7f 6 b3
+  minute ← then_at (codes " ") (field_at 0xfff_ffff_ffff_ffff 59) bytes
+  hour ← then_at (codes " ") (field_at 0xff_ffff 23) minute.1
+  dom ← then_at (codes " ") (field_at 0xffff_fffe 31) hour.1
+  month ← then_at (codes " ") (field_at 0x1ffe 12) dom.1
+  dow ← field_at 0x7f 6 month.1
   Some (record { minute = minute.0.0; hour = hour.0.0; dom = dom.0.0; month = month.0.0; dow = dow.0.0; dom_star = dom.0.1; dow_star = dow.0.1 }, dow.1)
 
 -- five fields, and nothing else
@@ -357,14 +417,24 @@ abbrev pub optional : {A : Type 0} → Option (List ℕ) → Option (A × List �
 optional None found = found >>= λ x. Some (Some x.0, x.1)
 optional (Some rest) found = Some (None, rest)
 
+-- a cell of a number, a text or a day, behind its head
+abbrev pub int_at : List ℕ → Option (Cell × List ℕ)
+int_at bytes = signed_at (2 ^ 63 - 1) bytes >>= λ n. closed (cells.Int n.0) n.1
+
+abbrev pub text_cell_at : List ℕ → Option (Cell × List ℕ)
+text_cell_at bytes = text_at bytes >>= λ t. closed (cells.Text t.0) t.1
+
+abbrev pub date_at : List ℕ → Option (Cell × List ℕ)
+date_at bytes = signed_at (2 ^ 31 - 1) bytes >>= λ n. closed (cells.Date n.0) n.1
+
 -- a cell behind its head
 unfoldable pub cell_parts_at : CellHead → List ℕ → Option (Cell × List ℕ)
 cell_parts_at cell_heads.Null bytes = Some (cells.Null, bytes)
 cell_parts_at cell_heads.True bytes = Some (cells.Bool true, bytes)
 cell_parts_at cell_heads.False bytes = Some (cells.Bool false, bytes)
-cell_parts_at cell_heads.Int bytes = signed_at (2 ^ 63 - 1) bytes >>= λ n. closed (cells.Int n.0) n.1
-cell_parts_at cell_heads.Text bytes = text_at bytes >>= λ t. closed (cells.Text t.0) t.1
-cell_parts_at cell_heads.Date bytes = signed_at (2 ^ 31 - 1) bytes >>= λ n. closed (cells.Date n.0) n.1
+cell_parts_at cell_heads.Int bytes = int_at bytes
+cell_parts_at cell_heads.Text bytes = text_cell_at bytes
+cell_parts_at cell_heads.Date bytes = date_at bytes
 
 unfoldable pub cell_at : List ℕ → Option (Cell × List ℕ)
 cell_at bytes = cell_head_at bytes >>= λ h. cell_parts_at h.0 h.1
@@ -375,62 +445,54 @@ row_at = list_at cell_at
 unfoldable pub column_at : List ℕ → Option (Column × List ℕ)
 column_at bytes = do
   b0 ← after (codes "(column ") bytes
-  name ← text_at b0
-  b1 ← after (codes " ") name.1
-  kind ← type_at b1
-  closed (record { name = name.0; kind = kind.0 }) kind.1
+  name ← then_at (codes " ") text_at b0
+  kind ← then_at (codes ")") type_at name.1
+  Some (record { name = name.0; kind = kind.0 }, kind.1)
 
 unfoldable pub name_at : List ℕ → Option (Name × List ℕ)
 name_at bytes = do
-  schema ← text_at bytes
-  b0 ← after (codes " ") schema.1
-  model ← text_at b0
+  schema ← then_at (codes " ") text_at bytes
+  model ← text_at schema.1
   Some (record { schema = schema.0; model = model.0 }, model.1)
 
 unfoldable pub when_at : (List ℕ → Option (Expr × List ℕ)) → List ℕ → Option (When × List ℕ)
 when_at read bytes = do
   b0 ← after (codes "(when ") bytes
-  test ← read b0
-  b1 ← after (codes " ") test.1
-  value ← read b1
-  closed (record { test = test.0; value = value.0 }) value.1
+  test ← then_at (codes " ") read b0
+  value ← then_at (codes ")") read test.1
+  Some (record { test = test.0; value = value.0 }, value.1)
 
 unfoldable pub col_at : List ℕ → Option (Expr × List ℕ)
 col_at bytes = do
   item ← number_at (2 ^ 32 - 1) bytes
   b0 ← after (codes " ") item.1
-  name ← text_at b0
-  closed (exprs.Col item.0 name.0) name.1
+  name ← then_at (codes ")") text_at b0
+  Some (exprs.Col item.0 name.0, name.1)
 
 unfoldable pub binary_at : Op → (List ℕ → Option (Expr × List ℕ)) → List ℕ → Option (Expr × List ℕ)
 binary_at op read bytes = do
-  left ← read bytes
-  b0 ← after (codes " ") left.1
-  right ← read b0
-  closed (exprs.Binary op left.0 right.0) right.1
+  left ← then_at (codes " ") read bytes
+  right ← then_at (codes ")") read left.1
+  Some (exprs.Binary op left.0 right.0, right.1)
 
 unfoldable pub between_at : (List ℕ → Option (Expr × List ℕ)) → List ℕ → Option (Expr × List ℕ)
 between_at read bytes = do
-  value ← read bytes
-  b0 ← after (codes " ") value.1
-  low ← read b0
-  b1 ← after (codes " ") low.1
-  high ← read b1
-  closed (exprs.Between value.0 low.0 high.0) high.1
+  value ← then_at (codes " ") read bytes
+  low ← then_at (codes " ") read value.1
+  high ← then_at (codes ")") read low.1
+  Some (exprs.Between value.0 low.0 high.0, high.1)
 
 unfoldable pub one_of_at : (List ℕ → Option (Expr × List ℕ)) → List ℕ → Option (Expr × List ℕ)
 one_of_at read bytes = do
-  value ← read bytes
-  b0 ← after (codes " ") value.1
-  of ← list_at read b0
+  value ← then_at (codes " ") read bytes
+  of ← list_at read value.1
   closed (exprs.OneOf value.0 of.0) of.1
 
 unfoldable pub cast_at : (List ℕ → Option (Expr × List ℕ)) → List ℕ → Option (Expr × List ℕ)
 cast_at read bytes = do
-  to ← type_at bytes
-  b0 ← after (codes " ") to.1
-  value ← read b0
-  closed (exprs.Cast to.0 value.0) value.1
+  to ← then_at (codes " ") type_at bytes
+  value ← then_at (codes ")") read to.1
+  Some (exprs.Cast to.0 value.0, value.1)
 
 unfoldable pub call_at : (List ℕ → Option (Expr × List ℕ)) → List ℕ → Option (Expr × List ℕ)
 call_at read bytes = do
@@ -442,30 +504,40 @@ unfoldable pub case_at : (List ℕ → Option (Expr × List ℕ)) → List ℕ �
 case_at read bytes = do
   whens ← list_at (when_at read) bytes
   b0 ← after (codes " ") whens.1
-  otherwise ← read b0
-  closed (exprs.Case whens.0 otherwise.0) otherwise.1
+  otherwise ← then_at (codes ")") read b0
+  Some (exprs.Case whens.0 otherwise.0, otherwise.1)
 
 unfoldable pub agg_parts_at : (List ℕ → Option (Expr × List ℕ)) → List ℕ → Option (Expr × List ℕ)
 agg_parts_at read bytes = do
   kind ← agg_at bytes
-  value ← read kind.1
-  closed (exprs.Agg kind.0 value.0) value.1
+  value ← then_at (codes ")") read kind.1
+  Some (exprs.Agg kind.0 value.0, value.1)
+
+-- nodes of one cell, one macro and no part, behind their heads
+unfoldable pub literal_at : CellHead → List ℕ → Option (Expr × List ℕ)
+literal_at cell bytes = cell_parts_at cell bytes >>= λ c. Some (exprs.Literal c.0, c.1)
+
+unfoldable pub variable_at : List ℕ → Option (Expr × List ℕ)
+variable_at bytes = macro_at bytes >>= λ var. closed (exprs.Macro var.0) var.1
+
+unfoldable pub count_at : List ℕ → Option (Expr × List ℕ)
+count_at bytes = closed exprs.CountAll bytes
 
 -- a node behind its head, with its parts as they are read
 unfoldable pub parts_at : (List ℕ → Option (Expr × List ℕ)) → Head → List ℕ → Option (Expr × List ℕ)
-parts_at read (heads.Literal cell) bytes = cell_parts_at cell bytes >>= λ c. Some (exprs.Literal c.0, c.1)
+parts_at read (heads.Literal cell) bytes = literal_at cell bytes
 parts_at read heads.Col bytes = col_at bytes
-parts_at read heads.Macro bytes = macro_at bytes >>= λ var. closed (exprs.Macro var.0) var.1
+parts_at read heads.Macro bytes = variable_at bytes
 parts_at read (heads.Binary op) bytes = binary_at op read bytes
-parts_at read heads.Neg bytes = read bytes >>= λ x. closed (exprs.Neg x.0) x.1
-parts_at read heads.Not bytes = read bytes >>= λ x. closed (exprs.Not x.0) x.1
-parts_at read heads.IsNull bytes = read bytes >>= λ x. closed (exprs.IsNull x.0) x.1
+parts_at read heads.Neg bytes = then_at (codes ")") read bytes >>= λ x. Some (exprs.Neg x.0, x.1)
+parts_at read heads.Not bytes = then_at (codes ")") read bytes >>= λ x. Some (exprs.Not x.0, x.1)
+parts_at read heads.IsNull bytes = then_at (codes ")") read bytes >>= λ x. Some (exprs.IsNull x.0, x.1)
 parts_at read heads.Between bytes = between_at read bytes
 parts_at read heads.OneOf bytes = one_of_at read bytes
 parts_at read heads.Cast bytes = cast_at read bytes
 parts_at read heads.Call bytes = call_at read bytes
 parts_at read heads.Case bytes = case_at read bytes
-parts_at read heads.CountAll bytes = closed exprs.CountAll bytes
+parts_at read heads.CountAll bytes = count_at bytes
 parts_at read heads.Agg bytes = agg_parts_at read bytes
 
 -- an expression of at most so many nodes inside one another
@@ -483,12 +555,10 @@ option_at bytes = optional (after (codes "none") bytes) (any_expr_at bytes)
 unfoldable pub item_at : List ℕ → Option (Item × List ℕ)
 item_at bytes = do
   b0 ← after (codes "(as ") bytes
-  name ← text_at b0
-  b1 ← after (codes " ") name.1
-  kind ← type_at b1
-  b2 ← after (codes " ") kind.1
-  expr ← any_expr_at b2
-  closed (record { name = name.0; kind = kind.0; expr = expr.0 }) expr.1
+  name ← then_at (codes " ") text_at b0
+  kind ← then_at (codes " ") type_at name.1
+  expr ← then_at (codes ")") any_expr_at kind.1
+  Some (record { name = name.0; kind = kind.0; expr = expr.0 }, expr.1)
 
 -- a model or a source by its name
 unfoldable pub named_at : List ℕ → Option (Rel × List ℕ)
@@ -510,26 +580,39 @@ unfoldable pub from_at : List ℕ → Option (FromItem × List ℕ)
 from_at bytes = do
   b0 ← after (codes "(item ") bytes
   join ← join_at b0
-  rel ← rel_at join.1
-  b1 ← after (codes " ") rel.1
-  on ← option_at b1
-  closed (record { join = join.0; rel = rel.0; on = on.0 }) on.1
+  rel ← then_at (codes " ") rel_at join.1
+  on ← then_at (codes ")") option_at rel.1
+  Some (record { join = join.0; rel = rel.0; on = on.0 }, on.1)
 
-unfoldable pub select_at : List ℕ → Option (Select × List ℕ)
-select_at bytes = do
+-- whether a SELECT is distinct and whether it is grouped, behind its word
+unfoldable pub modes_at : List ℕ → Option ((Bool × Bool) × List ℕ)
+modes_at bytes = do
   b0 ← after (codes "(select ") bytes
   distinct ← distinct_at b0
   grouped ← grouped_at distinct.1
-  items ← list_at item_at grouped.1
-  b1 ← after (codes " ") items.1
-  from ← list_at from_at b1
-  b2 ← after (codes " ") from.1
-  filter ← option_at b2
-  b3 ← after (codes " ") filter.1
-  keys ← list_at any_expr_at b3
-  b4 ← after (codes " ") keys.1
-  having ← option_at b4
-  closed (record { distinct = distinct.0; grouped = grouped.0; items = items.0; from = from.0; filter = filter.0; keys = keys.0; having = having.0 }) having.1
+  Some ((distinct.0, grouped.0), grouped.1)
+
+-- its items and what they are taken from
+unfoldable pub tables_at : List ℕ → Option ((List Item × List FromItem) × List ℕ)
+tables_at bytes = do
+  items ← then_at (codes " ") (list_at item_at) bytes
+  from ← then_at (codes " ") (list_at from_at) items.1
+  Some ((items.0, from.0), from.1)
+
+-- its filter and its keys
+unfoldable pub filters_at : List ℕ → Option ((Option Expr × List Expr) × List ℕ)
+filters_at bytes = do
+  filter ← then_at (codes " ") option_at bytes
+  keys ← then_at (codes " ") (list_at any_expr_at) filter.1
+  Some ((filter.0, keys.0), keys.1)
+
+unfoldable pub select_at : List ℕ → Option (Select × List ℕ)
+select_at bytes = do
+  modes ← modes_at bytes
+  tables ← tables_at modes.1
+  filters ← filters_at tables.1
+  having ← then_at (codes ")") option_at filters.1
+  Some (record { distinct = modes.0.0; grouped = modes.0.1; items = tables.0.0; from = tables.0.1; filter = filters.0.0; keys = filters.0.1; having = having.0 }, having.1)
 
 unfoldable pub cte_at : List ℕ → Option (List Select × List ℕ)
 cte_at bytes = do
@@ -539,17 +622,15 @@ cte_at bytes = do
 
 unfoldable pub query_at : List ℕ → Option (Query × List ℕ)
 query_at bytes = do
-  ctes ← list_at cte_at bytes
-  b0 ← after (codes " ") ctes.1
-  selects ← list_at select_at b0
-  closed (record { ctes = ctes.0; selects = selects.0 }) selects.1
+  ctes ← then_at (codes " ") (list_at cte_at) bytes
+  selects ← then_at (codes ")") (list_at select_at) ctes.1
+  Some (record { ctes = ctes.0; selects = selects.0 }, selects.1)
 
 unfoldable pub seed_at : List ℕ → Option (Defn × List ℕ)
 seed_at bytes = do
-  columns ← list_at column_at bytes
-  b0 ← after (codes " ") columns.1
-  rows ← list_at row_at b0
-  closed (bodies.Seed columns.0 rows.0) rows.1
+  columns ← then_at (codes " ") (list_at column_at) bytes
+  rows ← then_at (codes ")") (list_at row_at) columns.1
+  Some (bodies.Seed columns.0 rows.0, rows.1)
 
 -- a body, behind the word of a seed, if it was there
 abbrev pub body_by : Option (List ℕ) → Option (Defn × List ℕ) → Option (Defn × List ℕ)
@@ -570,11 +651,9 @@ start_at bytes = optional (after (codes "none") bytes) (signed_at (2 ^ 31 - 1) b
 unfoldable pub source_at : List ℕ → Option (Decl × List ℕ)
 source_at bytes = do
   b0 ← after (codes "(source ") bytes
-  name ← name_at b0
-  b1 ← after (codes " ") name.1
-  columns ← list_at column_at b1
-  b2 ← after (codes " ") columns.1
-  time ← time_at b2
+  name ← then_at (codes " ") name_at b0
+  columns ← then_at (codes " ") (list_at column_at) name.1
+  time ← time_at columns.1
   closed (record { name = name.0; columns = columns.0; time = time.0 }) time.1
 
 unfoldable pub incremental_at : List ℕ → Option (Kind × List ℕ)
@@ -589,23 +668,33 @@ kind_at bytes =
     (behind kinds.View (after (codes "(view)") bytes)
     (behind kinds.Seed (after (codes "(seed)") bytes) (incremental_at bytes)))
 
+-- the name and the kind of a definition, behind its word
+unfoldable pub titled_at : List ℕ → Option ((Name × Kind) × List ℕ)
+titled_at bytes = do
+  b0 ← after (codes "(own ") bytes
+  name ← then_at (codes " ") name_at b0
+  kind ← kind_at name.1
+  b1 ← after (codes " ") kind.1
+  Some ((name.0, kind.0), b1)
+
+-- its five fields, its unit and its start
+unfoldable pub timed_at : List ℕ → Option (((CronSets × TimeUnit) × Option ℤ) × List ℕ)
+timed_at bytes = do
+  fields ← cron_at bytes
+  b0 ← after (codes " ") fields.1
+  unit ← unit_at b0
+  start ← start_at unit.1
+  b1 ← after (codes " ") start.1
+  Some (((fields.0, unit.0), start.0), b1)
+
 unfoldable pub own_at : List ℕ → Option (Own × List ℕ)
 own_at bytes = do
-  b0 ← after (codes "(own ") bytes
-  name ← name_at b0
-  b1 ← after (codes " ") name.1
-  kind ← kind_at b1
-  b2 ← after (codes " ") kind.1
-  fields ← cron_at b2
-  cron ← checked fields.0
-  b3 ← after (codes " ") fields.1
-  unit ← unit_at b3
-  start ← start_at unit.1
-  b4 ← after (codes " ") start.1
-  sources ← list_at source_at b4
-  b5 ← after (codes " ") sources.1
-  body ← body_at b5
-  closed (record { name = name.0; kind = kind.0; cron = cron; unit = unit.0; start = start.0; sources = sources.0; defn = body.0 }) body.1
+  titled ← titled_at bytes
+  timed ← timed_at titled.1
+  cron ← checked timed.0.0.0
+  sources ← then_at (codes " ") (list_at source_at) timed.1
+  body ← body_at sources.1
+  closed (record { name = titled.0.0; kind = titled.0.1; cron = cron; unit = timed.0.0.1; start = timed.0.1; sources = sources.0; defn = body.0 }) body.1
 
 -- a list of texts, and nothing else
 unfoldable pub list_in : List ℕ → Option (List (List ℕ))

@@ -1,7 +1,7 @@
 // Crons, read.
-ghost use Rattle.std.specs.Prelude.{◌≡◌, ◌≤◌, ◌<◌, ◌+◌, ◌^◌, ◌&&◌, nat_lt, IfOk};
+ghost use Rattle.std.specs.Prelude.{◌≡◌, ◌≤◌, ◌<◌, ◌+◌, ◌^◌, ◌&&◌, codes, nat_lt, IfOk};
 ghost use Rattle.mesh_values.specs.Crons.{count_below, has, has_date, has_day, is_cron, is_set, is_single, longest, some_below};
-ghost use Rattle.mesh_canon.specs.Reading.{Gives, sets_of, checked, cron_at, field_at, fields_at, fields_in, values_at};
+ghost use Rattle.mesh_canon.specs.Reading.{Gives, sets_of, checked, cron_at, field_at, fields_at, fields_in, then_at, values_at};
 
 use crate::fault::CanonFault;
 use crate::words::{after, expect, number, text};
@@ -55,14 +55,10 @@ fn whole_fields(bytes: &[u8]) -> Result<Fields, CanonFault>
 fn read_fields(bytes: &[u8]) -> Result<(Fields, &[u8]), CanonFault>
     ensures { Gives (λ x. (sets_of x.0, x.1.now)) result (fields_at bytes.now) }
 {
-    let ((minute, _), rest) = field(bytes, EACH_MINUTE, 59)?;
-    let rest = expect(rest, b" ")?;
-    let ((hour, _), rest) = field(rest, EACH_HOUR, 23)?;
-    let rest = expect(rest, b" ")?;
-    let ((dom, dom_star), rest) = field(rest, EACH_DAY, 31)?;
-    let rest = expect(rest, b" ")?;
-    let ((month, _), rest) = field(rest, EACH_MONTH, 12)?;
-    let rest = expect(rest, b" ")?;
+    let ((minute, _), rest) = field_then_space(bytes, EACH_MINUTE, 59)?;
+    let ((hour, _), rest) = field_then_space(rest, EACH_HOUR, 23)?;
+    let ((dom, dom_star), rest) = field_then_space(rest, EACH_DAY, 31)?;
+    let ((month, _), rest) = field_then_space(rest, EACH_MONTH, 12)?;
     let ((dow, dow_star), rest) = field(rest, EACH_WEEKDAY, 6)?;
     let fields = Fields {
         minute,
@@ -74,6 +70,17 @@ fn read_fields(bytes: &[u8]) -> Result<(Fields, &[u8]), CanonFault>
         dow_star,
     };
     Ok((fields, rest))
+}
+
+// A field and a space.
+#[tactic(auto, unfolding(crate::specs::Reading::then_at))]
+fn field_then_space(bytes: &[u8], each: u64, most: u64) -> Result<((u64, bool), &[u8]), CanonFault>
+    requires { most < 60 }
+    ensures { Gives (λ x. (x.0, x.1.now)) result (then_at (codes " ") (field_at each most) bytes.now) }
+{
+    let (found, rest) = field(bytes, each, most)?;
+    let rest = expect(rest, b" ")?;
+    Ok((found, rest))
 }
 
 // `*` for each value, or ascending values up to `most`: their set, and whether it was `*`.

@@ -3,19 +3,19 @@ ghost use Rattle.std.specs.Prelude.{◌≡◌, ◌↔◌, ℕ, List, true, IfOk,
 ghost use Rattle.mesh_base.specs.declared.definitions.Own.{Own};
 ghost use Rattle.mesh_canon.specs.Fits.{are_texts, is_own};
 ghost use Rattle.mesh_canon_text.specs.Text.{list_text, own_text};
-ghost use Rattle.mesh_canon.specs.Reading.{Gives, body_at, incremental_at, kind_at, list_in, own_at, own_in, seed_at, source_at, start_at, time_at};
+ghost use Rattle.mesh_canon.specs.Reading.{Gives, body_at, incremental_at, kind_at, list_in, own_at, own_in, seed_at, sets_of, source_at, start_at, time_at, timed_at, titled_at};
 
-use crate::cron_reading::{cron_fields, made};
+use crate::cron_reading::{Fields, cron_fields, made};
 use crate::depth::is_too_deep;
 use crate::fault::CanonFault;
 use crate::heads::unit;
 use crate::query_reading::query;
-use crate::read::{Readable, list};
-use crate::value_reading::{day, name};
+use crate::read::{Readable, list, list_then};
+use crate::value_reading::{day, name_then_space};
 use crate::words::{after, expect, text};
 use mesh_base::{Decl, Defn, Own};
 use mesh_canon_text::{list_text, own_text};
-use mesh_values::{Kind, Str, Strs};
+use mesh_values::{Kind, Name, Str, Strs, Unit};
 use std::alloc::Global;
 
 #[tactic(auto, unfolding(crate::specs::Reading::time_at))]
@@ -46,10 +46,8 @@ impl Readable for Decl {
     #[tactic(auto, unfolding(crate::specs::Reading::source_at))]
     fn read(alloc: Global, bytes: &[u8]) -> Result<(Decl, &[u8]), CanonFault> {
         let rest = expect(bytes, b"(source ")?;
-        let (name, rest) = name(alloc, rest)?;
-        let rest = expect(rest, b" ")?;
-        let (columns, rest) = list(alloc, rest)?;
-        let rest = expect(rest, b" ")?;
+        let (name, rest) = name_then_space(alloc, rest)?;
+        let (columns, rest) = list_then(alloc, rest, b" ")?;
         let (time, rest) = time(alloc, rest)?;
         let rest = expect(rest, b")")?;
         Ok((
@@ -67,10 +65,8 @@ impl Readable for Decl {
 fn seed(alloc: Global, bytes: &[u8]) -> Result<(Defn, &[u8]), CanonFault>
     ensures { Gives (λ x. (x.0, x.1.now)) result (seed_at bytes.now) }
 {
-    let (columns, rest) = list(alloc, bytes)?;
-    let rest = expect(rest, b" ")?;
-    let (rows, rest) = list(alloc, rest)?;
-    let rest = expect(rest, b")")?;
+    let (columns, rest) = list_then(alloc, bytes, b" ")?;
+    let (rows, rest) = list_then(alloc, rest, b")")?;
     Ok((Defn::Seed { columns, rows }, rest))
 }
 
@@ -112,25 +108,41 @@ fn kind(alloc: Global, bytes: &[u8]) -> Result<(Kind, &[u8]), CanonFault>
     incremental(alloc, bytes)
 }
 
-#[tactic(auto, unfolding(crate::specs::Reading::own_at))]
-fn own(alloc: Global, bytes: &[u8]) -> Result<(Own, &[u8]), CanonFault>
-    ensures { Gives (λ x. (x.0, x.1.now)) result (own_at bytes.now) }
+// The name and the kind of a definition, behind its word.
+#[tactic(auto, unfolding(crate::specs::Reading::titled_at))]
+fn titled(alloc: Global, bytes: &[u8]) -> Result<((Name, Kind), &[u8]), CanonFault>
+    ensures { Gives (λ x. (x.0, x.1.now)) result (titled_at bytes.now) }
 {
     let rest = expect(bytes, b"(own ")?;
-    let (name, rest) = name(alloc, rest)?;
-    let rest = expect(rest, b" ")?;
+    let (name, rest) = name_then_space(alloc, rest)?;
     let (kind, rest) = kind(alloc, rest)?;
     let rest = expect(rest, b" ")?;
-    let (fields, rest) = cron_fields(alloc, rest)?;
-    let cron = made(&fields)?;
+    Ok(((name, kind), rest))
+}
+
+// Its five fields, its unit and its start.
+#[tactic(auto, unfolding(crate::specs::Reading::timed_at))]
+fn timed(alloc: Global, bytes: &[u8]) -> Result<(((Fields, Unit), Option<i32>), &[u8]), CanonFault>
+    ensures { Gives (λ x. (((sets_of x.0.0.0, x.0.0.1), x.0.1), x.1.now)) result (timed_at bytes.now) }
+{
+    let (fields, rest) = cron_fields(alloc, bytes)?;
     let rest = expect(rest, b" ")?;
     let Some((unit, rest)) = unit(rest) else {
         return Err(CanonFault::NotCanonical);
     };
     let (start, rest) = start(rest)?;
     let rest = expect(rest, b" ")?;
-    let (sources, rest) = list(alloc, rest)?;
-    let rest = expect(rest, b" ")?;
+    Ok((((fields, unit), start), rest))
+}
+
+#[tactic(auto, unfolding(crate::specs::Reading::own_at))]
+fn own(alloc: Global, bytes: &[u8]) -> Result<(Own, &[u8]), CanonFault>
+    ensures { Gives (λ x. (x.0, x.1.now)) result (own_at bytes.now) }
+{
+    let ((name, kind), rest) = titled(alloc, bytes)?;
+    let (((fields, unit), start), rest) = timed(alloc, rest)?;
+    let cron = made(&fields)?;
+    let (sources, rest) = list_then(alloc, rest, b" ")?;
     let (defn, rest) = body(alloc, rest)?;
     let rest = expect(rest, b")")?;
     let made = Own {

@@ -1,12 +1,12 @@
 // Expressions, read. The functions call one another, as the types lead to one another.
 ghost use Rattle.std.specs.Prelude.{◌≡◌, length};
-ghost use Rattle.mesh_canon.specs.Reading.{Gives, agg_parts_at, any_expr_at, between_at, binary_at, call_at, case_at, cast_at, col_at, expr_at, list_at, members_at, more_at, one_of_at, option_at, parts_at, when_at, with_front};
+ghost use Rattle.mesh_canon.specs.Reading.{Gives, agg_parts_at, any_expr_at, between_at, binary_at, call_at, case_at, cast_at, col_at, count_at, expr_at, list_at, literal_at, members_at, more_at, one_of_at, option_at, parts_at, then_at, variable_at, when_at, with_front};
 
 use crate::fault::CanonFault;
-use crate::heads::{Head, aggregate, any_head, column_type, func, macro_var};
+use crate::heads::{CellHead, Head, aggregate, any_head, func, macro_var, type_then};
 use crate::read::Readable;
 use crate::value_reading::cell_parts;
-use crate::words::{after, expect, number, text};
+use crate::words::{after, expect, number, text_then};
 use mesh_base::{Expr, Exprs, Op, When, Whens};
 use mesh_list::{Boxed, Seq};
 use std::alloc::Global;
@@ -35,32 +35,20 @@ fn parts(alloc: Global, depth: usize, head: Head, bytes: &[u8]) -> Result<(Expr,
     ensures { Gives (λ x. (x.0, x.1.now)) result (parts_at (expr_at depth) head bytes.now) }
 {
     match head {
-        Head::Literal(cell) => {
-            let (cell, rest) = cell_parts(alloc, cell, bytes)?;
-            Ok((Expr::Literal(cell), rest))
-        }
+        Head::Literal(cell) => literal(alloc, cell, bytes),
         Head::Col => col(alloc, bytes),
-        Head::Macro => {
-            let Some((var, rest)) = macro_var(bytes) else {
-                return Err(CanonFault::NotCanonical);
-            };
-            let rest = expect(rest, b")")?;
-            Ok((Expr::Macro(var), rest))
-        }
+        Head::Macro => variable(bytes),
         Head::Binary(op) => binary(alloc, depth, op, bytes),
         Head::Neg => {
-            let (value, rest) = boxed(alloc, depth, bytes)?;
-            let rest = expect(rest, b")")?;
+            let (value, rest) = boxed_then(alloc, depth, bytes, b")")?;
             Ok((Expr::Neg(value), rest))
         }
         Head::Not => {
-            let (value, rest) = boxed(alloc, depth, bytes)?;
-            let rest = expect(rest, b")")?;
+            let (value, rest) = boxed_then(alloc, depth, bytes, b")")?;
             Ok((Expr::Not(value), rest))
         }
         Head::IsNull => {
-            let (value, rest) = boxed(alloc, depth, bytes)?;
-            let rest = expect(rest, b")")?;
+            let (value, rest) = boxed_then(alloc, depth, bytes, b")")?;
             Ok((Expr::IsNull(value), rest))
         }
         Head::Between => between(alloc, depth, bytes),
@@ -68,12 +56,36 @@ fn parts(alloc: Global, depth: usize, head: Head, bytes: &[u8]) -> Result<(Expr,
         Head::Cast => cast(alloc, depth, bytes),
         Head::Call => call(alloc, depth, bytes),
         Head::Case => case(alloc, depth, bytes),
-        Head::CountAll => {
-            let rest = expect(bytes, b")")?;
-            Ok((Expr::CountAll, rest))
-        }
+        Head::CountAll => count_all(bytes),
         Head::Agg => agg(alloc, depth, bytes),
     }
+}
+
+#[tactic(auto, unfolding(crate::specs::Reading::literal_at))]
+fn literal(alloc: Global, cell: CellHead, bytes: &[u8]) -> Result<(Expr, &[u8]), CanonFault>
+    ensures { Gives (λ x. (x.0, x.1.now)) result (literal_at cell bytes.now) }
+{
+    let (cell, rest) = cell_parts(alloc, cell, bytes)?;
+    Ok((Expr::Literal(cell), rest))
+}
+
+#[tactic(auto, unfolding(crate::specs::Reading::variable_at))]
+fn variable(bytes: &[u8]) -> Result<(Expr, &[u8]), CanonFault>
+    ensures { Gives (λ x. (x.0, x.1.now)) result (variable_at bytes.now) }
+{
+    let Some((var, rest)) = macro_var(bytes) else {
+        return Err(CanonFault::NotCanonical);
+    };
+    let rest = expect(rest, b")")?;
+    Ok((Expr::Macro(var), rest))
+}
+
+#[tactic(auto, unfolding(crate::specs::Reading::count_at))]
+fn count_all(bytes: &[u8]) -> Result<(Expr, &[u8]), CanonFault>
+    ensures { Gives (λ x. (x.0, x.1.now)) result (count_at bytes.now) }
+{
+    let rest = expect(bytes, b")")?;
+    Ok((Expr::CountAll, rest))
 }
 
 #[tactic(auto, unfolding(crate::specs::Reading::col_at))]
@@ -82,17 +94,37 @@ fn col(alloc: Global, bytes: &[u8]) -> Result<(Expr, &[u8]), CanonFault>
 {
     let (item, rest) = number(bytes, MOST_PLACE)?;
     let rest = expect(rest, b" ")?;
-    let (name, rest) = text(alloc, rest)?;
-    let rest = expect(rest, b")")?;
+    let (name, rest) = text_then(alloc, rest, b")")?;
     let item = item as u32;
     Ok((Expr::Col { item, name }, rest))
 }
 
+// An expression and the sign behind it.
 #[cycle(read)]
-fn boxed(alloc: Global, depth: usize, bytes: &[u8]) -> Result<(Boxed<Expr>, &[u8]), CanonFault>
-    ensures { Gives (λ x. (x.0, x.1.now)) result (expr_at depth bytes.now) }
+#[tactic(auto, unfolding(crate::specs::Reading::then_at))]
+fn expr_then<'a>(
+    alloc: Global,
+    depth: usize,
+    bytes: &'a [u8],
+    sign: &[u8],
+) -> Result<(Expr, &'a [u8]), CanonFault>
+    ensures { Gives (λ x. (x.0, x.1.now)) result (then_at sign.now (expr_at depth) bytes.now) }
 {
     let (value, rest) = expr(alloc, depth, bytes)?;
+    let rest = expect(rest, sign)?;
+    Ok((value, rest))
+}
+
+#[cycle(read)]
+fn boxed_then<'a>(
+    alloc: Global,
+    depth: usize,
+    bytes: &'a [u8],
+    sign: &[u8],
+) -> Result<(Boxed<Expr>, &'a [u8]), CanonFault>
+    ensures { Gives (λ x. (x.0, x.1.now)) result (then_at sign.now (expr_at depth) bytes.now) }
+{
+    let (value, rest) = expr_then(alloc, depth, bytes, sign)?;
     Ok((Boxed::new(alloc, value)?, rest))
 }
 
@@ -101,10 +133,8 @@ fn boxed(alloc: Global, depth: usize, bytes: &[u8]) -> Result<(Boxed<Expr>, &[u8
 fn binary(alloc: Global, depth: usize, op: Op, bytes: &[u8]) -> Result<(Expr, &[u8]), CanonFault>
     ensures { Gives (λ x. (x.0, x.1.now)) result (binary_at op (expr_at depth) bytes.now) }
 {
-    let (left, rest) = boxed(alloc, depth, bytes)?;
-    let rest = expect(rest, b" ")?;
-    let (right, rest) = boxed(alloc, depth, rest)?;
-    let rest = expect(rest, b")")?;
+    let (left, rest) = boxed_then(alloc, depth, bytes, b" ")?;
+    let (right, rest) = boxed_then(alloc, depth, rest, b")")?;
     Ok((Expr::Binary { op, left, right }, rest))
 }
 
@@ -113,12 +143,9 @@ fn binary(alloc: Global, depth: usize, op: Op, bytes: &[u8]) -> Result<(Expr, &[
 fn between(alloc: Global, depth: usize, bytes: &[u8]) -> Result<(Expr, &[u8]), CanonFault>
     ensures { Gives (λ x. (x.0, x.1.now)) result (between_at (expr_at depth) bytes.now) }
 {
-    let (value, rest) = boxed(alloc, depth, bytes)?;
-    let rest = expect(rest, b" ")?;
-    let (low, rest) = boxed(alloc, depth, rest)?;
-    let rest = expect(rest, b" ")?;
-    let (high, rest) = boxed(alloc, depth, rest)?;
-    let rest = expect(rest, b")")?;
+    let (value, rest) = boxed_then(alloc, depth, bytes, b" ")?;
+    let (low, rest) = boxed_then(alloc, depth, rest, b" ")?;
+    let (high, rest) = boxed_then(alloc, depth, rest, b")")?;
     Ok((Expr::Between { value, low, high }, rest))
 }
 
@@ -127,8 +154,7 @@ fn between(alloc: Global, depth: usize, bytes: &[u8]) -> Result<(Expr, &[u8]), C
 fn one_of(alloc: Global, depth: usize, bytes: &[u8]) -> Result<(Expr, &[u8]), CanonFault>
     ensures { Gives (λ x. (x.0, x.1.now)) result (one_of_at (expr_at depth) bytes.now) }
 {
-    let (value, rest) = boxed(alloc, depth, bytes)?;
-    let rest = expect(rest, b" ")?;
+    let (value, rest) = boxed_then(alloc, depth, bytes, b" ")?;
     let (of, rest) = exprs(alloc, depth, rest)?;
     let rest = expect(rest, b")")?;
     Ok((Expr::OneOf { value, of }, rest))
@@ -139,12 +165,8 @@ fn one_of(alloc: Global, depth: usize, bytes: &[u8]) -> Result<(Expr, &[u8]), Ca
 fn cast(alloc: Global, depth: usize, bytes: &[u8]) -> Result<(Expr, &[u8]), CanonFault>
     ensures { Gives (λ x. (x.0, x.1.now)) result (cast_at (expr_at depth) bytes.now) }
 {
-    let Some((to, rest)) = column_type(bytes) else {
-        return Err(CanonFault::NotCanonical);
-    };
-    let rest = expect(rest, b" ")?;
-    let (value, rest) = boxed(alloc, depth, rest)?;
-    let rest = expect(rest, b")")?;
+    let (to, rest) = type_then(bytes, b" ")?;
+    let (value, rest) = boxed_then(alloc, depth, rest, b")")?;
     Ok((Expr::Cast { to, value }, rest))
 }
 
@@ -168,8 +190,7 @@ fn case(alloc: Global, depth: usize, bytes: &[u8]) -> Result<(Expr, &[u8]), Cano
 {
     let (whens, rest) = whens(alloc, depth, bytes)?;
     let rest = expect(rest, b" ")?;
-    let (otherwise, rest) = boxed(alloc, depth, rest)?;
-    let rest = expect(rest, b")")?;
+    let (otherwise, rest) = boxed_then(alloc, depth, rest, b")")?;
     Ok((Expr::Case { whens, otherwise }, rest))
 }
 
@@ -181,8 +202,7 @@ fn agg(alloc: Global, depth: usize, bytes: &[u8]) -> Result<(Expr, &[u8]), Canon
     let Some((kind, rest)) = aggregate(bytes) else {
         return Err(CanonFault::NotCanonical);
     };
-    let (value, rest) = boxed(alloc, depth, rest)?;
-    let rest = expect(rest, b")")?;
+    let (value, rest) = boxed_then(alloc, depth, rest, b")")?;
     Ok((Expr::Agg { kind, value }, rest))
 }
 
@@ -192,10 +212,8 @@ fn when(alloc: Global, depth: usize, bytes: &[u8]) -> Result<(When, &[u8]), Cano
     ensures { Gives (λ x. (x.0, x.1.now)) result (when_at (expr_at depth) bytes.now) }
 {
     let rest = expect(bytes, b"(when ")?;
-    let (test, rest) = expr(alloc, depth, rest)?;
-    let rest = expect(rest, b" ")?;
-    let (value, rest) = expr(alloc, depth, rest)?;
-    let rest = expect(rest, b")")?;
+    let (test, rest) = expr_then(alloc, depth, rest, b" ")?;
+    let (value, rest) = expr_then(alloc, depth, rest, b")")?;
     Ok((When { test, value }, rest))
 }
 
@@ -285,9 +303,23 @@ impl Readable for Expr {
     }
 }
 
-/// An expression, or `none`.
+/// An expression or `none`, and the sign behind it.
+#[tactic(auto, unfolding(crate::specs::Reading::then_at))]
+pub(crate) fn option_then<'a>(
+    alloc: Global,
+    bytes: &'a [u8],
+    sign: &[u8],
+) -> Result<(Option<Expr>, &'a [u8]), CanonFault>
+    ensures { Gives (λ x. (x.0, x.1.now)) result (then_at sign.now option_at bytes.now) }
+{
+    let (value, rest) = option(alloc, bytes)?;
+    let rest = expect(rest, sign)?;
+    Ok((value, rest))
+}
+
+// An expression, or `none`.
 #[tactic(auto, unfolding(crate::specs::Reading::option_at))]
-pub(crate) fn option(alloc: Global, bytes: &[u8]) -> Result<(Option<Expr>, &[u8]), CanonFault>
+fn option(alloc: Global, bytes: &[u8]) -> Result<(Option<Expr>, &[u8]), CanonFault>
     ensures { Gives (λ x. (x.0, x.1.now)) result (option_at bytes.now) }
 {
     if let Some(rest) = after(bytes, b"none") {

@@ -1,7 +1,8 @@
 // The words of a text, and what the nodes of an expression begin with.
-ghost use Rattle.mesh_canon.specs.Reading.{Finds, agg_at, cell_head_at, distinct_at, func_at, grouped_at, head_at, join_at, end_var_at, macro_at, node_head_at, op_head_at, start_var_at, type_at, unit_at};
+ghost use Rattle.mesh_canon.specs.Reading.{Finds, Gives, agg_at, bare_head_at, call_head_at, cell_head_at, compare_op_at, distinct_at, equal_op_at, func_at, grouped_at, head_at, join_at, end_var_at, macro_at, many_func_at, node_head_at, number_op_at, one_func_at, op_head_at, order_op_at, plain_head_at, start_var_at, test_head_at, then_at, truth_op_at, type_at, unit_at, valued_head_at};
 
-use crate::words::after;
+use crate::fault::CanonFault;
+use crate::words::{after, expect};
 use mesh_base::{AggKind, Func, Join, Op, Var};
 use mesh_values::{ColType, Unit};
 
@@ -40,17 +41,36 @@ pub(crate) enum Head {
 pub(crate) fn cell_head(bytes: &[u8]) -> Option<(CellHead, &[u8])>
     ensures { Finds (λ x. (x.0, x.1.now)) result (cell_head_at bytes.now) }
 {
+    if let Some(found) = valued_head(bytes) {
+        return Some(found);
+    }
+    bare_head(bytes)
+}
+
+// The head of a cell with a value behind its word.
+#[tactic(auto, unfolding(crate::specs::Reading::valued_head_at))]
+fn valued_head(bytes: &[u8]) -> Option<(CellHead, &[u8])>
+    ensures { Finds (λ x. (x.0, x.1.now)) result (valued_head_at bytes.now) }
+{
     if let Some(rest) = after(bytes, b"(int ") {
         return Some((CellHead::Int, rest));
     }
     if let Some(rest) = after(bytes, b"(text ") {
         return Some((CellHead::Text, rest));
     }
-    if let Some(rest) = after(bytes, b"null") {
-        return Some((CellHead::Null, rest));
-    }
     if let Some(rest) = after(bytes, b"(date ") {
         return Some((CellHead::Date, rest));
+    }
+    None
+}
+
+// The head of a cell that is a word.
+#[tactic(auto, unfolding(crate::specs::Reading::bare_head_at))]
+fn bare_head(bytes: &[u8]) -> Option<(CellHead, &[u8])>
+    ensures { Finds (λ x. (x.0, x.1.now)) result (bare_head_at bytes.now) }
+{
+    if let Some(rest) = after(bytes, b"null") {
+        return Some((CellHead::Null, rest));
     }
     if let Some(rest) = after(bytes, b"true") {
         return Some((CellHead::True, rest));
@@ -80,6 +100,20 @@ pub(crate) fn any_head(bytes: &[u8]) -> Option<(Head, &[u8])>
 fn node_head(bytes: &[u8]) -> Option<(Head, &[u8])>
     ensures { Finds (λ x. (x.0, x.1.now)) result (node_head_at bytes.now) }
 {
+    if let Some(found) = plain_head(bytes) {
+        return Some(found);
+    }
+    if let Some(found) = test_head(bytes) {
+        return Some(found);
+    }
+    call_head(bytes)
+}
+
+// The head of a column, a macro, NEG or NOT.
+#[tactic(auto, unfolding(crate::specs::Reading::plain_head_at))]
+fn plain_head(bytes: &[u8]) -> Option<(Head, &[u8])>
+    ensures { Finds (λ x. (x.0, x.1.now)) result (plain_head_at bytes.now) }
+{
     if let Some(rest) = after(bytes, b"(col ") {
         return Some((Head::Col, rest));
     }
@@ -92,6 +126,14 @@ fn node_head(bytes: &[u8]) -> Option<(Head, &[u8])>
     if let Some(rest) = after(bytes, b"(not ") {
         return Some((Head::Not, rest));
     }
+    None
+}
+
+// The head of a test or a cast.
+#[tactic(auto, unfolding(crate::specs::Reading::test_head_at))]
+fn test_head(bytes: &[u8]) -> Option<(Head, &[u8])>
+    ensures { Finds (λ x. (x.0, x.1.now)) result (test_head_at bytes.now) }
+{
     if let Some(rest) = after(bytes, b"(isnull ") {
         return Some((Head::IsNull, rest));
     }
@@ -104,6 +146,14 @@ fn node_head(bytes: &[u8]) -> Option<(Head, &[u8])>
     if let Some(rest) = after(bytes, b"(cast ") {
         return Some((Head::Cast, rest));
     }
+    None
+}
+
+// The head of a call, a CASE or an aggregate.
+#[tactic(auto, unfolding(crate::specs::Reading::call_head_at))]
+fn call_head(bytes: &[u8]) -> Option<(Head, &[u8])>
+    ensures { Finds (λ x. (x.0, x.1.now)) result (call_head_at bytes.now) }
+{
     if let Some(rest) = after(bytes, b"(call ") {
         return Some((Head::Call, rest));
     }
@@ -124,6 +174,31 @@ fn node_head(bytes: &[u8]) -> Option<(Head, &[u8])>
 fn op_head(bytes: &[u8]) -> Option<(Op, &[u8])>
     ensures { Finds (λ x. (x.0, x.1.now)) result (op_head_at bytes.now) }
 {
+    if let Some(found) = number_op(bytes) {
+        return Some(found);
+    }
+    if let Some(found) = compare_op(bytes) {
+        return Some(found);
+    }
+    truth_op(bytes)
+}
+
+// The head of an operator that compares, or joins texts.
+#[tactic(auto, unfolding(crate::specs::Reading::compare_op_at))]
+fn compare_op(bytes: &[u8]) -> Option<(Op, &[u8])>
+    ensures { Finds (λ x. (x.0, x.1.now)) result (compare_op_at bytes.now) }
+{
+    if let Some(found) = equal_op(bytes) {
+        return Some(found);
+    }
+    order_op(bytes)
+}
+
+// The head of an operator of numbers.
+#[tactic(auto, unfolding(crate::specs::Reading::number_op_at))]
+fn number_op(bytes: &[u8]) -> Option<(Op, &[u8])>
+    ensures { Finds (λ x. (x.0, x.1.now)) result (number_op_at bytes.now) }
+{
     if let Some(rest) = after(bytes, b"(add ") {
         return Some((Op::Add, rest));
     }
@@ -139,6 +214,14 @@ fn op_head(bytes: &[u8]) -> Option<(Op, &[u8])>
     if let Some(rest) = after(bytes, b"(rem ") {
         return Some((Op::Rem, rest));
     }
+    None
+}
+
+// The head of an operator of texts, or of one that asks whether two are equal.
+#[tactic(auto, unfolding(crate::specs::Reading::equal_op_at))]
+fn equal_op(bytes: &[u8]) -> Option<(Op, &[u8])>
+    ensures { Finds (λ x. (x.0, x.1.now)) result (equal_op_at bytes.now) }
+{
     if let Some(rest) = after(bytes, b"(cat ") {
         return Some((Op::Cat, rest));
     }
@@ -148,6 +231,14 @@ fn op_head(bytes: &[u8]) -> Option<(Op, &[u8])>
     if let Some(rest) = after(bytes, b"(ne ") {
         return Some((Op::Ne, rest));
     }
+    None
+}
+
+// The head of an operator that asks which of two comes first.
+#[tactic(auto, unfolding(crate::specs::Reading::order_op_at))]
+fn order_op(bytes: &[u8]) -> Option<(Op, &[u8])>
+    ensures { Finds (λ x. (x.0, x.1.now)) result (order_op_at bytes.now) }
+{
     if let Some(rest) = after(bytes, b"(lt ") {
         return Some((Op::Lt, rest));
     }
@@ -160,6 +251,14 @@ fn op_head(bytes: &[u8]) -> Option<(Op, &[u8])>
     if let Some(rest) = after(bytes, b"(ge ") {
         return Some((Op::Ge, rest));
     }
+    None
+}
+
+// The head of an operator of truth values.
+#[tactic(auto, unfolding(crate::specs::Reading::truth_op_at))]
+fn truth_op(bytes: &[u8]) -> Option<(Op, &[u8])>
+    ensures { Finds (λ x. (x.0, x.1.now)) result (truth_op_at bytes.now) }
+{
     if let Some(rest) = after(bytes, b"(and ") {
         return Some((Op::And, rest));
     }
@@ -169,9 +268,9 @@ fn op_head(bytes: &[u8]) -> Option<(Op, &[u8])>
     None
 }
 
-/// The word of a type.
+// The word of a type.
 #[tactic(auto, unfolding(crate::specs::Reading::type_at))]
-pub(crate) fn column_type(bytes: &[u8]) -> Option<(ColType, &[u8])>
+fn column_type(bytes: &[u8]) -> Option<(ColType, &[u8])>
     ensures { Finds (λ x. (x.0, x.1.now)) result (type_at bytes.now) }
 {
     if let Some(rest) = after(bytes, b"int") {
@@ -189,10 +288,33 @@ pub(crate) fn column_type(bytes: &[u8]) -> Option<(ColType, &[u8])>
     None
 }
 
+/// The word of a type and the sign behind it.
+#[tactic(auto, unfolding(crate::specs::Reading::then_at))]
+pub(crate) fn type_then<'a>(bytes: &'a [u8], sign: &[u8]) -> Result<(ColType, &'a [u8]), CanonFault>
+    ensures { Gives (λ x. (x.0, x.1.now)) result (then_at sign.now type_at bytes.now) }
+{
+    let Some((kind, rest)) = column_type(bytes) else {
+        return Err(CanonFault::NotCanonical);
+    };
+    let rest = expect(rest, sign)?;
+    Ok((kind, rest))
+}
+
 /// The word of a function and the space behind it.
 #[tactic(auto, unfolding(crate::specs::Reading::func_at))]
 pub(crate) fn func(bytes: &[u8]) -> Option<(Func, &[u8])>
     ensures { Finds (λ x. (x.0, x.1.now)) result (func_at bytes.now) }
+{
+    if let Some(found) = one_func(bytes) {
+        return Some(found);
+    }
+    many_func(bytes)
+}
+
+// The word of a function of one value and the space behind it.
+#[tactic(auto, unfolding(crate::specs::Reading::one_func_at))]
+fn one_func(bytes: &[u8]) -> Option<(Func, &[u8])>
+    ensures { Finds (λ x. (x.0, x.1.now)) result (one_func_at bytes.now) }
 {
     if let Some(rest) = after(bytes, b"abs ") {
         return Some((Func::Abs, rest));
@@ -206,6 +328,14 @@ pub(crate) fn func(bytes: &[u8]) -> Option<(Func, &[u8])>
     if let Some(rest) = after(bytes, b"lower ") {
         return Some((Func::Lower, rest));
     }
+    None
+}
+
+// The word of a function of several values and the space behind it.
+#[tactic(auto, unfolding(crate::specs::Reading::many_func_at))]
+fn many_func(bytes: &[u8]) -> Option<(Func, &[u8])>
+    ensures { Finds (λ x. (x.0, x.1.now)) result (many_func_at bytes.now) }
+{
     if let Some(rest) = after(bytes, b"nullif ") {
         return Some((Func::Nullif, rest));
     }

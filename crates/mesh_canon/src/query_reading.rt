@@ -1,14 +1,14 @@
 // Queries, read.
-ghost use Rattle.std.specs.Prelude.{◌≡◌};
-ghost use Rattle.mesh_canon.specs.Reading.{Gives, cte_at, from_at, item_at, named_at, place_at, query_at, rel_at, select_at};
+ghost use Rattle.std.specs.Prelude.{◌≡◌, codes};
+ghost use Rattle.mesh_canon.specs.Reading.{Gives, cte_at, filters_at, from_at, item_at, modes_at, named_at, place_at, query_at, rel_at, select_at, tables_at, then_at};
 
-use crate::expression_reading::option;
+use crate::expression_reading::option_then;
 use crate::fault::CanonFault;
-use crate::heads::{column_type, distinct, grouped, join};
-use crate::read::{Readable, list};
+use crate::heads::{distinct, grouped, join, type_then};
+use crate::read::{Readable, list, list_then, part};
 use crate::value_reading::name;
-use crate::words::{after, expect, number, text};
-use mesh_base::{Expr, FromItem, Item, Query, Rel, Select, Selects};
+use crate::words::{after, expect, number, text_then};
+use mesh_base::{Expr, Exprs, FromItem, Froms, Item, Items, Query, Rel, Select, Selects};
 use std::alloc::Global;
 
 const MOST_PLACE: u64 = 0xffff_ffff;
@@ -19,14 +19,9 @@ impl Readable for Item {
     #[tactic(auto, unfolding(crate::specs::Reading::item_at))]
     fn read(alloc: Global, bytes: &[u8]) -> Result<(Item, &[u8]), CanonFault> {
         let rest = expect(bytes, b"(as ")?;
-        let (name, rest) = text(alloc, rest)?;
-        let rest = expect(rest, b" ")?;
-        let Some((kind, rest)) = column_type(rest) else {
-            return Err(CanonFault::NotCanonical);
-        };
-        let rest = expect(rest, b" ")?;
-        let (expr, rest) = Expr::read(alloc, rest)?;
-        let rest = expect(rest, b")")?;
+        let (name, rest) = text_then(alloc, rest, b" ")?;
+        let (kind, rest) = type_then(rest, b" ")?;
+        let (expr, rest) = part(alloc, rest, b")")?;
         Ok((Item { name, kind, expr }, rest))
     }
 }
@@ -60,6 +55,15 @@ fn rel(alloc: Global, bytes: &[u8]) -> Result<(Rel, &[u8]), CanonFault>
     place(rest)
 }
 
+#[tactic(auto, unfolding(crate::specs::Reading::then_at))]
+fn rel_then_space(alloc: Global, bytes: &[u8]) -> Result<(Rel, &[u8]), CanonFault>
+    ensures { Gives (λ x. (x.0, x.1.now)) result (then_at (codes " ") rel_at bytes.now) }
+{
+    let (rel, rest) = rel(alloc, bytes)?;
+    let rest = expect(rest, b" ")?;
+    Ok((rel, rest))
+}
+
 impl Readable for FromItem {
     ghost reading = { from_at };
 
@@ -69,12 +73,45 @@ impl Readable for FromItem {
         let Some((join, rest)) = join(rest) else {
             return Err(CanonFault::NotCanonical);
         };
-        let (rel, rest) = rel(alloc, rest)?;
-        let rest = expect(rest, b" ")?;
-        let (on, rest) = option(alloc, rest)?;
-        let rest = expect(rest, b")")?;
+        let (rel, rest) = rel_then_space(alloc, rest)?;
+        let (on, rest) = option_then(alloc, rest, b")")?;
         Ok((FromItem { join, rel, on }, rest))
     }
+}
+
+// Whether a SELECT is distinct and whether it is grouped, behind its word.
+#[tactic(auto, unfolding(crate::specs::Reading::modes_at))]
+fn modes(bytes: &[u8]) -> Result<((bool, bool), &[u8]), CanonFault>
+    ensures { Gives (λ x. (x.0, x.1.now)) result (modes_at bytes.now) }
+{
+    let rest = expect(bytes, b"(select ")?;
+    let Some((distinct, rest)) = distinct(rest) else {
+        return Err(CanonFault::NotCanonical);
+    };
+    let Some((grouped, rest)) = grouped(rest) else {
+        return Err(CanonFault::NotCanonical);
+    };
+    Ok(((distinct, grouped), rest))
+}
+
+// Its items and what they are taken from.
+#[tactic(auto, unfolding(crate::specs::Reading::tables_at))]
+fn tables(alloc: Global, bytes: &[u8]) -> Result<((Items, Froms), &[u8]), CanonFault>
+    ensures { Gives (λ x. (x.0, x.1.now)) result (tables_at bytes.now) }
+{
+    let (items, rest) = list_then(alloc, bytes, b" ")?;
+    let (from, rest) = list_then(alloc, rest, b" ")?;
+    Ok(((items, from), rest))
+}
+
+// Its filter and its keys.
+#[tactic(auto, unfolding(crate::specs::Reading::filters_at))]
+fn filters(alloc: Global, bytes: &[u8]) -> Result<((Option<Expr>, Exprs), &[u8]), CanonFault>
+    ensures { Gives (λ x. (x.0, x.1.now)) result (filters_at bytes.now) }
+{
+    let (filter, rest) = option_then(alloc, bytes, b" ")?;
+    let (keys, rest) = list_then(alloc, rest, b" ")?;
+    Ok(((filter, keys), rest))
 }
 
 impl Readable for Select {
@@ -82,23 +119,10 @@ impl Readable for Select {
 
     #[tactic(auto, unfolding(crate::specs::Reading::select_at))]
     fn read(alloc: Global, bytes: &[u8]) -> Result<(Select, &[u8]), CanonFault> {
-        let rest = expect(bytes, b"(select ")?;
-        let Some((distinct, rest)) = distinct(rest) else {
-            return Err(CanonFault::NotCanonical);
-        };
-        let Some((grouped, rest)) = grouped(rest) else {
-            return Err(CanonFault::NotCanonical);
-        };
-        let (items, rest) = list(alloc, rest)?;
-        let rest = expect(rest, b" ")?;
-        let (from, rest) = list(alloc, rest)?;
-        let rest = expect(rest, b" ")?;
-        let (filter, rest) = option(alloc, rest)?;
-        let rest = expect(rest, b" ")?;
-        let (keys, rest) = list(alloc, rest)?;
-        let rest = expect(rest, b" ")?;
-        let (having, rest) = option(alloc, rest)?;
-        let rest = expect(rest, b")")?;
+        let ((distinct, grouped), rest) = modes(bytes)?;
+        let ((items, from), rest) = tables(alloc, rest)?;
+        let ((filter, keys), rest) = filters(alloc, rest)?;
+        let (having, rest) = option_then(alloc, rest, b")")?;
         let made = Select {
             distinct,
             grouped,
@@ -129,9 +153,7 @@ impl Readable for Selects {
 pub(crate) fn query(alloc: Global, bytes: &[u8]) -> Result<(Query, &[u8]), CanonFault>
     ensures { Gives (λ x. (x.0, x.1.now)) result (query_at bytes.now) }
 {
-    let (ctes, rest) = list(alloc, bytes)?;
-    let rest = expect(rest, b" ")?;
-    let (selects, rest) = list(alloc, rest)?;
-    let rest = expect(rest, b")")?;
+    let (ctes, rest) = list_then(alloc, bytes, b" ")?;
+    let (selects, rest) = list_then(alloc, rest, b")")?;
     Ok((Query { ctes, selects }, rest))
 }

@@ -1,6 +1,6 @@
 // What is read, and lists of it.
 ghost use Rattle.std.specs.Prelude.{◌≡◌, ◌-◌, ℕ, List, Option, length};
-ghost use Rattle.mesh_canon.specs.Reading.{Gives, list_at, members_at, more_at, with_front};
+ghost use Rattle.mesh_canon.specs.Reading.{Gives, list_at, members_at, more_at, then_at, with_front};
 
 use crate::fault::CanonFault;
 use crate::words::{after, expect};
@@ -14,6 +14,34 @@ pub(crate) trait Readable: Drop {
     /// The value, and what is left behind it.
     fn read(alloc: Global, bytes: &[u8]) -> Result<(Self, &[u8]), CanonFault>
         ensures { Gives (λ x. (x.0, x.1.now)) result (reading bytes.now) };
+}
+
+/// A value and the sign behind it.
+#[tactic(auto, unfolding(crate::specs::Reading::then_at))]
+pub(crate) fn part<'a, T: Readable>(
+    alloc: Global,
+    bytes: &'a [u8],
+    sign: &[u8],
+) -> Result<(T, &'a [u8]), CanonFault>
+    ensures { Gives (λ x. (x.0, x.1.now)) result (then_at sign.now T.reading bytes.now) }
+{
+    let (value, rest) = T::read(alloc, bytes)?;
+    let rest = expect(rest, sign)?;
+    Ok((value, rest))
+}
+
+/// A list in brackets and the sign behind it.
+#[tactic(auto, unfolding(crate::specs::Reading::then_at))]
+pub(crate) fn list_then<'a, T: Readable>(
+    alloc: Global,
+    bytes: &'a [u8],
+    sign: &[u8],
+) -> Result<(Seq<T>, &'a [u8]), CanonFault>
+    ensures { Gives (λ x. (x.0, x.1.now)) result (then_at sign.now (list_at T.reading) bytes.now) }
+{
+    let (made, rest) = list(alloc, bytes)?;
+    let rest = expect(rest, sign)?;
+    Ok((made, rest))
 }
 
 /// A list in brackets.

@@ -1,11 +1,11 @@
 // Cells, rows, columns and names, read.
-ghost use Rattle.std.specs.Prelude.{◌≡◌, ◌-◌, ◌^◌};
-ghost use Rattle.mesh_canon.specs.Reading.{Gives, cell_at, cell_parts_at, column_at, name_at, row_at, signed_at, text_at};
+ghost use Rattle.std.specs.Prelude.{◌≡◌, ◌-◌, ◌^◌, codes};
+ghost use Rattle.mesh_canon.specs.Reading.{Gives, cell_at, cell_parts_at, column_at, date_at, int_at, name_at, row_at, signed_at, text_at, text_cell_at, then_at};
 
 use crate::fault::CanonFault;
-use crate::heads::{CellHead, cell_head, column_type};
+use crate::heads::{CellHead, cell_head, type_then};
 use crate::read::{Readable, list};
-use crate::words::{expect, signed, text};
+use crate::words::{expect, signed, text, text_then};
 use mesh_values::{Cell, Column, Name, Row, Str};
 use std::alloc::Global;
 
@@ -42,22 +42,34 @@ pub(crate) fn cell_parts(
         CellHead::Null => Ok((Cell::Null, bytes)),
         CellHead::True => Ok((Cell::Bool(true), bytes)),
         CellHead::False => Ok((Cell::Bool(false), bytes)),
-        CellHead::Int => {
-            let (number, rest) = signed(bytes, MOST_INT)?;
-            let rest = expect(rest, b")")?;
-            Ok((Cell::Int(number), rest))
-        }
-        CellHead::Text => {
-            let (text, rest) = text(alloc, bytes)?;
-            let rest = expect(rest, b")")?;
-            Ok((Cell::Text(text), rest))
-        }
-        CellHead::Date => {
-            let (day, rest) = day(bytes)?;
-            let rest = expect(rest, b")")?;
-            Ok((Cell::Date(day), rest))
-        }
+        CellHead::Int => int_cell(bytes),
+        CellHead::Text => text_cell(alloc, bytes),
+        CellHead::Date => date_cell(bytes),
     }
+}
+
+fn int_cell(bytes: &[u8]) -> Result<(Cell, &[u8]), CanonFault>
+    ensures { Gives (λ x. (x.0, x.1.now)) result (int_at bytes.now) }
+{
+    let (number, rest) = signed(bytes, MOST_INT)?;
+    let rest = expect(rest, b")")?;
+    Ok((Cell::Int(number), rest))
+}
+
+fn text_cell(alloc: Global, bytes: &[u8]) -> Result<(Cell, &[u8]), CanonFault>
+    ensures { Gives (λ x. (x.0, x.1.now)) result (text_cell_at bytes.now) }
+{
+    let (text, rest) = text(alloc, bytes)?;
+    let rest = expect(rest, b")")?;
+    Ok((Cell::Text(text), rest))
+}
+
+fn date_cell(bytes: &[u8]) -> Result<(Cell, &[u8]), CanonFault>
+    ensures { Gives (λ x. (x.0, x.1.now)) result (date_at bytes.now) }
+{
+    let (day, rest) = day(bytes)?;
+    let rest = expect(rest, b")")?;
+    Ok((Cell::Date(day), rest))
 }
 
 impl Readable for Cell {
@@ -87,12 +99,8 @@ impl Readable for Column {
     #[tactic(auto, unfolding(crate::specs::Reading::column_at))]
     fn read(alloc: Global, bytes: &[u8]) -> Result<(Column, &[u8]), CanonFault> {
         let rest = expect(bytes, b"(column ")?;
-        let (name, rest) = text(alloc, rest)?;
-        let rest = expect(rest, b" ")?;
-        let Some((kind, rest)) = column_type(rest) else {
-            return Err(CanonFault::NotCanonical);
-        };
-        let rest = expect(rest, b")")?;
+        let (name, rest) = text_then(alloc, rest, b" ")?;
+        let (kind, rest) = type_then(rest, b")")?;
         Ok((Column { name, kind }, rest))
     }
 }
@@ -102,8 +110,17 @@ impl Readable for Column {
 pub(crate) fn name(alloc: Global, bytes: &[u8]) -> Result<(Name, &[u8]), CanonFault>
     ensures { Gives (λ x. (x.0, x.1.now)) result (name_at bytes.now) }
 {
-    let (schema, rest) = text(alloc, bytes)?;
-    let rest = expect(rest, b" ")?;
+    let (schema, rest) = text_then(alloc, bytes, b" ")?;
     let (model, rest) = text(alloc, rest)?;
     Ok((Name { schema, model }, rest))
+}
+
+/// A schema, a model and a space.
+#[tactic(auto, unfolding(crate::specs::Reading::then_at))]
+pub(crate) fn name_then_space(alloc: Global, bytes: &[u8]) -> Result<(Name, &[u8]), CanonFault>
+    ensures { Gives (λ x. (x.0, x.1.now)) result (then_at (codes " ") name_at bytes.now) }
+{
+    let (name, rest) = name(alloc, bytes)?;
+    let rest = expect(rest, b" ")?;
+    Ok((name, rest))
 }

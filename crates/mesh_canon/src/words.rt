@@ -1,6 +1,6 @@
 // Words, numbers and texts at the front of what is left to read.
-ghost use Rattle.std.specs.Prelude.{◌≡◌, ◌<◌, ◌≤◌, ◌^◌, ◌+◌, pos, negsuc, ◌≤ℤ◌, MatchOption, IfOk};
-ghost use Rattle.mesh_canon.specs.Reading.{Gives, after, below_at, digits_at, number_at, signed_at, text_at};
+ghost use Rattle.std.specs.Prelude.{◌≡◌, ◌<◌, ◌≤◌, ◌^◌, ◌+◌, ◌-◌, pos, negsuc, ◌≤ℤ◌, MatchOption, IfOk};
+ghost use Rattle.mesh_canon.specs.Reading.{Gives, after, below_at, digits_at, number_at, signed_at, text_at, then_at};
 
 use crate::fault::CanonFault;
 use mesh_list::Seq;
@@ -85,7 +85,16 @@ fn negative(bytes: &[u8], most: u64) -> Result<(i64, &[u8]), CanonFault>
     if number == 0 {
         return Err(CanonFault::NotCanonical);
     }
-    Ok((-((number - 1) as i64) - 1, rest))
+    Ok((opposite(number), rest))
+}
+
+// The number as far below zero.
+fn opposite(number: u64) -> i64
+    requires above { 0 < number }
+    requires bound { number ≤ 2 ^ 63 }
+    ensures { result ≡ negsuc (number - 1) }
+{
+    -((number - 1) as i64) - 1
 }
 
 /// A text with its length.
@@ -101,4 +110,18 @@ pub(crate) fn text(alloc: Global, bytes: &[u8]) -> Result<(Str, &[u8]), CanonFau
     }
     let (front, rest) = rest.split_at(length);
     Ok((Seq::from_vec(Vec::from_slice(alloc, front)?), rest))
+}
+
+/// A text and the sign behind it.
+#[tactic(auto, unfolding(crate::specs::Reading::then_at))]
+pub(crate) fn text_then<'a>(
+    alloc: Global,
+    bytes: &'a [u8],
+    sign: &[u8],
+) -> Result<(Str, &'a [u8]), CanonFault>
+    ensures { Gives (λ x. (x.0, x.1.now)) result (then_at sign.now text_at bytes.now) }
+{
+    let (text, rest) = text(alloc, bytes)?;
+    let rest = expect(rest, sign)?;
+    Ok((text, rest))
 }

@@ -50,5 +50,8 @@ decreases-more_whens l = 8 * l.depth + 4
 abbrev pub decreases-when : goal.decreases-when
 decreases-when l = 8 * l.depth + 3
 
-abbrev pub decreases-boxed : goal.decreases-boxed
-decreases-boxed l = 8 * l.depth + 2
+abbrev pub decreases-boxed_then : goal.decreases-boxed_then
+decreases-boxed_then l = 8 * l.depth + 2
+
+abbrev pub decreases-expr_then : goal.decreases-expr_then
+decreases-expr_then l = 8 * l.depth + 1
