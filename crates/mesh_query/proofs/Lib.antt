@@ -2,6 +2,7 @@ pub mod Refused
 pub mod Descent
 pub mod Counted
 pub mod Steps
+pub mod Made
 pub mod Stops
 pub mod OneRefusal
 pub mod Weights

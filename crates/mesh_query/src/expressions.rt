@@ -10,7 +10,7 @@ ghost use Rattle.mesh_grammar.specs.Machine.{begins};
 ghost use Rattle.mesh_query.specs.Answers.{Answers, AnswersOn};
 ghost use Rattle.mesh_query.specs.Rests.{behind_is, behind_between, behind_in, unopened, one_alone};
 
-use crate::lists::one;
+use crate::lists::{begun, boxed, pushed};
 use crate::literals::{column, date, function_at, literal};
 use crate::nodes::Nodes;
 use mesh_list::{Boxed, Seq};
@@ -36,12 +36,12 @@ pub fn expr(
 ) -> Result<(OrExpr, usize), Fault>
     ensures { Answers true depth an_expr tokens.now from nodes.old.left nodes.new.left result }
 {
-    let (first, mut at) = conjunction(alloc, tokens, nodes, depth, from)?;
-    let mut parts = one(alloc, first)?;
+    let first = conjunction(alloc, tokens, nodes, depth, from);
+    let (mut parts, mut at) = begun(alloc, first)?;
     'ors: while is_word(tokens, at, b"or") {
         nodes.meet();
-        let (part, next) = conjunction(alloc, tokens, nodes, depth, at + 1)?;
-        parts.push(part)?;
+        let part = conjunction(alloc, tokens, nodes, depth, at + 1);
+        let next = pushed(&mut parts, part)?;
         at = next;
     }
     let whole = OrExpr {
@@ -62,12 +62,12 @@ fn conjunction(
 ) -> Result<(AndExpr, usize), Fault>
     ensures { Answers true depth a_conjunction tokens.now from nodes.old.left nodes.new.left result }
 {
-    let (first, mut at) = negation(alloc, tokens, nodes, depth, from)?;
-    let mut parts = one(alloc, first)?;
+    let first = negation(alloc, tokens, nodes, depth, from);
+    let (mut parts, mut at) = begun(alloc, first)?;
     'ands: while is_word(tokens, at, b"and") {
         nodes.meet();
-        let (part, next) = negation(alloc, tokens, nodes, depth, at + 1)?;
-        parts.push(part)?;
+        let part = negation(alloc, tokens, nodes, depth, at + 1);
+        let next = pushed(&mut parts, part)?;
         at = next;
     }
     let whole = AndExpr {
@@ -91,8 +91,8 @@ fn negation(
     if is_word(tokens, from, b"not") {
         let deeper = nested(depth)?;
         nodes.meet();
-        let (inner, next) = negation(alloc, tokens, nodes, deeper, from + 1)?;
-        let inner = Boxed::new(alloc, inner)?;
+        let inner = negation(alloc, tokens, nodes, deeper, from + 1);
+        let (inner, next) = boxed(alloc, inner)?;
         return Ok((NotExpr::Not { at, inner }, next));
     }
     let (pred, next) = pred(alloc, tokens, nodes, depth, from)?;
@@ -240,12 +240,12 @@ fn cat(
 ) -> Result<(CatExpr, usize), Fault>
     ensures { Answers true depth a_cat tokens.now from nodes.old.left nodes.new.left result }
 {
-    let (first, mut at) = sum(alloc, tokens, nodes, depth, from)?;
-    let mut parts = one(alloc, first)?;
+    let first = sum(alloc, tokens, nodes, depth, from);
+    let (mut parts, mut at) = begun(alloc, first)?;
     'cats: while is_sign(tokens, at, b"||") {
         nodes.meet();
-        let (part, next) = sum(alloc, tokens, nodes, depth, at + 1)?;
-        parts.push(part)?;
+        let part = sum(alloc, tokens, nodes, depth, at + 1);
+        let next = pushed(&mut parts, part)?;
         at = next;
     }
     let whole = CatExpr {
@@ -331,8 +331,8 @@ fn unary(
     if is_sign(tokens, from, b"-") {
         let deeper = nested(depth)?;
         nodes.meet();
-        let (inner, next) = unary(alloc, tokens, nodes, deeper, from + 1)?;
-        let inner = Boxed::new(alloc, inner)?;
+        let inner = unary(alloc, tokens, nodes, deeper, from + 1);
+        let (inner, next) = boxed(alloc, inner)?;
         return Ok((Unary::Minus { at, inner }, next));
     }
     let (post, next) = post(alloc, tokens, nodes, depth, from)?;
@@ -354,8 +354,8 @@ fn post(
     let mut casts = Seq::new(alloc);
     'casts: while is_sign(tokens, at, b"::") {
         nodes.meet();
-        let (kind, next) = column_type(tokens, at + 1)?;
-        casts.push(kind)?;
+        let kind = column_type(tokens, at + 1);
+        let next = pushed(&mut casts, kind)?;
         at = next;
     }
     let whole = Post {
@@ -481,8 +481,8 @@ fn case_operand(
     if is_word(tokens, from, b"when") {
         return Ok((None, from));
     }
-    let (operand, next) = expr(alloc, tokens, nodes, depth, from)?;
-    let operand = Boxed::new(alloc, operand)?;
+    let operand = expr(alloc, tokens, nodes, depth, from);
+    let (operand, next) = boxed(alloc, operand)?;
     Ok((Some(operand), next))
 }
 
@@ -497,13 +497,12 @@ fn arms(
 ) -> Result<(Seq<Arm>, usize), Fault>
     ensures { Answers true depth some_arms tokens.now from nodes.old.left nodes.new.left result }
 {
-    let (first, mut at) = arm(alloc, tokens, nodes, depth, from)?;
-    let mut arms = Seq::new(alloc);
-    arms.push(first)?;
+    let first = arm(alloc, tokens, nodes, depth, from);
+    let (mut arms, mut at) = begun(alloc, first)?;
     'whens: while is_word(tokens, at, b"when") {
-        let (next, behind) = arm(alloc, tokens, nodes, depth, at)?;
-        arms.push(next)?;
-        at = behind;
+        let more = arm(alloc, tokens, nodes, depth, at);
+        let next = pushed(&mut arms, more)?;
+        at = next;
     }
     Ok((arms, at))
 }
@@ -542,8 +541,8 @@ fn case_else(
     ensures { Answers true depth otherwise tokens.now from nodes.old.left nodes.new.left result }
 {
     if is_word(tokens, from, b"else") {
-        let (otherwise, next) = expr(alloc, tokens, nodes, depth, from + 1)?;
-        let otherwise = Boxed::new(alloc, otherwise)?;
+        let otherwise = expr(alloc, tokens, nodes, depth, from + 1);
+        let (otherwise, next) = boxed(alloc, otherwise)?;
         return Ok((Some(otherwise), next));
     }
     Ok((None, from))
@@ -626,12 +625,11 @@ fn nullif_args(
     ensures { Answers true depth (arguments Nullif) tokens.now from nodes.old.left nodes.new.left result }
 {
     let at = place(tokens, from);
-    let (first, next) = expr(alloc, tokens, nodes, depth, from)?;
+    let first = expr(alloc, tokens, nodes, depth, from);
+    let (mut values, next) = begun(alloc, first)?;
     let next = sign(tokens, next, b",")?;
-    let (second, next) = expr(alloc, tokens, nodes, depth, next)?;
-    let mut values = Seq::new(alloc);
-    values.push(first)?;
-    values.push(second)?;
+    let second = expr(alloc, tokens, nodes, depth, next);
+    let next = pushed(&mut values, second)?;
     Ok((Args::List { at, values }, next))
 }
 
@@ -651,8 +649,8 @@ fn count_args(
         return Ok((Args::Star { at }, from + 1));
     }
     if is_word(tokens, from, b"distinct") {
-        let (value, next) = expr(alloc, tokens, nodes, depth, from + 1)?;
-        let value = Boxed::new(alloc, value)?;
+        let value = expr(alloc, tokens, nodes, depth, from + 1);
+        let (value, next) = boxed(alloc, value)?;
         return Ok((Args::Distinct { at, value }, next));
     }
     one_arg(alloc, tokens, nodes, depth, from)
@@ -669,8 +667,8 @@ fn one_arg(
     ensures { (f : Functions) → AnswersOn true depth (arguments f) (one_alone f (place_of (drop from tokens.now))) tokens.now from nodes.old.left nodes.new.left result }
 {
     let at = place(tokens, from);
-    let (value, next) = expr(alloc, tokens, nodes, depth, from)?;
-    let values = one(alloc, value)?;
+    let value = expr(alloc, tokens, nodes, depth, from);
+    let (values, next) = begun(alloc, value)?;
     Ok((Args::List { at, values }, next))
 }
 
@@ -685,12 +683,11 @@ fn exprs(
 ) -> Result<(Seq<OrExpr>, usize), Fault>
     ensures { Answers true depth some_exprs tokens.now from nodes.old.left nodes.new.left result }
 {
-    let (first, mut at) = expr(alloc, tokens, nodes, depth, from)?;
-    let mut list = Seq::new(alloc);
-    list.push(first)?;
+    let first = expr(alloc, tokens, nodes, depth, from);
+    let (mut list, mut at) = begun(alloc, first)?;
     'commas: while is_sign(tokens, at, b",") {
-        let (more, next) = expr(alloc, tokens, nodes, depth, at + 1)?;
-        list.push(more)?;
+        let more = expr(alloc, tokens, nodes, depth, at + 1);
+        let next = pushed(&mut list, more)?;
         at = next;
     }
     Ok((list, at))

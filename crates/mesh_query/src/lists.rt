@@ -1,7 +1,10 @@
-// Lists that are begun with one element.
-ghost use Rattle.std.specs.Prelude.{◌≡◌, [], ◌∷◌, IfOk};
+// Lists that are begun with one element, and what is made of a phrase that has been read: want of memory and the fault of
+// the phrase are one answer.
+ghost use Rattle.std.specs.Prelude.{◌≡◌, [], ◌∷◌, ◌++◌, IfOk, MatchResult};
+ghost use Rattle.mesh_words.specs.declared.fault.Fault.TheVariants.{Memory as OutOfMemory};
 
-use mesh_list::{Memory, Seq};
+use mesh_list::{Boxed, Memory, Seq};
+use mesh_words::Fault;
 use std::alloc::Global;
 
 /// The list of one element, with room for no more until it grows: most lists of a tree have one, and a place in them is
@@ -14,4 +17,37 @@ pub fn one<T: Drop>(alloc: Global, item: T) -> Result<Seq<T>, Memory>
         Ok(()) => Ok(Seq::from_vec(items)),
         Err(_) => Err(Memory),
     }
+}
+
+/// The list of the one phrase that has been read, and the place behind it.
+pub fn begun<T: Drop>(
+    alloc: Global,
+    found: Result<(T, usize), Fault>,
+) -> Result<(Seq<T>, usize), Fault>
+    ensures { MatchResult result (λ p. MatchResult found (λ x. (p.0 ≡ x.0 ∷ []) × (p.1 ≡ x.1)) (λ _. ⊥)) (λ e. MatchResult found (λ _. e ≡ OutOfMemory) (λ f. e ≡ f)) }
+{
+    let (first, at) = found?;
+    let items = one(alloc, first)?;
+    Ok((items, at))
+}
+
+/// The place behind a phrase that has been read, which goes to the list.
+pub fn pushed<T: Drop>(items: &mut Seq<T>, found: Result<(T, usize), Fault>) -> Result<usize, Fault>
+    ensures { MatchResult result (λ at. MatchResult found (λ x. (items.new ≡ items.old ++ x.0 ∷ []) × (at ≡ x.1)) (λ _. ⊥)) (λ e. MatchResult found (λ _. e ≡ OutOfMemory) (λ f. e ≡ f)) }
+{
+    let (item, at) = found?;
+    items.push(item)?;
+    Ok(at)
+}
+
+/// The phrase that has been read in a box, and the place behind it.
+pub fn boxed<T: Drop>(
+    alloc: Global,
+    found: Result<(T, usize), Fault>,
+) -> Result<(Boxed<T>, usize), Fault>
+    ensures { MatchResult result (λ p. MatchResult found (λ x. (p.0 ≡ x.0) × (p.1 ≡ x.1)) (λ _. ⊥)) (λ e. MatchResult found (λ _. e ≡ OutOfMemory) (λ f. e ≡ f)) }
+{
+    let (item, at) = found?;
+    let item = Boxed::new(alloc, item)?;
+    Ok((item, at))
 }

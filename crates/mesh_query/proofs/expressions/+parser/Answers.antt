@@ -7,107 +7,96 @@ use Rattle.mesh_grammar.specs.Rules.{tested, cat, value, named}
 use Rattle.mesh_grammar.specs.Plans.{done, read, take, is_sign}
 use Rattle.mesh_words.specs.declared.fault.Fault.TheVariants.{Syntax}
 use Rattle.mesh_query.proofs.Steps.{started, noted, past_word, past_sign, past_name, past_type, past_cmp, without, saw, missed, has_read, has_nested, is_done, counted, read_from}
+use Rattle.mesh_query.proofs.Made.{with_read, unread}
 use Rattle.mesh_query.proofs.Descent.{handed, told, stuck_here, lacks, fails_in, fails_nested, too_deep, closed, closed_by, goes_on, alone, name_here, call_left, sum_begun, sum_on, product_begun, product_on, cast_on, failed_from}
 use Rattle.mesh_query.proofs.expressions.+parser.Goals as goal
 
-pub expr-returns-in_err-first : goal.expr-returns-in_err-first
-expr-returns-in_err-first t c = told _ _ c.from_residual.result c.from_residual.ensures (fails_in _ c.args.tokens.now _ (noted started) c.in_err-first.ensures)
+pub expr-returns-in_err-parts : goal.expr-returns-in_err-parts
+expr-returns-in_err-parts t c = told _ _ c.from_residual.result c.from_residual.ensures (fails_in _ c.args.tokens.now _ (noted started) (unread _ _ c.conjunction-first.result c.in_err-parts.ensures c.conjunction-first.ensures tt))
 
 pub expr-ors-init : goal.expr-ors-init
-expr-ors-init t c =
-    let first = c.in_ok-first.ensures in
-    rw c.in_ok-parts.ensures (first.0, has_read c.in_ok-first.first (noted started) first.1)
+expr-ors-init t c = with_read _ _ _ c.conjunction-first.result c.in_ok-parts.ensures c.conjunction-first.ensures (λ x q p. rw (q.0, q.1) (p.0, has_read x.0 (noted started) p.1))
 
 pub expr-ors-preserved : goal.expr-ors-preserved
 expr-ors-preserved t c =
     let before = c.ors.invariant in
     let sign = c.is_word.ensures.taken c.ors-test.true in
-    let more = c.in_ok-part.ensures in
-    rw c.in_ok-push.ensures.ok (omega (arith, before.0, more.0), goes_on (λ x. x) (refl, λ z. refl) before.1 (has_read c.in_ok-part.part (past_word (codes "or") started sign.2) (read_from c.meet.ensures more.1)))
+    with_read _ _ _ c.conjunction-part.result c.in_ok-next.ensures c.conjunction-part.ensures (λ x q p. rw (q.0, q.1) (omega (arith, before.0, p.0), goes_on (λ x. x) (refl, λ z. refl) before.1 (has_read x.0 (past_word (codes "or") started sign.2) (read_from c.meet.ensures p.1))))
 
-pub expr-returns-in_err-part : goal.expr-returns-in_err-part
-expr-returns-in_err-part t c =
+pub expr-returns-in_err-next : goal.expr-returns-in_err-next
+expr-returns-in_err-next t c =
     let before = c.ors.invariant in
     let sign = c.is_word.ensures.taken c.ors-test.true in
-    told _ _ c.from_residual-in_err-part.result c.from_residual-in_err-part.ensures (fails_in _ c.args.tokens.now _ before.1 (fails_in _ c.args.tokens.now _ (past_word (codes "or") started sign.2) (failed_from _ _ _ _ _ _ _ c.meet.ensures c.in_err-part.ensures)))
+    told _ _ c.from_residual-in_err-next.result c.from_residual-in_err-next.ensures (fails_in _ c.args.tokens.now _ before.1 (fails_in _ c.args.tokens.now _ (past_word (codes "or") started sign.2) (failed_from _ _ _ _ _ _ _ c.meet.ensures (unread _ _ c.conjunction-part.result c.in_err-next.ensures c.conjunction-part.ensures tt))))
 
 pub expr-returns : goal.expr-returns
 expr-returns t c =
     let before = c.ors.invariant in
     rw c.place.ensures (before.0, is_done (closed before.1 (without started (sym c.is_word.ensures.seen ∙ c.ors-test.false))))
 
-pub conjunction-returns-in_err-first : goal.conjunction-returns-in_err-first
-conjunction-returns-in_err-first t c = told _ _ c.from_residual.result c.from_residual.ensures (fails_in _ c.args.tokens.now _ (noted started) c.in_err-first.ensures)
+pub conjunction-returns-in_err-parts : goal.conjunction-returns-in_err-parts
+conjunction-returns-in_err-parts t c = told _ _ c.from_residual.result c.from_residual.ensures (fails_in _ c.args.tokens.now _ (noted started) (unread _ _ c.negation-first.result c.in_err-parts.ensures c.negation-first.ensures tt))
 
 pub conjunction-ands-init : goal.conjunction-ands-init
-conjunction-ands-init t c =
-    let first = c.in_ok-first.ensures in
-    rw c.in_ok-parts.ensures (first.0, has_read c.in_ok-first.first (noted started) first.1)
+conjunction-ands-init t c = with_read _ _ _ c.negation-first.result c.in_ok-parts.ensures c.negation-first.ensures (λ x q p. rw (q.0, q.1) (p.0, has_read x.0 (noted started) p.1))
 
 pub conjunction-ands-preserved : goal.conjunction-ands-preserved
 conjunction-ands-preserved t c =
     let before = c.ands.invariant in
     let sign = c.is_word.ensures.taken c.ands-test.true in
-    let more = c.in_ok-part.ensures in
-    rw c.in_ok-push.ensures.ok (omega (arith, before.0, more.0), goes_on (λ x. x) (refl, λ z. refl) before.1 (has_read c.in_ok-part.part (past_word (codes "and") started sign.2) (read_from c.meet.ensures more.1)))
+    with_read _ _ _ c.negation-part.result c.in_ok-next.ensures c.negation-part.ensures (λ x q p. rw (q.0, q.1) (omega (arith, before.0, p.0), goes_on (λ x. x) (refl, λ z. refl) before.1 (has_read x.0 (past_word (codes "and") started sign.2) (read_from c.meet.ensures p.1))))
 
-pub conjunction-returns-in_err-part : goal.conjunction-returns-in_err-part
-conjunction-returns-in_err-part t c =
+pub conjunction-returns-in_err-next : goal.conjunction-returns-in_err-next
+conjunction-returns-in_err-next t c =
     let before = c.ands.invariant in
     let sign = c.is_word.ensures.taken c.ands-test.true in
-    told _ _ c.from_residual-in_err-part.result c.from_residual-in_err-part.ensures (fails_in _ c.args.tokens.now _ before.1 (fails_in _ c.args.tokens.now _ (past_word (codes "and") started sign.2) (failed_from _ _ _ _ _ _ _ c.meet.ensures c.in_err-part.ensures)))
+    told _ _ c.from_residual-in_err-next.result c.from_residual-in_err-next.ensures (fails_in _ c.args.tokens.now _ before.1 (fails_in _ c.args.tokens.now _ (past_word (codes "and") started sign.2) (failed_from _ _ _ _ _ _ _ c.meet.ensures (unread _ _ c.negation-part.result c.in_err-next.ensures c.negation-part.ensures tt))))
 
 pub conjunction-returns : goal.conjunction-returns
 conjunction-returns t c =
     let before = c.ands.invariant in
     rw c.place.ensures (before.0, is_done (closed before.1 (without started (sym c.is_word.ensures.seen ∙ c.ands-test.false))))
 
-pub cat-returns-in_err-first : goal.cat-returns-in_err-first
-cat-returns-in_err-first t c = told _ _ c.from_residual.result c.from_residual.ensures (fails_in _ c.args.tokens.now _ (noted started) c.in_err-first.ensures)
+pub cat-returns-in_err-parts : goal.cat-returns-in_err-parts
+cat-returns-in_err-parts t c = told _ _ c.from_residual.result c.from_residual.ensures (fails_in _ c.args.tokens.now _ (noted started) (unread _ _ c.sum-first.result c.in_err-parts.ensures c.sum-first.ensures tt))
 
 pub cat-cats-init : goal.cat-cats-init
-cat-cats-init t c =
-    let first = c.in_ok-first.ensures in
-    rw c.in_ok-parts.ensures (first.0, has_read c.in_ok-first.first (noted started) first.1)
+cat-cats-init t c = with_read _ _ _ c.sum-first.result c.in_ok-parts.ensures c.sum-first.ensures (λ x q p. rw (q.0, q.1) (p.0, has_read x.0 (noted started) p.1))
 
 pub cat-cats-preserved : goal.cat-cats-preserved
 cat-cats-preserved t c =
     let before = c.cats.invariant in
     let sign = c.is_sign.ensures.taken c.cats-test.true in
-    let more = c.in_ok-part.ensures in
-    rw c.in_ok-push.ensures.ok (omega (arith, before.0, more.0), goes_on (λ x. x) (refl, λ z. refl) before.1 (has_read c.in_ok-part.part (past_sign (codes "||") started sign.2) (read_from c.meet.ensures more.1)))
+    with_read _ _ _ c.sum-part.result c.in_ok-next.ensures c.sum-part.ensures (λ x q p. rw (q.0, q.1) (omega (arith, before.0, p.0), goes_on (λ x. x) (refl, λ z. refl) before.1 (has_read x.0 (past_sign (codes "||") started sign.2) (read_from c.meet.ensures p.1))))
 
-pub cat-returns-in_err-part : goal.cat-returns-in_err-part
-cat-returns-in_err-part t c =
+pub cat-returns-in_err-next : goal.cat-returns-in_err-next
+cat-returns-in_err-next t c =
     let before = c.cats.invariant in
     let sign = c.is_sign.ensures.taken c.cats-test.true in
-    told _ _ c.from_residual-in_err-part.result c.from_residual-in_err-part.ensures (fails_in _ c.args.tokens.now _ before.1 (fails_in _ c.args.tokens.now _ (past_sign (codes "||") started sign.2) (failed_from _ _ _ _ _ _ _ c.meet.ensures c.in_err-part.ensures)))
+    told _ _ c.from_residual-in_err-next.result c.from_residual-in_err-next.ensures (fails_in _ c.args.tokens.now _ before.1 (fails_in _ c.args.tokens.now _ (past_sign (codes "||") started sign.2) (failed_from _ _ _ _ _ _ _ c.meet.ensures (unread _ _ c.sum-part.result c.in_err-next.ensures c.sum-part.ensures tt))))
 
 pub cat-returns : goal.cat-returns
 cat-returns t c =
     let before = c.cats.invariant in
     rw c.place.ensures (before.0, is_done (closed before.1 (without started (sym c.is_sign.ensures.seen ∙ c.cats-test.false))))
 
-pub exprs-returns-in_err-first : goal.exprs-returns-in_err-first
-exprs-returns-in_err-first t c = told _ _ c.from_residual.result c.from_residual.ensures (fails_in _ c.args.tokens.now _ started c.in_err-first.ensures)
+pub exprs-returns-in_err-list : goal.exprs-returns-in_err-list
+exprs-returns-in_err-list t c = told _ _ c.from_residual.result c.from_residual.ensures (fails_in _ c.args.tokens.now _ started (unread _ _ c.expr-first.result c.in_err-list.ensures c.expr-first.ensures tt))
 
 pub exprs-commas-init : goal.exprs-commas-init
-exprs-commas-init t c =
-    let first = c.in_ok-first.ensures in
-    rw (c.in_ok-push.ensures.ok, c.new-list.ensures) (first.0, has_read c.in_ok-first.first started first.1)
+exprs-commas-init t c = with_read _ _ _ c.expr-first.result c.in_ok-list.ensures c.expr-first.ensures (λ x q p. rw (q.0, q.1) (p.0, has_read x.0 started p.1))
 
 pub exprs-commas-preserved : goal.exprs-commas-preserved
 exprs-commas-preserved t c =
     let before = c.commas.invariant in
     let sign = c.is_sign.ensures.taken c.commas-test.true in
-    let more = c.in_ok-more.ensures in
-    rw c.in_ok-push-2.ensures.ok (omega (arith, before.0, more.0), goes_on (λ x. x) (refl, λ z. refl) before.1 (has_read c.in_ok-more.more (past_sign (codes ",") started sign.2) more.1))
+    with_read _ _ _ c.expr-more.result c.in_ok-next.ensures c.expr-more.ensures (λ x q p. rw (q.0, q.1) (omega (arith, before.0, p.0), goes_on (λ x. x) (refl, λ z. refl) before.1 (has_read x.0 (past_sign (codes ",") started sign.2) p.1)))
 
-pub exprs-returns-in_err-more : goal.exprs-returns-in_err-more
-exprs-returns-in_err-more t c =
+pub exprs-returns-in_err-next : goal.exprs-returns-in_err-next
+exprs-returns-in_err-next t c =
     let before = c.commas.invariant in
     let sign = c.is_sign.ensures.taken c.commas-test.true in
-    told _ _ c.from_residual-in_err-more.result c.from_residual-in_err-more.ensures (fails_in _ c.args.tokens.now _ before.1 (fails_in _ c.args.tokens.now _ (past_sign (codes ",") started sign.2) c.in_err-more.ensures))
+    told _ _ c.from_residual-in_err-next.result c.from_residual-in_err-next.ensures (fails_in _ c.args.tokens.now _ before.1 (fails_in _ c.args.tokens.now _ (past_sign (codes ",") started sign.2) (unread _ _ c.expr-more.result c.in_err-next.ensures c.expr-more.ensures tt)))
 
 pub exprs-returns : goal.exprs-returns
 exprs-returns t c =
@@ -178,38 +167,34 @@ pub post-casts-preserved : goal.post-casts-preserved
 post-casts-preserved t c =
     let before = c.casts.invariant in
     let sign = c.is_sign.ensures.taken c.casts-test.true in
-    let kind = c.in_ok-kind.ensures in
-    rw c.in_ok-push.ensures.ok (omega (arith, before.0, kind.0), goes_on (λ x. x) (refl, λ z. refl) before.1 (counted c.meet.ensures (cast_on sign.2 kind.2)))
+    with_read _ _ _ c.column_type-kind.result c.in_ok-next.ensures c.column_type-kind.ensures (λ x q p. rw (q.0, q.1) (omega (arith, before.0, p.0), goes_on (λ x. x) (refl, λ z. refl) before.1 (counted c.meet.ensures (cast_on sign.2 p.2))))
 
-pub post-returns-in_err-kind : goal.post-returns-in_err-kind
-post-returns-in_err-kind t c =
+pub post-returns-in_err-next : goal.post-returns-in_err-next
+post-returns-in_err-next t c =
     let before = c.casts.invariant in
     let sign = c.is_sign.ensures.taken c.casts-test.true in
-    told _ _ c.from_residual-in_err-kind.result c.from_residual-in_err-kind.ensures (fails_in _ c.args.tokens.now _ before.1 (lacks c.args.tokens.now (c.casts.at + 1) _ (counted c.meet.ensures (past_sign (codes "::") started sign.2)) c.in_err-kind.ensures))
+    told _ _ c.from_residual-in_err-next.result c.from_residual-in_err-next.ensures (fails_in _ c.args.tokens.now _ before.1 (lacks c.args.tokens.now (c.casts.at + 1) _ (counted c.meet.ensures (past_sign (codes "::") started sign.2)) (unread _ _ c.column_type-kind.result c.in_err-next.ensures c.column_type-kind.ensures tt)))
 
 pub post-returns : goal.post-returns
 post-returns t c =
     let before = c.casts.invariant in
     rw c.place.ensures (before.0, is_done (closed before.1 (without started (sym c.is_sign.ensures.seen ∙ c.casts-test.false))))
 
-pub arms-returns-in_err-first : goal.arms-returns-in_err-first
-arms-returns-in_err-first t c = told _ _ c.from_residual.result c.from_residual.ensures (fails_in _ c.args.tokens.now _ started c.in_err-first.ensures.answers)
+pub arms-returns-in_err-arms : goal.arms-returns-in_err-arms
+arms-returns-in_err-arms t c = told _ _ c.from_residual.result c.from_residual.ensures (fails_in _ c.args.tokens.now _ started (unread _ _ c.arm-first.result c.in_err-arms.ensures c.arm-first.ensures.answers tt))
 
 pub arms-whens-init : goal.arms-whens-init
-arms-whens-init t c =
-    let first = c.in_ok-first.ensures.answers in
-    rw (c.in_ok-push.ensures.ok, c.new-arms.ensures) (first.0, has_read c.in_ok-first.first started first.1)
+arms-whens-init t c = with_read _ _ _ c.arm-first.result c.in_ok-arms.ensures c.arm-first.ensures.answers (λ x q p. rw (q.0, q.1) (p.0, has_read x.0 started p.1))
 
 pub arms-whens-preserved : goal.arms-whens-preserved
 arms-whens-preserved t c =
     let before = c.whens.invariant in
-    let next = c.in_ok-next.ensures.answers in
-    rw c.in_ok-push-2.ensures.ok (omega (arith, before.0, next.0), goes_on (λ x. x) (refl, λ z. refl) before.1 (has_read c.in_ok-next.next (saw started (sym c.is_word.ensures.seen ∙ c.whens-test.true)) next.1))
+    with_read _ _ _ c.arm-more.result c.in_ok-next.ensures c.arm-more.ensures.answers (λ x q p. rw (q.0, q.1) (omega (arith, before.0, p.0), goes_on (λ x. x) (refl, λ z. refl) before.1 (has_read x.0 (saw started (sym c.is_word.ensures.seen ∙ c.whens-test.true)) p.1)))
 
 pub arms-returns-in_err-next : goal.arms-returns-in_err-next
 arms-returns-in_err-next t c =
     let before = c.whens.invariant in
-    told _ _ c.from_residual-in_err-next.result c.from_residual-in_err-next.ensures (fails_in _ c.args.tokens.now _ before.1 (fails_in _ c.args.tokens.now _ (saw started (sym c.is_word.ensures.seen ∙ c.whens-test.true)) c.in_err-next.ensures.answers))
+    told _ _ c.from_residual-in_err-next.result c.from_residual-in_err-next.ensures (fails_in _ c.args.tokens.now _ before.1 (fails_in _ c.args.tokens.now _ (saw started (sym c.is_word.ensures.seen ∙ c.whens-test.true)) (unread _ _ c.arm-more.result c.in_err-next.ensures c.arm-more.ensures.answers tt)))
 
 pub arms-returns : goal.arms-returns
 arms-returns t c =
@@ -224,13 +209,12 @@ negation-returns-in_err-deeper t c =
 pub negation-returns-in_err-inner : goal.negation-returns-in_err-inner
 negation-returns-in_err-inner t c =
     let first = c.is_word.ensures.taken c.if-is_word.true in
-    told _ _ c.from_residual-in_err-inner.result c.from_residual-in_err-inner.ensures (fails_nested _ c.in_ok-deeper.deeper c.args.tokens.now _ (past_word (codes "not") (noted started) first.2) c.in_ok-deeper.ensures (failed_from _ _ _ _ _ _ _ c.meet.ensures c.in_err-inner.ensures))
+    told _ _ c.from_residual-in_err-inner.result c.from_residual-in_err-inner.ensures (fails_nested _ c.in_ok-deeper.deeper c.args.tokens.now _ (past_word (codes "not") (noted started) first.2) c.in_ok-deeper.ensures (failed_from _ _ _ _ _ _ _ c.meet.ensures (unread _ _ c.negation-inner.result c.in_err-inner.ensures c.negation-inner.ensures tt)))
 
 pub negation-returns-then-is_word : goal.negation-returns-then-is_word
 negation-returns-then-is_word t c =
     let first = c.is_word.ensures.taken c.if-is_word.true in
-    let inner = c.in_ok-inner.ensures in
-    rw (c.place-at.ensures, c.in_ok-inner-2.ensures) (omega (arith, inner.0), is_done (has_nested c.in_ok-inner.inner (past_word (codes "not") (noted started) first.2) c.in_ok-deeper.ensures (read_from c.meet.ensures inner.1)))
+    with_read _ _ _ c.negation-inner.result c.in_ok-inner.ensures c.negation-inner.ensures (λ x q p. rw (c.place-at.ensures, q.0, q.1) (omega (arith, p.0), is_done (has_nested x.0 (past_word (codes "not") (noted started) first.2) c.in_ok-deeper.ensures (read_from c.meet.ensures p.1))))
 
 pub negation-returns-in_err-pred : goal.negation-returns-in_err-pred
 negation-returns-in_err-pred t c = told _ _ c.from_residual-in_err-pred.result c.from_residual-in_err-pred.ensures (fails_in _ c.args.tokens.now _ (without (noted started) (sym c.is_word.ensures.seen ∙ c.if-is_word.false)) c.in_err-pred.ensures)
@@ -248,13 +232,12 @@ unary-returns-in_err-deeper t c =
 pub unary-returns-in_err-inner : goal.unary-returns-in_err-inner
 unary-returns-in_err-inner t c =
     let first = c.is_sign.ensures.taken c.if-is_sign.true in
-    told _ _ c.from_residual-in_err-inner.result c.from_residual-in_err-inner.ensures (fails_nested _ c.in_ok-deeper.deeper c.args.tokens.now _ (past_sign (codes "-") (noted started) first.2) c.in_ok-deeper.ensures (failed_from _ _ _ _ _ _ _ c.meet.ensures c.in_err-inner.ensures))
+    told _ _ c.from_residual-in_err-inner.result c.from_residual-in_err-inner.ensures (fails_nested _ c.in_ok-deeper.deeper c.args.tokens.now _ (past_sign (codes "-") (noted started) first.2) c.in_ok-deeper.ensures (failed_from _ _ _ _ _ _ _ c.meet.ensures (unread _ _ c.unary-inner.result c.in_err-inner.ensures c.unary-inner.ensures tt)))
 
 pub unary-returns-then-is_sign : goal.unary-returns-then-is_sign
 unary-returns-then-is_sign t c =
     let first = c.is_sign.ensures.taken c.if-is_sign.true in
-    let inner = c.in_ok-inner.ensures in
-    rw (c.place-at.ensures, c.in_ok-inner-2.ensures) (omega (arith, inner.0), is_done (has_nested c.in_ok-inner.inner (past_sign (codes "-") (noted started) first.2) c.in_ok-deeper.ensures (read_from c.meet.ensures inner.1)))
+    with_read _ _ _ c.unary-inner.result c.in_ok-inner.ensures c.unary-inner.ensures (λ x q p. rw (c.place-at.ensures, q.0, q.1) (omega (arith, p.0), is_done (has_nested x.0 (past_sign (codes "-") (noted started) first.2) c.in_ok-deeper.ensures (read_from c.meet.ensures p.1))))
 
 pub unary-returns-in_err-post : goal.unary-returns-in_err-post
 unary-returns-in_err-post t c = told _ _ c.from_residual-in_err-post.result c.from_residual-in_err-post.ensures (fails_in _ c.args.tokens.now _ (without (noted started) (sym c.is_sign.ensures.seen ∙ c.if-is_sign.false)) c.in_err-post.ensures)
@@ -524,23 +507,20 @@ pub case_operand-returns-then-is_word : goal.case_operand-returns-then-is_word
 case_operand-returns-then-is_word t c = (omega arith, is_done (saw started (sym c.is_word.ensures.seen ∙ c.if-is_word.true)))
 
 pub case_operand-returns-in_err-operand : goal.case_operand-returns-in_err-operand
-case_operand-returns-in_err-operand t c = told _ _ c.from_residual.result c.from_residual.ensures (fails_in _ c.args.tokens.now _ (missed started (sym c.is_word.ensures.seen ∙ c.if-is_word.false)) c.in_err-operand.ensures)
+case_operand-returns-in_err-operand t c = told _ _ c.from_residual.result c.from_residual.ensures (fails_in _ c.args.tokens.now _ (missed started (sym c.is_word.ensures.seen ∙ c.if-is_word.false)) (unread _ _ c.expr-operand.result c.in_err-operand.ensures c.expr-operand.ensures tt))
 
 pub case_operand-returns : goal.case_operand-returns
-case_operand-returns t c =
-    let value = c.in_ok-operand.ensures in
-    rw c.in_ok-operand-2.ensures (value.0, is_done (has_read c.in_ok-operand.operand (missed started (sym c.is_word.ensures.seen ∙ c.if-is_word.false)) value.1))
+case_operand-returns t c = with_read _ _ _ c.expr-operand.result c.in_ok-operand.ensures c.expr-operand.ensures (λ x q p. rw (q.0, q.1) (p.0, is_done (has_read x.0 (missed started (sym c.is_word.ensures.seen ∙ c.if-is_word.false)) p.1)))
 
 pub case_else-returns-in_err-otherwise : goal.case_else-returns-in_err-otherwise
 case_else-returns-in_err-otherwise t c =
     let word = c.is_word.ensures.taken c.if-is_word.true in
-    told _ _ c.from_residual.result c.from_residual.ensures (fails_in _ c.args.tokens.now _ (past_word (codes "else") started word.2) c.in_err-otherwise.ensures)
+    told _ _ c.from_residual.result c.from_residual.ensures (fails_in _ c.args.tokens.now _ (past_word (codes "else") started word.2) (unread _ _ c.expr-otherwise.result c.in_err-otherwise.ensures c.expr-otherwise.ensures tt))
 
 pub case_else-returns-then-is_word : goal.case_else-returns-then-is_word
 case_else-returns-then-is_word t c =
     let word = c.is_word.ensures.taken c.if-is_word.true in
-    let value = c.in_ok-otherwise.ensures in
-    rw c.in_ok-otherwise-2.ensures (omega (arith, value.0), is_done (has_read c.in_ok-otherwise.otherwise (past_word (codes "else") started word.2) value.1))
+    with_read _ _ _ c.expr-otherwise.result c.in_ok-otherwise.ensures c.expr-otherwise.ensures (λ x q p. rw (q.0, q.1) (omega (arith, p.0), is_done (has_read x.0 (past_word (codes "else") started word.2) p.1)))
 
 pub case_else-returns : goal.case_else-returns
 case_else-returns t c = (omega arith, is_done (without started (sym c.is_word.ensures.seen ∙ c.if-is_word.false)))
@@ -600,25 +580,23 @@ count_args-returns-then-is_sign t c = rw c.place-at.ensures (omega arith, is_don
 pub count_args-returns-in_err-value : goal.count_args-returns-in_err-value
 count_args-returns-in_err-value t c =
     let word = c.is_word.ensures.taken c.if-is_word.true in
-    told _ _ c.from_residual.result c.from_residual.ensures (fails_in _ c.args.tokens.now _ (past_word (codes "distinct") (without (noted started) (sym c.is_sign.ensures.seen ∙ c.if-is_sign.false)) word.2) c.in_err-value.ensures)
+    told _ _ c.from_residual.result c.from_residual.ensures (fails_in _ c.args.tokens.now _ (past_word (codes "distinct") (without (noted started) (sym c.is_sign.ensures.seen ∙ c.if-is_sign.false)) word.2) (unread _ _ c.expr-value.result c.in_err-value.ensures c.expr-value.ensures tt))
 
 pub count_args-returns-then-is_word : goal.count_args-returns-then-is_word
 count_args-returns-then-is_word t c =
     let word = c.is_word.ensures.taken c.if-is_word.true in
-    let value = c.in_ok-value.ensures in
-    rw (c.place-at.ensures, c.in_ok-value-2.ensures) (omega (arith, value.0), is_done (has_read c.in_ok-value.value (past_word (codes "distinct") (without (noted started) (sym c.is_sign.ensures.seen ∙ c.if-is_sign.false)) word.2) value.1))
+    with_read _ _ _ c.expr-value.result c.in_ok-value.ensures c.expr-value.ensures (λ x q p. rw (c.place-at.ensures, q.0, q.1) (omega (arith, p.0), is_done (has_read x.0 (past_word (codes "distinct") (without (noted started) (sym c.is_sign.ensures.seen ∙ c.if-is_sign.false)) word.2) p.1)))
 
 pub count_args-returns : goal.count_args-returns
 count_args-returns t c = c.one_arg.ensures Count (drop c.args.from c.args.tokens.now) _ (without (without (noted started) (sym c.is_sign.ensures.seen ∙ c.if-is_sign.false)) (sym c.is_word.ensures.seen ∙ c.if-is_word.false))
 
-pub one_arg-returns-in_err-value : goal.one_arg-returns-in_err-value
-one_arg-returns-in_err-value t c = λ f s b I.
-    told _ _ c.from_residual.result c.from_residual.ensures (fails_in _ c.args.tokens.now _ I c.in_err-value.ensures)
+pub one_arg-returns-in_err-values : goal.one_arg-returns-in_err-values
+one_arg-returns-in_err-values t c = λ f s b I.
+    told _ _ c.from_residual.result c.from_residual.ensures (fails_in _ c.args.tokens.now _ I (unread _ _ c.expr-value.result c.in_err-values.ensures c.expr-value.ensures tt))
 
 pub one_arg-returns : goal.one_arg-returns
 one_arg-returns t c = λ f s b I.
-    let value = c.in_ok-value.ensures in
-    rw (c.place-at.ensures, c.in_ok-values.ensures) (value.0, is_done (has_read c.in_ok-value.value I value.1))
+    with_read _ _ _ c.expr-value.result c.in_ok-values.ensures c.expr-value.ensures (λ x q p. rw (c.place-at.ensures, q.0, q.1) (p.0, is_done (has_read x.0 I p.1)))
 
 pub coalesce_args-returns-in_err-values : goal.coalesce_args-returns-in_err-values
 coalesce_args-returns-in_err-values t c = told _ _ c.from_residual.result c.from_residual.ensures (fails_in _ c.args.tokens.now _ (noted started) c.in_err-values.ensures)
@@ -628,26 +606,26 @@ coalesce_args-returns t c =
     let values = c.in_ok-values.ensures in
     rw c.place-at.ensures (values.0, is_done (has_read c.in_ok-values.values (noted started) values.1))
 
-pub nullif_args-returns-in_err-first : goal.nullif_args-returns-in_err-first
-nullif_args-returns-in_err-first t c = told _ _ c.from_residual.result c.from_residual.ensures (fails_in _ c.args.tokens.now _ (noted started) c.in_err-first.ensures)
+pub nullif_args-returns-in_err-values : goal.nullif_args-returns-in_err-values
+nullif_args-returns-in_err-values t c = told _ _ c.from_residual.result c.from_residual.ensures (fails_in _ c.args.tokens.now _ (noted started) (unread _ _ c.expr-first.result c.in_err-values.ensures c.expr-first.ensures tt))
 
 pub nullif_args-returns-in_err-next : goal.nullif_args-returns-in_err-next
 nullif_args-returns-in_err-next t c =
-    let first = c.in_ok-first.ensures in
-    told _ _ c.from_residual-in_err-next.result c.from_residual-in_err-next.ensures (lacks c.args.tokens.now c.in_ok-first.next _ (has_read c.in_ok-first.first (noted started) first.1) c.in_err-next.ensures)
+    with_read _ _ _ c.expr-first.result c.in_ok-values.ensures c.expr-first.ensures (λ x q p.
+    told _ _ c.from_residual-in_err-next.result c.from_residual-in_err-next.ensures (lacks c.args.tokens.now x.1 _ (has_read x.0 (noted started) p.1) (rw q.1 at c.in_err-next.ensures)))
 
-pub nullif_args-returns-in_err-second : goal.nullif_args-returns-in_err-second
-nullif_args-returns-in_err-second t c =
-    let first = c.in_ok-first.ensures in
+pub nullif_args-returns-in_err-next-2 : goal.nullif_args-returns-in_err-next-2
+nullif_args-returns-in_err-next-2 t c =
     let comma = c.in_ok-next.ensures in
-    told _ _ c.from_residual-in_err-second.result c.from_residual-in_err-second.ensures (fails_in _ c.args.tokens.now _ (past_sign (codes ",") (has_read c.in_ok-first.first (noted started) first.1) comma.2) c.in_err-second.ensures)
+    with_read _ _ _ c.expr-first.result c.in_ok-values.ensures c.expr-first.ensures (λ x q p.
+    told _ _ c.from_residual-in_err-next-2.result c.from_residual-in_err-next-2.ensures (fails_in _ c.args.tokens.now _ (past_sign (codes ",") (has_read x.0 (noted started) p.1) (rw q.1 at comma.2)) (unread _ _ c.expr-second.result c.in_err-next-2.ensures c.expr-second.ensures tt)))
 
 pub nullif_args-returns : goal.nullif_args-returns
 nullif_args-returns t c =
-    let first = c.in_ok-first.ensures in
     let comma = c.in_ok-next.ensures in
-    let second = c.in_ok-second.ensures in
-    rw (c.place-at.ensures, c.in_ok-push-2.ensures.ok, c.in_ok-push.ensures.ok, c.new-values.ensures) (omega (arith, first.0, comma.0, second.0), is_done (has_read c.in_ok-second.second (past_sign (codes ",") (has_read c.in_ok-first.first (noted started) first.1) comma.2) second.1))
+    with_read _ _ _ c.expr-first.result c.in_ok-values.ensures c.expr-first.ensures (λ x q p.
+    with_read _ _ _ c.expr-second.result c.in_ok-next-2.ensures c.expr-second.ensures (λ y u v.
+    rw (c.place-at.ensures, u.0, q.0, u.1) (omega (arith, p.0, q.1, comma.0, v.0), is_done (has_read y.0 (past_sign (codes ",") (has_read x.0 (noted started) p.1) (rw q.1 at comma.2)) v.1))))
 
 pub call-returns-in-None : goal.call-returns-in-None
 call-returns-in-None t c = λ s b I.
