@@ -1,7 +1,7 @@
 // The book of a warehouse: the moment, the snapshots, the versions and the environments.
 use crate::versions::Versions;
 use mesh_base::{Envs, Snapshots};
-use mesh_list::{Duplicate, Memory, Same};
+use mesh_list::{Duplicate, Memory, Same, both};
 
 /// What a warehouse records beside its tables and views. `moment` is in seconds since 1970-01-01T00:00:00 UTC. Any lists
 /// make a book; `book_fault` tells whether it is a well-formed one.
@@ -15,11 +15,13 @@ pub struct Book {
 
 impl Duplicate for Book {
     fn copy(&self) -> Result<Book, Memory> {
+        let snapshots = self.snapshots.copy()?;
+        let (versions, environments) = both(&self.versions, &self.environments)?;
         Ok(Book {
             moment: self.moment,
-            snapshots: self.snapshots.copy()?,
-            versions: self.versions.copy()?,
-            environments: self.environments.copy()?,
+            snapshots,
+            versions,
+            environments,
         })
     }
 }

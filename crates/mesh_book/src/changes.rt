@@ -1,12 +1,15 @@
 // What each kind of change makes of a book. At `Err` the book is as it was.
-ghost use Rattle.std.specs.Prelude.{◌≡◌, IfOk, OnErr, OnOk};
+ghost use Rattle.std.specs.Prelude.{◌≡◌, IfOk, OnErr, OnOk, if◌then◌else◌};
 ghost use Rattle.std.specs.Option.{option_copied};
-ghost use Rattle.mesh_book.specs.Changes.{delete_env, delete_snapshot, empty_book, expire, finalize, forget_version, joined, make_table, make_view, new_version, previous_of, put, put_snapshot, raise_moment, record_marks, record_range, set_pending, with_refs};
+ghost use Rattle.mesh_list.specs.Keyed.{found, without};
+ghost use Rattle.mesh_values.specs.Names.{name_cmp};
+ghost use Rattle.mesh_base.specs.Keys.{snapshot_ref};
+ghost use Rattle.mesh_book.specs.Changes.{delete_env, delete_snapshot, empty_book, expire, finalize, forget_version, joined, make_table, make_view, new_version, previous_of, put, put_snapshot, raise_moment, record_marks, record_range, set_pending, version_object, with_refs, with_version};
 
 use crate::book::Book;
-use crate::versions::Version;
+use crate::versions::{Version, Versions};
 use mesh_base::{Env, Marks, Ref, Refs, Snapshot};
-use mesh_list::{Duplicate, Keyed, Memory, Register, Seq};
+use mesh_list::{Duplicate, Keyed, Memory, Register, Seq, both};
 use mesh_time::Ranges;
 use mesh_values::{Name, Str};
 use std::alloc::Global;
@@ -37,23 +40,21 @@ impl Book {
         ensures ok { OnOk result (self.new ≡ put_snapshot self.old snapshot) }
         ensures err { OnErr result (self.new ≡ self.old) }
     {
-        let key = Ref {
-            name: snapshot.name.copy()?,
-            fingerprint: snapshot.fingerprint,
-        };
-        let object = snapshot.object.copy()?;
-        if self.versions.find(&object).is_some() {
-            put(&mut self.snapshots, &key, snapshot)?;
-            return Ok(());
-        }
-        self.versions.place(unmade(object.copy()?))?;
-        match put(&mut self.snapshots, &key, snapshot) {
-            Ok(()) => Ok(()),
-            Err(refused) => {
-                self.versions.remove(&object);
-                Err(refused)
-            }
-        }
+        let (key, object) = key_and_object(&snapshot)?;
+        self.put_under(&key, &object, snapshot)
+    }
+
+    // The same for a snapshot whose key and object are copied already.
+    fn put_under(&mut self, key: &Ref, object: &Name, snapshot: Snapshot) -> Result<(), Memory>
+        requires key { key.now ≡ snapshot_ref snapshot }
+        requires object { object.now ≡ snapshot.object }
+        ensures ok { OnOk result (self.new ≡ put_snapshot self.old snapshot) }
+        ensures err { OnErr result (self.new ≡ self.old) }
+    {
+        let added = add_version(&mut self.versions, object)?;
+        let done = put(&mut self.snapshots, key, snapshot);
+        take_back(&mut self.versions, object, added && done.is_err());
+        done
     }
 
     /// The object is a new table: its version, where there is one, is made and has no ranges and no marks.
@@ -210,6 +211,42 @@ fn put<T: Keyed>(list: &mut Register<T>, key: &T::Key, item: T) -> Result<(), Me
     }
     list.place(item)?;
     Ok(())
+}
+
+// A snapshot's key, and its object.
+fn key_and_object(snapshot: &Snapshot) -> Result<(Ref, Name), Memory>
+    ensures { IfOk result (λ made. made ≡ (snapshot_ref snapshot.now, snapshot.now.object)) }
+{
+    let (name, object) = both(&snapshot.name, &snapshot.object)?;
+    Ok((
+        Ref {
+            name,
+            fingerprint: snapshot.fingerprint,
+        },
+        object,
+    ))
+}
+
+// Gives the object a version where it has none, and answers whether it did. Without that version the versions are as before.
+fn add_version(versions: &mut Versions, object: &Name) -> Result<bool, Memory>
+    ensures ok { OnOk result (versions.new ≡ with_version (found name_cmp version_object object.now versions.old) object.now versions.old) }
+    ensures back { IfOk result (λ added. (if added then without name_cmp version_object object.now versions.new else versions.new) ≡ versions.old) }
+    ensures err { OnErr result (versions.new ≡ versions.old) }
+{
+    if versions.find(object).is_some() {
+        return Ok(false);
+    }
+    versions.place(unmade(object.copy()?))?;
+    Ok(true)
+}
+
+// Takes the object's version out, if that is wanted.
+fn take_back(versions: &mut Versions, object: &Name, wanted: bool)
+    ensures { versions.new ≡ (if wanted then without name_cmp version_object object.now versions.old else versions.old) }
+{
+    if wanted {
+        versions.remove(object);
+    }
 }
 
 fn unmade(object: Name) -> Version

@@ -3,7 +3,7 @@ ghost use Rattle.mesh_values.specs.Names.{name_cmp};
 ghost use Rattle.mesh_values.specs.NameOrder.{names_exact, names_total};
 
 use mesh_base::Marks;
-use mesh_list::{Duplicate, Keyed, Memory, Register, Same};
+use mesh_list::{Duplicate, Keyed, Memory, Register, Same, both};
 use mesh_time::Ranges;
 use mesh_values::Name;
 use std::cmp::Ordering;
@@ -42,11 +42,13 @@ impl Keyed for Version {
 
 impl Duplicate for Version {
     fn copy(&self) -> Result<Version, Memory> {
+        let object = self.object.copy()?;
+        let (ranges, marks) = both(&self.ranges, &self.marks)?;
         Ok(Version {
-            object: self.object.copy()?,
+            object,
             made: self.made,
-            ranges: self.ranges.copy()?,
-            marks: self.marks.copy()?,
+            ranges,
+            marks,
         })
     }
 }
