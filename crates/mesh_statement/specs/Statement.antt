@@ -90,10 +90,13 @@ property file p before (k ∷ ks) = do
   more ← put file known (first_at ks) name (take n ks)
   Ok (record { parts = more; before = end_of k.end (take n ks); rest = drop n ks })
 
--- a sign that has to stand here
+-- a sign that has to stand here: its end, and what stands behind it
+abbrev pub stands : List ℕ → ℕ → List Token → Result (ℕ × List Token) ReadFault
+stands sign before [] = Err (broken before)
+stands sign before (k ∷ ks) = provided (is_sign sign k) (k.end, ks) (broken before)
+
 abbrev pub expect : List ℕ → Parts → ℕ → List Token → Result Read ReadFault
-expect sign p before [] = Err (broken before)
-expect sign p before (k ∷ ks) = provided (is_sign sign k) (record { parts = p; before = k.end; rest = ks }) (broken before)
+expect sign p before ts = stands sign before ts >>= λ r. Ok (record { parts = p; before = r.0; rest = r.1 })
 
 abbrev pub begins : List ℕ → List Token → Bool
 begins sign [] = false
