@@ -3,7 +3,7 @@ ghost use Rattle.std.specs.Prelude.{◌≡◌, IfOk, length, map};
 ghost use Rattle.std.specs.Char.{to_ascii_uppercase};
 ghost use Rattle.mesh_tokens.specs.Gives.{Gives};
 ghost use Rattle.mesh_statement.specs.Faults.{bad};
-ghost use Rattle.mesh_statement.specs.Kinds.{kind_or_fault, first_at, path_text, time_word, is_day_format, is_false, is_idle, noted, file_named, with_path, with_time, entry_value, entry, one_entry, entries_from, no_entries, entries_in, plain, seed, incremental, whole, kind_value, kind_word};
+ghost use Rattle.mesh_statement.specs.Kinds.{kind_or_fault, first_at, path_text, time_word, is_day_format, is_false, is_idle, noted, file_named, with_path, with_time, entry_value, entry, entry_behind, one_entry, entries_from, no_entries, entries_in, plain, seed, incremental, whole, kind_value, kind_word};
 ghost use Rattle.mesh_statement.specs.Answers.{GivesAs};
 ghost use Rattle.mesh_statement.specs.Values.{text as text_of};
 ghost use Rattle.mesh_statement.specs.Views.{seen};
@@ -233,6 +233,28 @@ fn entry(
     entry_value(alloc, file, entries, at, name, value)
 }
 
+// An entry behind the token that is its name, and what stands behind it.
+fn entry_behind<'a>(
+    alloc: Global,
+    file: &[u8],
+    at: u64,
+    kind: KindWord,
+    entries: &mut Entries,
+    first: &Token,
+    name: &[u8],
+    tokens: &'a [Token],
+) -> Result<&'a [Token], ReadFault>
+    ensures { GivesAs (λ r. (entries.new, r.now)) result (entry_behind file.now (bad at kind_word) kind entries.old first.now name.now tokens.now) }
+{
+    let length = value_len(alloc, true, first.end, tokens)?;
+    let (value, rest) = tokens.split_at(length);
+    entry(alloc, file, kind, entries, first.start, name, value)?;
+    match behind(rest) {
+        Some(rest) => Ok(rest),
+        None => Err(bad(alloc, at, b"kind")),
+    }
+}
+
 // One entry, and what stands behind it.
 fn one_entry<'a>(
     alloc: Global,
@@ -250,13 +272,7 @@ fn one_entry<'a>(
     let Some(name) = word(first) else {
         return Err(bad(alloc, at, b"kind"));
     };
-    let length = value_len(alloc, true, first.end, more)?;
-    let (value, rest) = more.split_at(length);
-    entry(alloc, file, kind, entries, first.start, name, value)?;
-    match behind(rest) {
-        Some(rest) => Ok(rest),
-        None => Err(bad(alloc, at, b"kind")),
-    }
+    entry_behind(alloc, file, at, kind, entries, first, name, more)
 }
 
 fn entries_from(

@@ -1,8 +1,8 @@
 // The properties of a statement, one after the other.
-ghost use Rattle.std.specs.Prelude.{◌≡◌, length};
+ghost use Rattle.std.specs.Prelude.{◌≡◌, ◌≤◌, IfOk, length};
 ghost use Rattle.mesh_tokens.specs.Gives.{Gives};
 ghost use Rattle.mesh_statement.specs.Answers.{GivesAs};
-ghost use Rattle.mesh_statement.specs.Statement.{Read, no_parts, end_of, some_tokens, property, stands, begins, one_property, properties, model_word, statement};
+ghost use Rattle.mesh_statement.specs.Statement.{Read, no_parts, end_of, value_size, valued, property, stands, begins, one_property, properties, model_word, statement};
 
 use crate::brackets::value_len;
 use crate::faults::broken;
@@ -24,15 +24,35 @@ pub fn end_of(before: u64, tokens: &[Token]) -> u64
     end
 }
 
-// A value has a token at least.
-fn some_tokens(before: u64, length: usize) -> Result<usize, ReadFault>
-    ensures { Gives result (some_tokens before length) }
+// How many tokens a value has, which are one at least.
+#[tactic(auto, unfolding(crate::specs::Statement::value_size))]
+fn value_size(alloc: Global, any: bool, before: u64, tokens: &[Token]) -> Result<usize, ReadFault>
+    ensures value { Gives result (value_size any before tokens.now) }
+    ensures within { IfOk result (λ n. n ≤ length tokens.now) }
 {
+    let length = value_len(alloc, any, before, tokens)?;
     if length == 0 {
         Err(broken(before))
     } else {
         Ok(length)
     }
+}
+
+// The value of a property, behind its name, which ends at byte `before`: the end of its last token, and the tokens behind it.
+fn valued<'a>(
+    alloc: Global,
+    file: &[u8],
+    parts: &mut Parts,
+    before: u64,
+    name: &[u8],
+    tokens: &'a [Token],
+) -> Result<(u64, &'a [Token]), ReadFault>
+    ensures { GivesAs (λ r. record { parts = parts.new; before = r.0; rest = r.1.now }) result (valued file.now parts.old before name.now tokens.now) }
+{
+    let length = value_size(alloc, is_free(name), before, tokens)?;
+    let (value, rest) = tokens.split_at(length);
+    put(alloc, file, parts, first_at(tokens), name, value)?;
+    Ok((end_of(before, value), rest))
 }
 
 // One property: the end of its last token, and the tokens behind it.
@@ -52,11 +72,7 @@ fn property<'a>(
         return Err(broken(before));
     };
     admitted(alloc, parts, first.start, name)?;
-    let length = value_len(alloc, is_free(name), first.end, more)?;
-    let length = some_tokens(first.end, length)?;
-    let (value, rest) = more.split_at(length);
-    put(alloc, file, parts, first_at(more), name, value)?;
-    Ok((end_of(first.end, value), rest))
+    valued(alloc, file, parts, first.end, name, more)
 }
 
 // A sign that has to stand here: its end, and the tokens behind it.
