@@ -18,9 +18,13 @@ module _ (file : List ℕ) (P : Parts → List Token → Type 0)
   after true p k ks fault r e h = let same : (record { parts = p; before = k.end; rest = ks }) ≡ r = cc e in subst (λ (r : Read). P r.parts r.rest) same (by_sign p k ks h)
   after false p k ks fault r e h = cc e
 
+  stood : (b : Bool) (p : Parts) (k : Token) (ks : List Token) (fault : ReadFault) (r : Read) → (provided b (k.end, ks) fault >>= λ (s : ℕ × List Token). Ok (record { parts = p; before = s.0; rest = s.1 })) ≡ Ok r → P p (k ∷ ks) → P r.parts r.rest
+  stood true p k ks fault r e h = after true p k ks fault r e h
+  stood false p k ks fault r e h = cc e
+
   expected : (sign : List ℕ) (p : Parts) (before : ℕ) (ts : List Token) (r : Read) → expect sign p before ts ≡ Ok r → P p ts → P r.parts r.rest
   expected sign p before [] r e h = cc e
-  expected sign p before (k ∷ ks) r e h = after (is_sign sign k) p k ks (broken before) r e h
+  expected sign p before (k ∷ ks) r e h = stood (is_sign sign k) p k ks (broken before) r e h
 
   closed : (r : Read) (s : Bool × Read) → closes r ≡ Ok s → P r.parts r.rest → P s.1.parts s.1.rest
   closed r s e h =

@@ -10,11 +10,11 @@ use Rattle.mesh_tokens.specs.Gives.{◌>>=◌}
 use Rattle.mesh_tokens.specs.declared.faults.ReadFault.{ReadFault}
 use Rattle.mesh_tokens.specs.declared.tokens.Token.{Token}
 use Rattle.mesh_statement.specs.declared.parts.Parts.{Parts}
-use Rattle.mesh_statement.specs.Brackets.{or_fault, value_len}
+use Rattle.mesh_statement.specs.Brackets.{or_fault}
 use Rattle.mesh_statement.specs.Faults.{broken, bad, unknown, provided}
 use Rattle.mesh_statement.specs.Kinds.{kind_value, first_at, is_one_of}
 use Rattle.mesh_statement.specs.Named.{has_schema}
-use Rattle.mesh_statement.specs.Statement.{Read, noted, is_free, is_property, put_name, put, admitted, end_of, some_tokens, property, statement}
+use Rattle.mesh_statement.specs.Statement.{Read, noted, is_free, is_property, put_name, put, admitted, end_of, value_size, property, statement}
 use Rattle.mesh_statement.specs.Values.{word, name_of, unit_of, start_of, cron_value, columns_value}
 use Rattle.mesh_statement.proofs.Kept.{bound, stated}
 use Rattle.mesh_statement.proofs.Schemas.{schema_read}
@@ -32,12 +32,10 @@ steps : (file : List ℕ) (p : Parts) (before : ℕ) (k : Token) (ks : List Toke
 steps file p before k ks r e =
     let last : ℕ → Parts → Result Read ReadFault = λ n more. Ok (record { parts = more; before = end_of k.end (take n ks); rest = drop n ks }) in
     let value : List ℕ → Parts → ℕ → Result Read ReadFault = λ name known n. put file known (first_at ks) name (take n ks) >>= λ more. last n more in
-    let some_value : List ℕ → Parts → ℕ → Result Read ReadFault = λ name known n. some_tokens k.end n >>= λ n. value name known n in
-    let behind : List ℕ → Parts → Result Read ReadFault = λ name known. value_len (is_free name) k.end [] ks >>= λ n. some_value name known n in
+    let behind : List ℕ → Parts → Result Read ReadFault = λ name known. value_size (is_free name) k.end ks >>= λ n. value name known n in
     let name = bound (or_fault (broken before) (word k)) (λ name. admitted p k.start name >>= λ known. behind name known) r e in
     let known = bound (admitted p k.start name.0) (λ known. behind name.0 known) r name.2 in
-    let n = bound (value_len (is_free name.0) k.end [] ks) (λ n. some_value name.0 known.0 n) r known.2 in
-    let some = bound (some_tokens k.end n.0) (λ n. value name.0 known.0 n) r n.2 in
+    let some = bound (value_size (is_free name.0) k.end ks) (λ n. value name.0 known.0 n) r known.2 in
     let more = bound (put file known.0 (first_at ks) name.0 (take some.0 ks)) (λ more. last some.0 more) r some.2 in
     let same : (record { parts = more.0; before = end_of k.end (take some.0 ks); rest = drop some.0 ks }) ≡ r = cc more.2 in
     record {

@@ -158,15 +158,20 @@ entry file kind e at name value =
     else if is_one_of e.seen name || is_empty value then Err (bad at name)
     else entry_value file (noted e name) at name value
 
+-- an entry, behind the token that is its name, and what stands behind it
+abbrev pub entry_behind : List ℕ → ReadFault → KindWord → Entries → Token → List ℕ → List Token → Result (Entries × List Token) ReadFault
+entry_behind file fault kind e k name ks = do
+  n ← value_len true k.end [] ks
+  more ← entry file kind e k.start name (take n ks)
+  rest ← or_fault fault (behind (drop n ks))
+  Ok (more, rest)
+
 -- one entry behind those that are known, and what stands behind it
 abbrev pub one_entry : List ℕ → ReadFault → KindWord → Entries → List Token → Result (Entries × List Token) ReadFault
 one_entry file fault kind e [] = Err fault
 one_entry file fault kind e (k ∷ ks) = do
   name ← or_fault fault (word k)
-  n ← value_len true k.end [] ks
-  more ← entry file kind e k.start name (take n ks)
-  rest ← or_fault fault (behind (drop n ks))
-  Ok (more, rest)
+  entry_behind file fault kind e k name ks
 
 -- all entries; so many tokens are left at most
 unfoldable pub entries_from : List ℕ → ℕ → ReadFault → KindWord → Entries → List Token → Result Entries ReadFault

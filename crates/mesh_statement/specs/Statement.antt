@@ -80,20 +80,31 @@ abbrev pub some_tokens : ℕ → ℕ → Result ℕ ReadFault
 some_tokens before zero = Err (broken before)
 some_tokens before (suc n) = Ok (suc n)
 
+-- how many tokens a value has
+unfoldable pub value_size : Bool → ℕ → List Token → Result ℕ ReadFault
+value_size any before ks = value_len any before [] ks >>= λ n. some_tokens before n
+
+-- the value of a property, behind its name, which ends here
+abbrev pub valued : List ℕ → Parts → ℕ → List ℕ → List Token → Result Read ReadFault
+valued file p before name ks = do
+  n ← value_size (is_free name) before ks
+  more ← put file p (first_at ks) name (take n ks)
+  Ok (record { parts = more; before = end_of before (take n ks); rest = drop n ks })
+
 abbrev pub property : List ℕ → Parts → ℕ → List Token → Result Read ReadFault
 property file p before [] = Err (broken before)
 property file p before (k ∷ ks) = do
   name ← or_fault (broken before) (word k)
   known ← admitted p k.start name
-  n ← value_len (is_free name) k.end [] ks
-  n ← some_tokens k.end n
-  more ← put file known (first_at ks) name (take n ks)
-  Ok (record { parts = more; before = end_of k.end (take n ks); rest = drop n ks })
+  valued file known k.end name ks
 
--- a sign that has to stand here
+-- a sign that has to stand here: its end, and what stands behind it
+abbrev pub stands : List ℕ → ℕ → List Token → Result (ℕ × List Token) ReadFault
+stands sign before [] = Err (broken before)
+stands sign before (k ∷ ks) = provided (is_sign sign k) (k.end, ks) (broken before)
+
 abbrev pub expect : List ℕ → Parts → ℕ → List Token → Result Read ReadFault
-expect sign p before [] = Err (broken before)
-expect sign p before (k ∷ ks) = provided (is_sign sign k) (record { parts = p; before = k.end; rest = ks }) (broken before)
+expect sign p before ts = stands sign before ts >>= λ r. Ok (record { parts = p; before = r.0; rest = r.1 })
 
 abbrev pub begins : List ℕ → List Token → Bool
 begins sign [] = false

@@ -3,7 +3,7 @@ ghost use Rattle.std.specs.Prelude.{◌≡◌, IfOk, length, map};
 ghost use Rattle.std.specs.Char.{to_ascii_uppercase};
 ghost use Rattle.mesh_tokens.specs.Gives.{Gives};
 ghost use Rattle.mesh_statement.specs.Faults.{bad};
-ghost use Rattle.mesh_statement.specs.Kinds.{kind_or_fault, first_at, path_text, time_word, is_day_format, is_false, is_idle, noted, file_named, with_path, with_time, entry_value, entry, one_entry, entries_from, no_entries, entries_in, plain, seed, incremental, whole, kind_value, kind_word};
+ghost use Rattle.mesh_statement.specs.Kinds.{kind_or_fault, first_at, path_text, time_word, is_day_format, is_false, is_idle, noted, file_named, with_path, with_time, entry_value, entry, entry_behind, one_entry, entries_from, no_entries, entries_in, plain, seed, incremental, whole, kind_value, kind_word};
 ghost use Rattle.mesh_statement.specs.Answers.{GivesAs};
 ghost use Rattle.mesh_statement.specs.Values.{text as text_of};
 ghost use Rattle.mesh_statement.specs.Views.{seen};
@@ -136,13 +136,12 @@ fn is_idle(name: &[u8], value: &[Token]) -> bool
     }
 }
 
-fn noted(alloc: Global, entries: Entries, name: &[u8]) -> Result<Entries, Memory>
-    ensures { IfOk result (λ more. more ≡ noted entries name.now) }
+fn noted(alloc: Global, entries: &mut Entries, name: &[u8]) -> Result<(), Memory>
+    ensures { IfOk result (λ done. entries.new ≡ noted entries.old name.now) }
 {
-    let mut more = entries;
     let name = u8::copy_items(alloc, name)?;
-    more.seen.push(name)?;
-    Ok(more)
+    entries.seen.push(name)?;
+    Ok(())
 }
 
 // The file of the project that a path in a model's file names.
@@ -158,48 +157,46 @@ fn file_named(alloc: Global, file: &[u8], path: Option<&[u8]>) -> Result<Option<
 fn with_path(
     alloc: Global,
     file: &[u8],
-    entries: Entries,
+    entries: &mut Entries,
     name: &[u8],
     value: &[Token],
-) -> Result<Entries, ReadFault>
-    ensures { Gives result (with_path file.now entries name.now value.now) }
+) -> Result<(), ReadFault>
+    ensures { GivesAs (λ done. entries.new) result (with_path file.now entries.old name.now value.now) }
 {
     let at = first_at(value);
     let Some(path) = file_named(alloc, file, path_text(value))? else {
         return Err(bad(alloc, at, name));
     };
-    let mut more = entries;
-    more.path = Some(path);
-    more.path_at = at;
-    Ok(more)
+    entries.path = Some(path);
+    entries.path_at = at;
+    Ok(())
 }
 
 fn with_time(
     alloc: Global,
-    entries: Entries,
+    entries: &mut Entries,
     name: &[u8],
     value: &[Token],
-) -> Result<Entries, ReadFault>
-    ensures { Gives result (with_time entries name.now value.now) }
+) -> Result<(), ReadFault>
+    ensures { GivesAs (λ done. entries.new) result (with_time entries.old name.now value.now) }
 {
     let Some(time) = time_word(value) else {
         return Err(bad(alloc, first_at(value), name));
     };
     let time = u8::copy_items(alloc, time)?;
-    let mut more = entries;
-    more.time = Some(time);
-    Ok(more)
+    entries.time = Some(time);
+    Ok(())
 }
 
 fn entry_value(
     alloc: Global,
     file: &[u8],
-    entries: Entries,
+    entries: &mut Entries,
     at: u64,
     name: &[u8],
     value: &[Token],
-) -> Result<Entries, ReadFault>
-    ensures { Gives result (entry_value file.now entries at name.now value.now) }
+) -> Result<(), ReadFault>
+    ensures { GivesAs (λ done. entries.new) result (entry_value file.now entries.old at name.now value.now) }
 {
     if is_same(name, b"path") {
         return with_path(alloc, file, entries, name, value);
@@ -208,7 +205,7 @@ fn entry_value(
         return with_time(alloc, entries, name, value);
     }
     if is_idle(name, value) {
-        Ok(entries)
+        Ok(())
     } else {
         Err(outside(alloc, at, name))
     }
@@ -219,12 +216,12 @@ fn entry(
     alloc: Global,
     file: &[u8],
     kind: KindWord,
-    entries: Entries,
+    entries: &mut Entries,
     at: u64,
     name: &[u8],
     value: &[Token],
-) -> Result<Entries, ReadFault>
-    ensures { Gives result (entry file.now kind entries at name.now value.now) }
+) -> Result<(), ReadFault>
+    ensures { GivesAs (λ done. entries.new) result (entry file.now kind entries.old at name.now value.now) }
 {
     if !is_entry(kind, name) {
         return Err(unknown(alloc, at, name));
@@ -232,8 +229,30 @@ fn entry(
     if is_one_of(entries.seen.as_slice(), name) || value.is_empty() {
         return Err(bad(alloc, at, name));
     }
-    let more = noted(alloc, entries, name)?;
-    entry_value(alloc, file, more, at, name, value)
+    noted(alloc, entries, name)?;
+    entry_value(alloc, file, entries, at, name, value)
+}
+
+// An entry behind the token that is its name, and what stands behind it.
+fn entry_behind<'a>(
+    alloc: Global,
+    file: &[u8],
+    at: u64,
+    kind: KindWord,
+    entries: &mut Entries,
+    first: &Token,
+    name: &[u8],
+    tokens: &'a [Token],
+) -> Result<&'a [Token], ReadFault>
+    ensures { GivesAs (λ r. (entries.new, r.now)) result (entry_behind file.now (bad at kind_word) kind entries.old first.now name.now tokens.now) }
+{
+    let length = value_len(alloc, true, first.end, tokens)?;
+    let (value, rest) = tokens.split_at(length);
+    entry(alloc, file, kind, entries, first.start, name, value)?;
+    match behind(rest) {
+        Some(rest) => Ok(rest),
+        None => Err(bad(alloc, at, b"kind")),
+    }
 }
 
 // One entry, and what stands behind it.
@@ -242,10 +261,10 @@ fn one_entry<'a>(
     file: &[u8],
     at: u64,
     kind: KindWord,
-    entries: Entries,
+    entries: &mut Entries,
     tokens: &'a [Token],
-) -> Result<(Entries, &'a [Token]), ReadFault>
-    ensures { GivesAs (λ r. (r.0, r.1.now)) result (one_entry file.now (bad at kind_word) kind entries tokens.now) }
+) -> Result<&'a [Token], ReadFault>
+    ensures { GivesAs (λ r. (entries.new, r.now)) result (one_entry file.now (bad at kind_word) kind entries.old tokens.now) }
 {
     let [first, more @ ..] = tokens else {
         return Err(bad(alloc, at, b"kind"));
@@ -253,13 +272,7 @@ fn one_entry<'a>(
     let Some(name) = word(first) else {
         return Err(bad(alloc, at, b"kind"));
     };
-    let length = value_len(alloc, true, first.end, more)?;
-    let (value, rest) = more.split_at(length);
-    let entries = entry(alloc, file, kind, entries, first.start, name, value)?;
-    match behind(rest) {
-        Some(rest) => Ok((entries, rest)),
-        None => Err(bad(alloc, at, b"kind")),
-    }
+    entry_behind(alloc, file, at, kind, entries, first, name, more)
 }
 
 fn entries_from(
@@ -277,8 +290,7 @@ fn entries_from(
         if rest.is_empty() {
             return Ok(entries);
         }
-        let (more, left) = one_entry(alloc, file, at, kind, entries, rest)?;
-        entries = more;
+        let left = one_entry(alloc, file, at, kind, &mut entries, rest)?;
         rest = left;
     }
     if rest.is_empty() {

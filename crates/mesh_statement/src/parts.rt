@@ -1,6 +1,6 @@
 // The properties that have been read.
 ghost use Rattle.std.specs.Prelude.{◌≡◌, IfOk};
-ghost use Rattle.mesh_tokens.specs.Gives.{Gives};
+ghost use Rattle.mesh_statement.specs.Answers.{GivesAs};
 ghost use Rattle.mesh_statement.specs.Statement.{no_parts, noted, put, put_name, put_unit, put_start, put_kind, put_cron, put_columns, admitted};
 
 use crate::faults::{bad, unknown};
@@ -40,23 +40,22 @@ pub(crate) fn no_parts(alloc: Global) -> Parts
     }
 }
 
-fn noted(alloc: Global, parts: Parts, name: &[u8]) -> Result<Parts, Memory>
-    ensures { IfOk result (λ more. more ≡ noted parts name.now) }
+fn noted(alloc: Global, parts: &mut Parts, name: &[u8]) -> Result<(), Memory>
+    ensures { IfOk result (λ done. parts.new ≡ noted parts.old name.now) }
 {
-    let mut more = parts;
     let name = u8::copy_items(alloc, name)?;
-    more.seen.push(name)?;
-    Ok(more)
+    parts.seen.push(name)?;
+    Ok(())
 }
 
-/// The parts with a property's name, at byte `at`, which is known and was not there before.
+/// Adds a property's name, at byte `at`, which is known and was not there before.
 pub(crate) fn admitted(
     alloc: Global,
-    parts: Parts,
+    parts: &mut Parts,
     at: u64,
     name: &[u8],
-) -> Result<Parts, ReadFault>
-    ensures { Gives result (admitted parts at name.now) }
+) -> Result<(), ReadFault>
+    ensures { GivesAs (λ done. parts.new) result (admitted parts.old at name.now) }
 {
     if !is_property(name) {
         return Err(unknown(alloc, at, name));
@@ -67,82 +66,76 @@ pub(crate) fn admitted(
     Ok(noted(alloc, parts, name)?)
 }
 
-fn put_name(alloc: Global, parts: Parts, at: u64, value: &[Token]) -> Result<Parts, ReadFault>
-    ensures { Gives result (put_name parts at value.now) }
+fn put_name(alloc: Global, parts: &mut Parts, at: u64, value: &[Token]) -> Result<(), ReadFault>
+    ensures { GivesAs (λ done. parts.new) result (put_name parts.old at value.now) }
 {
     let Some(name) = name_of(alloc, value)? else {
         return Err(bad(alloc, at, b"name"));
     };
-    let mut more = parts;
-    more.name = Some(name);
-    Ok(more)
+    parts.name = Some(name);
+    Ok(())
 }
 
 fn put_kind(
     alloc: Global,
     file: &[u8],
-    parts: Parts,
+    parts: &mut Parts,
     at: u64,
     value: &[Token],
-) -> Result<Parts, ReadFault>
-    ensures { Gives result (put_kind file.now parts at value.now) }
+) -> Result<(), ReadFault>
+    ensures { GivesAs (λ done. parts.new) result (put_kind file.now parts.old at value.now) }
 {
     let kind = kind_value(alloc, file, at, value)?;
-    let mut more = parts;
-    more.kind = Some(kind);
-    Ok(more)
+    parts.kind = Some(kind);
+    Ok(())
 }
 
-fn put_cron(alloc: Global, parts: Parts, at: u64, value: &[Token]) -> Result<Parts, ReadFault>
-    ensures { Gives result (put_cron parts at value.now) }
+fn put_cron(alloc: Global, parts: &mut Parts, at: u64, value: &[Token]) -> Result<(), ReadFault>
+    ensures { GivesAs (λ done. parts.new) result (put_cron parts.old at value.now) }
 {
     let cron = cron_value(alloc, at, value)?;
-    let mut more = parts;
-    more.cron = Some(cron);
-    Ok(more)
+    parts.cron = Some(cron);
+    Ok(())
 }
 
-fn put_unit(alloc: Global, parts: Parts, at: u64, value: &[Token]) -> Result<Parts, ReadFault>
-    ensures { Gives result (put_unit parts at value.now) }
+fn put_unit(alloc: Global, parts: &mut Parts, at: u64, value: &[Token]) -> Result<(), ReadFault>
+    ensures { GivesAs (λ done. parts.new) result (put_unit parts.old at value.now) }
 {
     let Some(unit) = unit_of(value) else {
         return Err(bad(alloc, at, b"interval_unit"));
     };
-    let mut more = parts;
-    more.unit = Some(unit);
-    Ok(more)
+    parts.unit = Some(unit);
+    Ok(())
 }
 
-fn put_start(alloc: Global, parts: Parts, at: u64, value: &[Token]) -> Result<Parts, ReadFault>
-    ensures { Gives result (put_start parts at value.now) }
+fn put_start(alloc: Global, parts: &mut Parts, at: u64, value: &[Token]) -> Result<(), ReadFault>
+    ensures { GivesAs (λ done. parts.new) result (put_start parts.old at value.now) }
 {
     let Some(start) = start_of(value) else {
         return Err(bad(alloc, at, b"start"));
     };
-    let mut more = parts;
-    more.start = Some(start);
-    Ok(more)
+    parts.start = Some(start);
+    Ok(())
 }
 
-fn put_columns(alloc: Global, parts: Parts, at: u64, value: &[Token]) -> Result<Parts, ReadFault>
-    ensures { Gives result (put_columns parts at value.now) }
+fn put_columns(alloc: Global, parts: &mut Parts, at: u64, value: &[Token]) -> Result<(), ReadFault>
+    ensures { GivesAs (λ done. parts.new) result (put_columns parts.old at value.now) }
 {
     let columns = columns_value(alloc, at, value)?;
-    let mut more = parts;
-    more.columns = columns;
-    Ok(more)
+    parts.columns = columns;
+    Ok(())
 }
 
-/// The parts with the value of a property in a model's file, which begins at byte `at`.
+/// Puts in the value of a property in a model's file, which begins at byte `at`.
 pub(crate) fn put(
     alloc: Global,
     file: &[u8],
-    parts: Parts,
+    parts: &mut Parts,
     at: u64,
     name: &[u8],
     value: &[Token],
-) -> Result<Parts, ReadFault>
-    ensures { Gives result (put file.now parts at name.now value.now) }
+) -> Result<(), ReadFault>
+    ensures { GivesAs (λ done. parts.new) result (put file.now parts.old at name.now value.now) }
 {
     if is_same(name, b"name") {
         put_name(alloc, parts, at, value)
@@ -157,6 +150,6 @@ pub(crate) fn put(
     } else if is_same(name, b"columns") {
         put_columns(alloc, parts, at, value)
     } else {
-        Ok(parts)
+        Ok(())
     }
 }

@@ -1,8 +1,8 @@
 // The properties of a statement, one after the other.
-ghost use Rattle.std.specs.Prelude.{◌≡◌, length};
+ghost use Rattle.std.specs.Prelude.{◌≡◌, ◌≤◌, IfOk, length};
 ghost use Rattle.mesh_tokens.specs.Gives.{Gives};
 ghost use Rattle.mesh_statement.specs.Answers.{GivesAs};
-ghost use Rattle.mesh_statement.specs.Statement.{Read, end_of, some_tokens, property, expect, begins, closes, goes_on, one_property, properties, model_word, statement};
+ghost use Rattle.mesh_statement.specs.Statement.{Read, no_parts, end_of, value_size, valued, property, stands, begins, one_property, properties, model_word, statement};
 
 use crate::brackets::value_len;
 use crate::faults::broken;
@@ -24,10 +24,13 @@ pub fn end_of(before: u64, tokens: &[Token]) -> u64
     end
 }
 
-// A value has a token at least.
-fn some_tokens(before: u64, length: usize) -> Result<usize, ReadFault>
-    ensures { Gives result (some_tokens before length) }
+// How many tokens a value has, which are one at least.
+#[tactic(auto, unfolding(crate::specs::Statement::value_size))]
+fn value_size(alloc: Global, any: bool, before: u64, tokens: &[Token]) -> Result<usize, ReadFault>
+    ensures value { Gives result (value_size any before tokens.now) }
+    ensures within { IfOk result (λ n. n ≤ length tokens.now) }
 {
+    let length = value_len(alloc, any, before, tokens)?;
     if length == 0 {
         Err(broken(before))
     } else {
@@ -35,15 +38,32 @@ fn some_tokens(before: u64, length: usize) -> Result<usize, ReadFault>
     }
 }
 
-// One property, the end of its last token, and the tokens behind it.
+// The value of a property, behind its name, which ends at byte `before`: the end of its last token, and the tokens behind it.
+fn valued<'a>(
+    alloc: Global,
+    file: &[u8],
+    parts: &mut Parts,
+    before: u64,
+    name: &[u8],
+    tokens: &'a [Token],
+) -> Result<(u64, &'a [Token]), ReadFault>
+    ensures { GivesAs (λ r. record { parts = parts.new; before = r.0; rest = r.1.now }) result (valued file.now parts.old before name.now tokens.now) }
+{
+    let length = value_size(alloc, is_free(name), before, tokens)?;
+    let (value, rest) = tokens.split_at(length);
+    put(alloc, file, parts, first_at(tokens), name, value)?;
+    Ok((end_of(before, value), rest))
+}
+
+// One property: the end of its last token, and the tokens behind it.
 fn property<'a>(
     alloc: Global,
     file: &[u8],
-    parts: Parts,
+    parts: &mut Parts,
     before: u64,
     tokens: &'a [Token],
-) -> Result<(Parts, u64, &'a [Token]), ReadFault>
-    ensures { GivesAs (λ r. record { parts = r.0; before = r.1; rest = r.2.now }) result (property file.now parts before tokens.now) }
+) -> Result<(u64, &'a [Token]), ReadFault>
+    ensures { GivesAs (λ r. record { parts = parts.new; before = r.0; rest = r.1.now }) result (property file.now parts.old before tokens.now) }
 {
     let [first, more @ ..] = tokens else {
         return Err(broken(before));
@@ -51,27 +71,22 @@ fn property<'a>(
     let Some(name) = word(first) else {
         return Err(broken(before));
     };
-    let known = admitted(alloc, parts, first.start, name)?;
-    let length = value_len(alloc, is_free(name), first.end, more)?;
-    let length = some_tokens(first.end, length)?;
-    let (value, rest) = more.split_at(length);
-    let parts = put(alloc, file, known, first_at(more), name, value)?;
-    Ok((parts, end_of(first.end, value), rest))
+    admitted(alloc, parts, first.start, name)?;
+    valued(alloc, file, parts, first.end, name, more)
 }
 
-// A sign that has to stand here.
+// A sign that has to stand here: its end, and the tokens behind it.
 fn expect<'a>(
     sign: &[u8],
-    parts: Parts,
     before: u64,
     tokens: &'a [Token],
-) -> Result<(Parts, u64, &'a [Token]), ReadFault>
-    ensures { GivesAs (λ r. record { parts = r.0; before = r.1; rest = r.2.now }) result (expect sign.now parts before tokens.now) }
+) -> Result<(u64, &'a [Token]), ReadFault>
+    ensures { GivesAs (λ r. (r.0, r.1.now)) result (stands sign.now before tokens.now) }
 {
     match tokens {
         [first, rest @ ..] => {
             if is_sign(first, sign) {
-                Ok((parts, first.end, rest))
+                Ok((first.end, rest))
             } else {
                 Err(broken(before))
             }
@@ -89,86 +104,59 @@ fn begins(sign: &[u8], tokens: &[Token]) -> bool
     }
 }
 
-// The parenthesis that closes the properties.
-fn closes<'a>(
-    parts: Parts,
-    before: u64,
-    tokens: &'a [Token],
-) -> Result<(bool, Parts, u64, &'a [Token]), ReadFault>
-    ensures { GivesAs (λ r. (r.0, record { parts = r.1; before = r.2; rest = r.3.now })) result (closes (record { parts = parts; before = before; rest = tokens.now })) }
-{
-    let (parts, end, rest) = expect(b")", parts, before, tokens)?;
-    Ok((true, parts, end, rest))
-}
-
-fn goes_on<'a>(
-    parts: Parts,
-    before: u64,
-    tokens: &'a [Token],
-) -> Result<(bool, Parts, u64, &'a [Token]), ReadFault>
-    ensures { GivesAs (λ r. (r.0, record { parts = r.1; before = r.2; rest = r.3.now })) result (goes_on (record { parts = parts; before = before; rest = tokens.now })) }
-{
-    let (parts, end, rest) = expect(b",", parts, before, tokens)?;
-    if begins(b")", rest) {
-        closes(parts, end, rest)
-    } else {
-        Ok((false, parts, end, rest))
-    }
-}
-
 // One more property, and whether it is the last.
 fn one_property<'a>(
     alloc: Global,
     file: &[u8],
-    parts: Parts,
+    parts: &mut Parts,
     before: u64,
     tokens: &'a [Token],
-) -> Result<(bool, Parts, u64, &'a [Token]), ReadFault>
-    ensures { GivesAs (λ r. (r.0, record { parts = r.1; before = r.2; rest = r.3.now })) result (one_property file.now parts before tokens.now) }
+) -> Result<(bool, u64, &'a [Token]), ReadFault>
+    ensures { GivesAs (λ r. (r.0, record { parts = parts.new; before = r.1; rest = r.2.now })) result (one_property file.now parts.old before tokens.now) }
 {
-    let (parts, end, rest) = property(alloc, file, parts, before, tokens)?;
+    let (end, rest) = property(alloc, file, parts, before, tokens)?;
     if begins(b")", rest) {
-        closes(parts, end, rest)
-    } else {
-        goes_on(parts, end, rest)
+        let (end, rest) = expect(b")", end, rest)?;
+        return Ok((true, end, rest));
     }
+    let (end, rest) = expect(b",", end, rest)?;
+    if begins(b")", rest) {
+        let (end, rest) = expect(b")", end, rest)?;
+        return Ok((true, end, rest));
+    }
+    Ok((false, end, rest))
 }
 
 // The properties, up to the parenthesis that closes them.
 fn properties<'a>(
     alloc: Global,
     file: &[u8],
-    parts: Parts,
+    parts: &mut Parts,
     before: u64,
     tokens: &'a [Token],
-) -> Result<(Parts, u64, &'a [Token]), ReadFault>
-    ensures { GivesAs (λ r. record { parts = r.0; before = r.1; rest = r.2.now }) result (properties file.now (length tokens.now) parts before tokens.now) }
+) -> Result<(u64, &'a [Token]), ReadFault>
+    ensures { GivesAs (λ r. record { parts = parts.new; before = r.0; rest = r.1.now }) result (properties file.now (length tokens.now) parts.old before tokens.now) }
 {
-    let mut parts = parts;
     let mut before = before;
     let mut rest = tokens;
     for _ in 0..tokens.len() {
-        let (is_last, more, end, left) = one_property(alloc, file, parts, before, rest)?;
+        let (is_last, end, left) = one_property(alloc, file, parts, before, rest)?;
         if is_last {
-            return Ok((more, end, left));
+            return Ok((end, left));
         }
-        parts = more;
         before = end;
         rest = left;
     }
     Err(broken(before))
 }
 
-fn model_word<'a>(
-    alloc: Global,
-    tokens: &'a [Token],
-) -> Result<(Parts, u64, &'a [Token]), ReadFault>
-    ensures { GivesAs (λ r. record { parts = r.0; before = r.1; rest = r.2.now }) result (model_word tokens.now) }
+fn model_word(tokens: &[Token]) -> Result<(u64, &[Token]), ReadFault>
+    ensures { GivesAs (λ r. record { parts = no_parts; before = r.0; rest = r.1.now }) result (model_word tokens.now) }
 {
     match tokens {
         [first, rest @ ..] => {
             if is_word(first, b"model") {
-                Ok((no_parts(alloc), first.end, rest))
+                Ok((first.end, rest))
             } else {
                 Err(broken(0))
             }
@@ -186,8 +174,10 @@ pub fn read_statement<'a>(
 ) -> Result<(Parts, u64, &'a [Token]), ReadFault>
     ensures { GivesAs (λ r. record { parts = r.0; before = r.1; rest = r.2.now }) result (statement file.now tokens.now) }
 {
-    let (parts, before, rest) = model_word(alloc, tokens)?;
-    let (parts, before, rest) = expect(b"(", parts, before, rest)?;
-    let (parts, before, rest) = properties(alloc, file, parts, before, rest)?;
-    expect(b";", parts, before, rest)
+    let (before, rest) = model_word(tokens)?;
+    let (before, rest) = expect(b"(", before, rest)?;
+    let mut parts = no_parts(alloc);
+    let (before, rest) = properties(alloc, file, &mut parts, before, rest)?;
+    let (before, rest) = expect(b";", before, rest)?;
+    Ok((parts, before, rest))
 }
