@@ -10,10 +10,10 @@ use Rattle.mesh_tokens.specs.Gives.{◌>>=◌}
 use Rattle.mesh_tokens.specs.declared.faults.ReadFault.{ReadFault}
 use Rattle.mesh_tokens.specs.declared.tokens.Token.{Token}
 use Rattle.mesh_statement.specs.declared.parts.Parts.{Parts}
-use Rattle.mesh_statement.specs.Brackets.{or_fault, value_len}
+use Rattle.mesh_statement.specs.Brackets.{or_fault}
 use Rattle.mesh_statement.specs.Faults.{broken, bad, is_sign}
 use Rattle.mesh_statement.specs.Kinds.{kind_value, first_at, is_one_of}
-use Rattle.mesh_statement.specs.Statement.{Read, is_free, is_property, put, admitted, some_tokens, property, statement}
+use Rattle.mesh_statement.specs.Statement.{Read, is_free, is_property, put, admitted, value_size, property, statement}
 use Rattle.mesh_statement.specs.Values.{word, name_of, unit_of, start_of, cron_value, columns_value}
 use Rattle.mesh_statement.specs.Values as options
 use Rattle.mesh_statement.proofs.Kept.{stated}
@@ -96,10 +96,9 @@ property_named file p before (k ∷ ks) h =
     let words : have_words ks ≡ true = and_right _ _ h.1 in
     after_any Q (or_fault (broken before) (word k)) _ (λ name.
     after HasName Q (admitted p k.start name) _ (admitted_named p k.start name h.0) (λ known has.
-    after_any Q (value_len (is_free name) k.end [] ks) _ (λ n.
-    after_any Q (some_tokens k.end n) _ (λ n.
+    after_any Q (value_size (is_free name) k.end ks) _ (λ n.
     after HasName Q (put file known (first_at ks) name (take n ks)) _ (put_named file known (first_at ks) name (take n ks) has (taken n ks words)) (λ more found.
-    (found, dropped n ks words))))))
+    (found, dropped n ks words)))))
 
 pub statement_named : (file : List ℕ) (ts : List Token) (r : Read) → have_words ts ≡ true → statement file ts ≡ Ok r → is_name_if_any r.parts.name ≡ true
 statement_named file ts r words e =
