@@ -1,9 +1,9 @@
-// Lists one after the other.
+// Lists one after the other, and values at the end of a list.
 ghost use Rattle.std.specs.Prelude.{◌≡◌, [], ◌∷◌, ◌++◌, Ok, OnOk};
 
 use mesh_list::{Memory, Seq};
 
-/// Puts at the end what an answer has, which is want of memory where the answer is.
+/// Puts the value of an answer at the end, where it has one.
 pub(crate) fn push_made<T: Drop>(made: &mut Seq<T>, item: Result<T, Memory>) -> Result<(), Memory>
     ensures { OnOk result ((x : T) × (item ≡ Ok x) × (made.new ≡ made.old ++ x ∷ [])) }
 {
