@@ -94,7 +94,7 @@ fn opposite(number: u64) -> i64
     requires bound { number ≤ 2 ^ 63 }
     ensures { result ≡ negsuc (number - 1) }
 {
-    -((number - 1) as i64) - 1
+    -1 - (number - 1) as i64
 }
 
 /// A text with its length.
