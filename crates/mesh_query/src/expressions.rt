@@ -429,13 +429,12 @@ fn cast(
 {
     let at = place(tokens, from);
     let next = word(tokens, from, b"cast")?;
-    let next = sign(tokens, next, b"(")?;
-    let deeper = nested(depth)?;
-    let (value, next) = expr(alloc, tokens, nodes, deeper, next)?;
+    let (deeper, next) = opened(tokens, depth, next)?;
+    let value = expr(alloc, tokens, nodes, deeper, next);
+    let (value, next) = boxed(alloc, value)?;
     let next = word(tokens, next, b"as")?;
-    let (to, next) = column_type(tokens, next)?;
-    let next = sign(tokens, next, b")")?;
-    let value = Boxed::new(alloc, value)?;
+    let to = column_type(tokens, next);
+    let (to, next) = shut(tokens, to)?;
     Ok((Primary::Cast { at, value, to }, next))
 }
 

@@ -389,56 +389,42 @@ group-returns t c =
 pub cast-returns-in_err-next : goal.cast-returns-in_err-next
 cast-returns-in_err-next t c = told _ _ c.from_residual.result c.from_residual.ensures (lacks c.args.tokens.now c.args.from _ (noted started) c.in_err-next.ensures)
 
-pub cast-returns-in_err-next-2 : goal.cast-returns-in_err-next-2
-cast-returns-in_err-next-2 t c =
-    let word = c.in_ok-next.ensures in
-    told _ _ c.from_residual-in_err-next-2.result c.from_residual-in_err-next-2.ensures (lacks c.args.tokens.now c.in_ok-next.next _ (past_word (codes "cast") (noted started) word.2) c.in_err-next-2.ensures)
-
 pub cast-returns-in_err-deeper : goal.cast-returns-in_err-deeper
 cast-returns-in_err-deeper t c =
     let word = c.in_ok-next.ensures in
-    let open_ = c.in_ok-next-2.ensures in
-    told _ _ c.from_residual-in_err-deeper.result c.from_residual-in_err-deeper.ensures (too_deep c.args.tokens.now _ (past_sign (codes "(") (past_word (codes "cast") (noted started) word.2) open_.2) c.in_err-deeper.ensures)
+    told _ _ c.from_residual-in_err-deeper.result c.from_residual-in_err-deeper.ensures (shut_out c.args.tokens.now c.in_ok-next.next _ refl (past_word (codes "cast") (noted started) word.2) c.in_err-deeper.ensures)
 
 pub cast-returns-in_err-value : goal.cast-returns-in_err-value
 cast-returns-in_err-value t c =
     let word = c.in_ok-next.ensures in
-    let open_ = c.in_ok-next-2.ensures in
-    told _ _ c.from_residual-in_err-value.result c.from_residual-in_err-value.ensures (fails_nested _ c.in_ok-deeper.deeper c.args.tokens.now _ (past_sign (codes "(") (past_word (codes "cast") (noted started) word.2) open_.2) c.in_ok-deeper.ensures c.in_err-value.ensures)
+    let open_ = c.in_ok-deeper.ensures in
+    told _ _ c.from_residual-in_err-value.result c.from_residual-in_err-value.ensures (fails_nested _ c.in_ok-deeper.deeper c.args.tokens.now _ (past_sign (codes "(") (past_word (codes "cast") (noted started) word.2) open_.0.2) open_.1 (unread _ _ c.expr-value.result c.in_err-value.ensures c.expr-value.ensures tt))
 
-pub cast-returns-in_err-next-3 : goal.cast-returns-in_err-next-3
-cast-returns-in_err-next-3 t c =
+pub cast-returns-in_err-next-2 : goal.cast-returns-in_err-next-2
+cast-returns-in_err-next-2 t c =
     let word = c.in_ok-next.ensures in
-    let open_ = c.in_ok-next-2.ensures in
-    let value = c.in_ok-value.ensures in
-    told _ _ c.from_residual-in_err-next-3.result c.from_residual-in_err-next-3.ensures (lacks c.args.tokens.now c.in_ok-value.next _ (has_nested c.in_ok-value.value (past_sign (codes "(") (past_word (codes "cast") (noted started) word.2) open_.2) c.in_ok-deeper.ensures value.1) c.in_err-next-3.ensures)
+    let open_ = c.in_ok-deeper.ensures in
+    with_read _ _ _ c.expr-value.result c.in_ok-value.ensures c.expr-value.ensures (λ x q p.
+    told _ _ c.from_residual-in_err-next-2.result c.from_residual-in_err-next-2.ensures (lacks c.args.tokens.now x.1 _ (has_nested x.0 (past_sign (codes "(") (past_word (codes "cast") (noted started) word.2) open_.0.2) open_.1 p.1) (rw q.1 at c.in_err-next-2.ensures)))
 
 pub cast-returns-in_err-to : goal.cast-returns-in_err-to
 cast-returns-in_err-to t c =
     let word = c.in_ok-next.ensures in
-    let open_ = c.in_ok-next-2.ensures in
-    let value = c.in_ok-value.ensures in
-    let as_ = c.in_ok-next-3.ensures in
-    told _ _ c.from_residual-in_err-to.result c.from_residual-in_err-to.ensures (lacks c.args.tokens.now c.in_ok-next-3.next _ (past_word (codes "as") (has_nested c.in_ok-value.value (past_sign (codes "(") (past_word (codes "cast") (noted started) word.2) open_.2) c.in_ok-deeper.ensures value.1) as_.2) c.in_err-to.ensures)
-
-pub cast-returns-in_err-next-4 : goal.cast-returns-in_err-next-4
-cast-returns-in_err-next-4 t c =
-    let word = c.in_ok-next.ensures in
-    let open_ = c.in_ok-next-2.ensures in
-    let value = c.in_ok-value.ensures in
-    let as_ = c.in_ok-next-3.ensures in
-    let to = c.in_ok-to.ensures in
-    told _ _ c.from_residual-in_err-next-4.result c.from_residual-in_err-next-4.ensures (lacks c.args.tokens.now c.in_ok-to.next _ (past_type (λ k. take (is_sign (codes ")")) (λ g. done (the_primary.Cast (place (drop c.args.from c.args.tokens.now)) c.in_ok-value.value k))) (past_word (codes "as") (has_nested c.in_ok-value.value (past_sign (codes "(") (past_word (codes "cast") (noted started) word.2) open_.2) c.in_ok-deeper.ensures value.1) as_.2) to.2) c.in_err-next-4.ensures)
+    let open_ = c.in_ok-deeper.ensures in
+    let as_ = c.in_ok-next-2.ensures in
+    with_read _ _ _ c.expr-value.result c.in_ok-value.ensures c.expr-value.ensures (λ x q p.
+    told _ _ c.from_residual-in_err-to.result c.from_residual-in_err-to.ensures (unshut _ _ _ c.column_type-to.result c.in_err-to.ensures c.column_type-to.ensures
+    (λ y u v. lacks c.args.tokens.now y.1 _ (past_type (λ k. take (is_sign (codes ")")) (λ g. done (the_primary.Cast (place (drop c.args.from c.args.tokens.now)) x.0 k))) (past_word (codes "as") (has_nested x.0 (past_sign (codes "(") (past_word (codes "cast") (noted started) word.2) open_.0.2) open_.1 p.1) (rw q.1 at as_.2)) v.2) u)
+    (λ g. lacks c.args.tokens.now c.in_ok-next-2.next _ (past_word (codes "as") (has_nested x.0 (past_sign (codes "(") (past_word (codes "cast") (noted started) word.2) open_.0.2) open_.1 p.1) (rw q.1 at as_.2)) g)))
 
 pub cast-returns : goal.cast-returns
 cast-returns t c =
     let word = c.in_ok-next.ensures in
-    let open_ = c.in_ok-next-2.ensures in
-    let value = c.in_ok-value.ensures in
-    let as_ = c.in_ok-next-3.ensures in
-    let to = c.in_ok-to.ensures in
-    let close = c.in_ok-next-4.ensures in
-    rw (c.place-at.ensures, c.in_ok-value-2.ensures) (omega (arith, word.0, open_.0, value.0, as_.0, to.0, close.0), is_done (past_sign (codes ")") (past_type (λ k. take (is_sign (codes ")")) (λ g. done (the_primary.Cast (place (drop c.args.from c.args.tokens.now)) c.in_ok-value.value k))) (past_word (codes "as") (has_nested c.in_ok-value.value (past_sign (codes "(") (past_word (codes "cast") (noted started) word.2) open_.2) c.in_ok-deeper.ensures value.1) as_.2) to.2) close.2))
+    let open_ = c.in_ok-deeper.ensures in
+    let as_ = c.in_ok-next-2.ensures in
+    with_read _ _ _ c.expr-value.result c.in_ok-value.ensures c.expr-value.ensures (λ x q p.
+    with_read _ _ _ c.column_type-to.result c.in_ok-to.ensures c.column_type-to.ensures (λ y u v.
+    rw (c.place-at.ensures, q.0, u.0) (omega (arith, word.0, open_.0.0, p.0, q.1, as_.0, v.0, u.1.0), is_done (past_sign (codes ")") (past_type (λ k. take (is_sign (codes ")")) (λ g. done (the_primary.Cast (place (drop c.args.from c.args.tokens.now)) x.0 k))) (past_word (codes "as") (has_nested x.0 (past_sign (codes "(") (past_word (codes "cast") (noted started) word.2) open_.0.2) open_.1 p.1) (rw q.1 at as_.2)) v.2) u.1.2))))
 
 pub case-returns-in_err-next : goal.case-returns-in_err-next
 case-returns-in_err-next t c = told _ _ c.from_residual.result c.from_residual.ensures (lacks c.args.tokens.now c.args.from _ (noted started) c.in_err-next.ensures)
