@@ -1,6 +1,6 @@
 -- What a function of the descent answers: a phrase and the place behind it, or where there is none; and how many nodes
 -- are left then.
-use Rattle.std.specs.Prelude.{◌≡◌, ℕ, ℤ, ◌≤◌, List, [], ◌∷◌, drop, Bool, Option, None, Result, MatchResult}
+use Rattle.std.specs.Prelude.{◌≡◌, ℕ, ℤ, ◌≤◌, List, [], ◌∷◌, codes, drop, Bool, false, Option, None, Result, MatchResult}
 use Rattle.mesh_tokens.specs.declared.tokens.Token.{Token}
 use Rattle.mesh_tokens.specs.declared.tokens.TokenKind.{TokenKind}
 use Rattle.mesh_tokens.specs.declared.tokens.TokenKind.TheVariants.{Ident}
@@ -8,10 +8,10 @@ use Rattle.mesh_surface.specs.declared.signs.Function.{Function}
 use Rattle.mesh_words.specs.declared.fault.Fault.{Fault}
 use Rattle.mesh_words.specs.declared.fault.Fault.TheVariants as fault
 use Rattle.mesh_grammar.specs.Words.{function_of}
-use Rattle.mesh_grammar.specs.Signs.{IsDay}
+use Rattle.mesh_grammar.specs.Signs.{IsDay, IsSign}
 use Rattle.mesh_grammar.specs.Rules.{Rule, Tree}
-use Rattle.mesh_grammar.specs.Plans.{Plan, plan}
-use Rattle.mesh_grammar.specs.Machine.{Cause, syntax, nesting}
+use Rattle.mesh_grammar.specs.Plans.{Plan, plan, is_sign}
+use Rattle.mesh_grammar.specs.Machine.{Cause, syntax, nesting, begins}
 use Rattle.mesh_query.specs.Counts.{Goes, Reads, GoesWrong}
 
 -- nothing is read by the rule from the list on: the fault names the token at which it fails, or memory is out
@@ -37,6 +37,12 @@ pub record Onward (i : Bool) (n : ℕ) (r : Rule) (s : List Token) (q : Plan r) 
 -- what is left of a phrase is read, or there is none
 abbrev pub AnswersOn : Bool → ℕ → (r : Rule) → Plan r → List Token → ℕ → ℕ → ℕ → Result (Tree r × ℕ) Fault → Type 0
 AnswersOn i n r p ts from now after result = (s : List Token) (before : ℕ) → Onward i n r s p (drop from ts) before now → AnswersFrom i n r s ts from before after result
+
+-- no parenthesis is opened at a place: none stands there, too much is open, or memory is out
+abbrev pub IsUnopened : ℕ → List Token → ℕ → Fault → Type 0
+IsUnopened depth ts at fault.Memory = Unit {0}
+IsUnopened depth ts at (fault.Syntax token) = (token ≡ at) × (begins (is_sign (codes "(")) (drop at ts) ≡ false)
+IsUnopened depth ts at fault.Nesting = (depth ≡ 0) × (m : List Token) × IsSign (codes "(") (drop at ts) m
 
 -- no real day stands at a place, which is at fault
 abbrev pub IsNoDay : List Token → ℕ → Fault → Type 0

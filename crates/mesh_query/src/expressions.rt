@@ -10,6 +10,7 @@ ghost use Rattle.mesh_grammar.specs.Machine.{begins};
 ghost use Rattle.mesh_query.specs.Answers.{Answers, AnswersOn};
 ghost use Rattle.mesh_query.specs.Rests.{behind_is, behind_between, behind_in, unopened, one_alone};
 
+use crate::brackets::{opened, shut};
 use crate::lists::{begun, boxed, pushed};
 use crate::literals::{column, date, function_at, literal};
 use crate::nodes::Nodes;
@@ -222,10 +223,9 @@ fn one_of(
 ) -> Result<(Test, usize), Fault>
     ensures { AnswersOn true depth (ranged negated) (behind_in negated) tokens.now from nodes.old.left nodes.new.left result }
 {
-    let at = sign(tokens, from, b"(")?;
-    let deeper = nested(depth)?;
-    let (of, at) = exprs(alloc, tokens, nodes, deeper, at)?;
-    let at = sign(tokens, at, b")")?;
+    let (deeper, at) = opened(tokens, depth, from)?;
+    let of = exprs(alloc, tokens, nodes, deeper, at);
+    let (of, at) = shut(tokens, of)?;
     Ok((Test::OneOf { negated, of }, at))
 }
 
@@ -410,11 +410,10 @@ fn group(
     ensures { Answers true depth a_group tokens.now from nodes.old.left nodes.new.left result }
 {
     let at = place(tokens, from);
-    let next = sign(tokens, from, b"(")?;
-    let deeper = nested(depth)?;
-    let (inner, next) = expr(alloc, tokens, nodes, deeper, next)?;
-    let next = sign(tokens, next, b")")?;
-    let inner = Boxed::new(alloc, inner)?;
+    let (deeper, next) = opened(tokens, depth, from)?;
+    let inner = expr(alloc, tokens, nodes, deeper, next);
+    let inner = boxed(alloc, inner);
+    let (inner, next) = shut(tokens, inner)?;
     Ok((Primary::Group { at, inner }, next))
 }
 
@@ -430,13 +429,12 @@ fn cast(
 {
     let at = place(tokens, from);
     let next = word(tokens, from, b"cast")?;
-    let next = sign(tokens, next, b"(")?;
-    let deeper = nested(depth)?;
-    let (value, next) = expr(alloc, tokens, nodes, deeper, next)?;
+    let (deeper, next) = opened(tokens, depth, next)?;
+    let value = expr(alloc, tokens, nodes, deeper, next);
+    let (value, next) = boxed(alloc, value)?;
     let next = word(tokens, next, b"as")?;
-    let (to, next) = column_type(tokens, next)?;
-    let next = sign(tokens, next, b")")?;
-    let value = Boxed::new(alloc, value)?;
+    let to = column_type(tokens, next);
+    let (to, next) = shut(tokens, to)?;
     Ok((Primary::Cast { at, value, to }, next))
 }
 
@@ -567,10 +565,9 @@ fn call(
     let at = place(tokens, from);
     match function_at(tokens, from) {
         Some(function) => {
-            let next = sign(tokens, from + 1, b"(")?;
-            let deeper = nested(depth)?;
-            let (args, next) = args(alloc, tokens, nodes, function, deeper, next)?;
-            let next = sign(tokens, next, b")")?;
+            let (deeper, next) = opened(tokens, depth, from + 1)?;
+            let args = args(alloc, tokens, nodes, function, deeper, next);
+            let (args, next) = shut(tokens, args)?;
             Ok((Primary::Call { at, function, args }, next))
         }
         None => Err(Fault::Syntax { token: from + 1 }),

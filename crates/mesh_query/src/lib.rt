@@ -5,6 +5,7 @@
 //! `mesh_grammar`, `mesh_words` and the days of `mesh_time`.
 #![tactic(auto)]
 
+mod brackets;
 mod expressions;
 mod laws;
 mod lists;

@@ -7,7 +7,7 @@ ghost use Rattle.mesh_grammar.specs.Machine.{begins, begins_star};
 ghost use Rattle.mesh_query.specs.Answers.{Answers, Onward};
 
 use crate::expressions::expr;
-use crate::lists::one;
+use crate::lists::{begun, pushed};
 use crate::nodes::Nodes;
 use crate::relations::source;
 use mesh_list::Seq;
@@ -67,12 +67,11 @@ fn cte_list(
 ) -> Result<(Seq<SurfaceCte>, usize), Fault>
     ensures { Answers false depth a_cte_list tokens.now from nodes.old.left nodes.new.left result }
 {
-    let (first, mut at) = cte(alloc, tokens, nodes, depth, from)?;
-    let mut list = Seq::new(alloc);
-    list.push(first)?;
+    let first = cte(alloc, tokens, nodes, depth, from);
+    let (mut list, mut at) = begun(alloc, first)?;
     'commas: while is_sign(tokens, at, b",") {
-        let (more, next) = cte(alloc, tokens, nodes, depth, at + 1)?;
-        list.push(more)?;
+        let more = cte(alloc, tokens, nodes, depth, at + 1);
+        let next = pushed(&mut list, more)?;
         at = next;
     }
     Ok((list, at))
@@ -111,12 +110,12 @@ fn union(
 ) -> Result<(SurfaceUnion, usize), Fault>
     ensures { Answers false depth a_union tokens.now from nodes.old.left nodes.new.left result }
 {
-    let (first, mut at) = select(alloc, tokens, nodes, depth, from)?;
-    let mut selects = one(alloc, first)?;
+    let first = select(alloc, tokens, nodes, depth, from);
+    let (mut selects, mut at) = begun(alloc, first)?;
     'unions: while is_word(tokens, at, b"union") {
         let behind = word(tokens, at + 1, b"all")?;
-        let (more, next) = select(alloc, tokens, nodes, depth, behind)?;
-        selects.push(more)?;
+        let more = select(alloc, tokens, nodes, depth, behind);
+        let next = pushed(&mut selects, more)?;
         at = next;
     }
     let whole = SurfaceUnion {
@@ -191,15 +190,14 @@ fn items(
 ) -> Result<(Seq<SurfaceItem>, usize), Fault>
     ensures { Answers false depth some_items tokens.now from nodes.old.left nodes.new.left result }
 {
-    let (first, mut at) = item(alloc, tokens, nodes, depth, from)?;
-    let mut list = Seq::new(alloc);
-    list.push(first)?;
+    let first = item(alloc, tokens, nodes, depth, from);
+    let (mut list, mut at) = begun(alloc, first)?;
     'commas: while is_sign(tokens, at, b",") {
         if are_items_over(tokens, at + 1) {
             return Ok((list, at + 1));
         }
-        let (more, next) = item(alloc, tokens, nodes, depth, at + 1)?;
-        list.push(more)?;
+        let more = item(alloc, tokens, nodes, depth, at + 1);
+        let next = pushed(&mut list, more)?;
         at = next;
     }
     Ok((list, at))
@@ -331,13 +329,12 @@ fn key_list(
     ensures { Answers false depth some_exprs tokens.now from nodes.old.left nodes.new.left result }
 {
     nodes.begin();
-    let (first, mut at) = expr(alloc, tokens, nodes, depth, from)?;
-    let mut list = Seq::new(alloc);
-    list.push(first)?;
+    let first = expr(alloc, tokens, nodes, depth, from);
+    let (mut list, mut at) = begun(alloc, first)?;
     'commas: while is_sign(tokens, at, b",") {
         nodes.begin();
-        let (more, next) = expr(alloc, tokens, nodes, depth, at + 1)?;
-        list.push(more)?;
+        let more = expr(alloc, tokens, nodes, depth, at + 1);
+        let next = pushed(&mut list, more)?;
         at = next;
     }
     Ok((list, at))

@@ -7,6 +7,7 @@ ghost use Rattle.mesh_grammar.specs.Machine.{begins};
 ghost use Rattle.mesh_query.specs.Answers.{Answers, Onward};
 
 use crate::expressions::expr;
+use crate::lists::pushed;
 use crate::nodes::Nodes;
 use crate::queries::alias;
 use mesh_list::Seq;
@@ -45,8 +46,8 @@ fn relations(
     let (first, mut at) = relation(tokens, from)?;
     let mut joins = Seq::new(alloc);
     'joins: while begins_join(tokens, at) {
-        let (more, next) = join(alloc, tokens, nodes, depth, at)?;
-        joins.push(more)?;
+        let more = join(alloc, tokens, nodes, depth, at);
+        let next = pushed(&mut joins, more)?;
         at = next;
     }
     let whole = SurfaceFrom {

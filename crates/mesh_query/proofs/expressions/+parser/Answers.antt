@@ -7,7 +7,7 @@ use Rattle.mesh_grammar.specs.Rules.{tested, cat, value, named}
 use Rattle.mesh_grammar.specs.Plans.{done, read, take, is_sign}
 use Rattle.mesh_words.specs.declared.fault.Fault.TheVariants.{Syntax}
 use Rattle.mesh_query.proofs.Steps.{started, noted, past_word, past_sign, past_name, past_type, past_cmp, without, saw, missed, has_read, has_nested, is_done, counted, read_from}
-use Rattle.mesh_query.proofs.Made.{with_read, unread}
+use Rattle.mesh_query.proofs.Made.{with_read, unread, kept, unshut, shut_out}
 use Rattle.mesh_query.proofs.Descent.{handed, told, stuck_here, lacks, fails_in, fails_nested, too_deep, closed, closed_by, goes_on, alone, name_here, call_left, sum_begun, sum_on, product_begun, product_on, cast_on, failed_from}
 use Rattle.mesh_query.proofs.expressions.+parser.Goals as goal
 
@@ -326,32 +326,22 @@ between-returns t c = λ s b I.
     let high = c.in_ok-high.ensures in
     (omega (arith, low.0, word.0, high.0), is_done (has_read c.in_ok-high.high (past_word (codes "and") (has_read c.in_ok-low.low I low.1) word.2) high.1))
 
-pub one_of-returns-in_err-at : goal.one_of-returns-in_err-at
-one_of-returns-in_err-at t c = λ s b I.
-    told _ _ c.from_residual.result c.from_residual.ensures (lacks c.args.tokens.now c.args.from _ I c.in_err-at.ensures)
-
 pub one_of-returns-in_err-deeper : goal.one_of-returns-in_err-deeper
 one_of-returns-in_err-deeper t c = λ s b I.
-    let open_ = c.in_ok-at.ensures in
-    told _ _ c.from_residual-in_err-deeper.result c.from_residual-in_err-deeper.ensures (too_deep c.args.tokens.now _ (past_sign (codes "(") I open_.2) c.in_err-deeper.ensures)
+    told _ _ c.from_residual.result c.from_residual.ensures (shut_out c.args.tokens.now c.args.from _ refl I c.in_err-deeper.ensures)
 
 pub one_of-returns-in_err-of : goal.one_of-returns-in_err-of
 one_of-returns-in_err-of t c = λ s b I.
-    let open_ = c.in_ok-at.ensures in
-    told _ _ c.from_residual-in_err-of.result c.from_residual-in_err-of.ensures (fails_nested _ c.in_ok-deeper.deeper c.args.tokens.now _ (past_sign (codes "(") I open_.2) c.in_ok-deeper.ensures c.in_err-of.ensures)
-
-pub one_of-returns-in_err-at-2 : goal.one_of-returns-in_err-at-2
-one_of-returns-in_err-at-2 t c = λ s b I.
-    let open_ = c.in_ok-at.ensures in
-    let list = c.in_ok-of.ensures in
-    told _ _ c.from_residual-in_err-at-2.result c.from_residual-in_err-at-2.ensures (lacks c.args.tokens.now c.in_ok-of.at _ (has_nested c.in_ok-of.of (past_sign (codes "(") I open_.2) c.in_ok-deeper.ensures list.1) c.in_err-at-2.ensures)
+    let open_ = c.in_ok-deeper.ensures in
+    told _ _ c.from_residual-in_err-of.result c.from_residual-in_err-of.ensures (unshut _ _ _ c.exprs-of.result c.in_err-of.ensures c.exprs-of.ensures
+    (λ x q p. lacks c.args.tokens.now x.1 _ (has_nested x.0 (past_sign (codes "(") I open_.0.2) open_.1 p.1) q)
+    (λ g. fails_nested _ c.in_ok-deeper.deeper c.args.tokens.now _ (past_sign (codes "(") I open_.0.2) open_.1 g))
 
 pub one_of-returns : goal.one_of-returns
 one_of-returns t c = λ s b I.
-    let open_ = c.in_ok-at.ensures in
-    let list = c.in_ok-of.ensures in
-    let close = c.in_ok-at-2.ensures in
-    (omega (arith, open_.0, list.0, close.0), is_done (past_sign (codes ")") (has_nested c.in_ok-of.of (past_sign (codes "(") I open_.2) c.in_ok-deeper.ensures list.1) close.2))
+    let open_ = c.in_ok-deeper.ensures in
+    with_read _ _ _ c.exprs-of.result c.in_ok-of.ensures c.exprs-of.ensures (λ x q p.
+    rw q.0 (omega (arith, open_.0.0, p.0, q.1.0), is_done (past_sign (codes ")") (has_nested x.0 (past_sign (codes "(") I open_.0.2) open_.1 p.1) q.1.2)))
 
 pub primary-returns-then-is_sign : goal.primary-returns-then-is_sign
 primary-returns-then-is_sign t c =
@@ -380,85 +370,61 @@ primary-returns-then-is_sign-2 t c = c.call.ensures (drop c.args.from c.args.tok
 pub primary-returns-then-is_name : goal.primary-returns-then-is_name
 primary-returns-then-is_name t c = c.column.ensures c.args.depth (drop c.args.from c.args.tokens.now) _ (missed (missed (missed (noted (started {n = c.args.depth} {r = value} {s = (drop c.args.from c.args.tokens.now)})) (sym c.is_sign.ensures.seen ∙ c.if-is_sign.false)) (sym c.is_word.ensures.seen ∙ c.if-is_word.false)) (sym c.is_word-2.ensures.seen ∙ c.if-is_word-2.false))
 
-pub group-returns-in_err-next : goal.group-returns-in_err-next
-group-returns-in_err-next t c = told _ _ c.from_residual.result c.from_residual.ensures (lacks c.args.tokens.now c.args.from _ (noted started) c.in_err-next.ensures)
-
 pub group-returns-in_err-deeper : goal.group-returns-in_err-deeper
-group-returns-in_err-deeper t c =
-    let open_ = c.in_ok-next.ensures in
-    told _ _ c.from_residual-in_err-deeper.result c.from_residual-in_err-deeper.ensures (too_deep c.args.tokens.now _ (past_sign (codes "(") (noted started) open_.2) c.in_err-deeper.ensures)
+group-returns-in_err-deeper t c = told _ _ c.from_residual.result c.from_residual.ensures (shut_out c.args.tokens.now c.args.from _ refl (noted started) c.in_err-deeper.ensures)
 
 pub group-returns-in_err-inner : goal.group-returns-in_err-inner
 group-returns-in_err-inner t c =
-    let open_ = c.in_ok-next.ensures in
-    told _ _ c.from_residual-in_err-inner.result c.from_residual-in_err-inner.ensures (fails_nested _ c.in_ok-deeper.deeper c.args.tokens.now _ (past_sign (codes "(") (noted started) open_.2) c.in_ok-deeper.ensures c.in_err-inner.ensures)
-
-pub group-returns-in_err-next-2 : goal.group-returns-in_err-next-2
-group-returns-in_err-next-2 t c =
-    let open_ = c.in_ok-next.ensures in
-    let inner = c.in_ok-inner.ensures in
-    told _ _ c.from_residual-in_err-next-2.result c.from_residual-in_err-next-2.ensures (lacks c.args.tokens.now c.in_ok-inner.next _ (has_nested c.in_ok-inner.inner (past_sign (codes "(") (noted started) open_.2) c.in_ok-deeper.ensures inner.1) c.in_err-next-2.ensures)
+    let open_ = c.in_ok-deeper.ensures in
+    told _ _ c.from_residual-in_err-inner.result c.from_residual-in_err-inner.ensures (unshut _ _ _ c.boxed-inner.result c.in_err-inner.ensures (kept _ _ c.expr-inner.result c.boxed-inner.result c.boxed-inner.ensures c.expr-inner.ensures tt)
+    (λ x q p. lacks c.args.tokens.now x.1 _ (has_nested x.0 (past_sign (codes "(") (noted started) open_.0.2) open_.1 p.1) q)
+    (λ g. fails_nested _ c.in_ok-deeper.deeper c.args.tokens.now _ (past_sign (codes "(") (noted started) open_.0.2) open_.1 g))
 
 pub group-returns : goal.group-returns
 group-returns t c =
-    let open_ = c.in_ok-next.ensures in
-    let inner = c.in_ok-inner.ensures in
-    let close = c.in_ok-next-2.ensures in
-    rw (c.place-at.ensures, c.in_ok-inner-2.ensures) (omega (arith, open_.0, inner.0, close.0), is_done (past_sign (codes ")") (has_nested c.in_ok-inner.inner (past_sign (codes "(") (noted started) open_.2) c.in_ok-deeper.ensures inner.1) close.2))
+    let open_ = c.in_ok-deeper.ensures in
+    with_read _ _ _ c.boxed-inner.result c.in_ok-inner.ensures (kept _ _ c.expr-inner.result c.boxed-inner.result c.boxed-inner.ensures c.expr-inner.ensures tt) (λ x q p.
+    rw (c.place-at.ensures, q.0) (omega (arith, open_.0.0, p.0, q.1.0), is_done (past_sign (codes ")") (has_nested x.0 (past_sign (codes "(") (noted started) open_.0.2) open_.1 p.1) q.1.2)))
 
 pub cast-returns-in_err-next : goal.cast-returns-in_err-next
 cast-returns-in_err-next t c = told _ _ c.from_residual.result c.from_residual.ensures (lacks c.args.tokens.now c.args.from _ (noted started) c.in_err-next.ensures)
 
-pub cast-returns-in_err-next-2 : goal.cast-returns-in_err-next-2
-cast-returns-in_err-next-2 t c =
-    let word = c.in_ok-next.ensures in
-    told _ _ c.from_residual-in_err-next-2.result c.from_residual-in_err-next-2.ensures (lacks c.args.tokens.now c.in_ok-next.next _ (past_word (codes "cast") (noted started) word.2) c.in_err-next-2.ensures)
-
 pub cast-returns-in_err-deeper : goal.cast-returns-in_err-deeper
 cast-returns-in_err-deeper t c =
     let word = c.in_ok-next.ensures in
-    let open_ = c.in_ok-next-2.ensures in
-    told _ _ c.from_residual-in_err-deeper.result c.from_residual-in_err-deeper.ensures (too_deep c.args.tokens.now _ (past_sign (codes "(") (past_word (codes "cast") (noted started) word.2) open_.2) c.in_err-deeper.ensures)
+    told _ _ c.from_residual-in_err-deeper.result c.from_residual-in_err-deeper.ensures (shut_out c.args.tokens.now c.in_ok-next.next _ refl (past_word (codes "cast") (noted started) word.2) c.in_err-deeper.ensures)
 
 pub cast-returns-in_err-value : goal.cast-returns-in_err-value
 cast-returns-in_err-value t c =
     let word = c.in_ok-next.ensures in
-    let open_ = c.in_ok-next-2.ensures in
-    told _ _ c.from_residual-in_err-value.result c.from_residual-in_err-value.ensures (fails_nested _ c.in_ok-deeper.deeper c.args.tokens.now _ (past_sign (codes "(") (past_word (codes "cast") (noted started) word.2) open_.2) c.in_ok-deeper.ensures c.in_err-value.ensures)
+    let open_ = c.in_ok-deeper.ensures in
+    told _ _ c.from_residual-in_err-value.result c.from_residual-in_err-value.ensures (fails_nested _ c.in_ok-deeper.deeper c.args.tokens.now _ (past_sign (codes "(") (past_word (codes "cast") (noted started) word.2) open_.0.2) open_.1 (unread _ _ c.expr-value.result c.in_err-value.ensures c.expr-value.ensures tt))
 
-pub cast-returns-in_err-next-3 : goal.cast-returns-in_err-next-3
-cast-returns-in_err-next-3 t c =
+pub cast-returns-in_err-next-2 : goal.cast-returns-in_err-next-2
+cast-returns-in_err-next-2 t c =
     let word = c.in_ok-next.ensures in
-    let open_ = c.in_ok-next-2.ensures in
-    let value = c.in_ok-value.ensures in
-    told _ _ c.from_residual-in_err-next-3.result c.from_residual-in_err-next-3.ensures (lacks c.args.tokens.now c.in_ok-value.next _ (has_nested c.in_ok-value.value (past_sign (codes "(") (past_word (codes "cast") (noted started) word.2) open_.2) c.in_ok-deeper.ensures value.1) c.in_err-next-3.ensures)
+    let open_ = c.in_ok-deeper.ensures in
+    with_read _ _ _ c.expr-value.result c.in_ok-value.ensures c.expr-value.ensures (λ x q p.
+    told _ _ c.from_residual-in_err-next-2.result c.from_residual-in_err-next-2.ensures (lacks c.args.tokens.now x.1 _ (has_nested x.0 (past_sign (codes "(") (past_word (codes "cast") (noted started) word.2) open_.0.2) open_.1 p.1) (rw q.1 at c.in_err-next-2.ensures)))
 
 pub cast-returns-in_err-to : goal.cast-returns-in_err-to
 cast-returns-in_err-to t c =
     let word = c.in_ok-next.ensures in
-    let open_ = c.in_ok-next-2.ensures in
-    let value = c.in_ok-value.ensures in
-    let as_ = c.in_ok-next-3.ensures in
-    told _ _ c.from_residual-in_err-to.result c.from_residual-in_err-to.ensures (lacks c.args.tokens.now c.in_ok-next-3.next _ (past_word (codes "as") (has_nested c.in_ok-value.value (past_sign (codes "(") (past_word (codes "cast") (noted started) word.2) open_.2) c.in_ok-deeper.ensures value.1) as_.2) c.in_err-to.ensures)
-
-pub cast-returns-in_err-next-4 : goal.cast-returns-in_err-next-4
-cast-returns-in_err-next-4 t c =
-    let word = c.in_ok-next.ensures in
-    let open_ = c.in_ok-next-2.ensures in
-    let value = c.in_ok-value.ensures in
-    let as_ = c.in_ok-next-3.ensures in
-    let to = c.in_ok-to.ensures in
-    told _ _ c.from_residual-in_err-next-4.result c.from_residual-in_err-next-4.ensures (lacks c.args.tokens.now c.in_ok-to.next _ (past_type (λ k. take (is_sign (codes ")")) (λ g. done (the_primary.Cast (place (drop c.args.from c.args.tokens.now)) c.in_ok-value.value k))) (past_word (codes "as") (has_nested c.in_ok-value.value (past_sign (codes "(") (past_word (codes "cast") (noted started) word.2) open_.2) c.in_ok-deeper.ensures value.1) as_.2) to.2) c.in_err-next-4.ensures)
+    let open_ = c.in_ok-deeper.ensures in
+    let as_ = c.in_ok-next-2.ensures in
+    with_read _ _ _ c.expr-value.result c.in_ok-value.ensures c.expr-value.ensures (λ x q p.
+    told _ _ c.from_residual-in_err-to.result c.from_residual-in_err-to.ensures (unshut _ _ _ c.column_type-to.result c.in_err-to.ensures c.column_type-to.ensures
+    (λ y u v. lacks c.args.tokens.now y.1 _ (past_type (λ k. take (is_sign (codes ")")) (λ g. done (the_primary.Cast (place (drop c.args.from c.args.tokens.now)) x.0 k))) (past_word (codes "as") (has_nested x.0 (past_sign (codes "(") (past_word (codes "cast") (noted started) word.2) open_.0.2) open_.1 p.1) (rw q.1 at as_.2)) v.2) u)
+    (λ g. lacks c.args.tokens.now c.in_ok-next-2.next _ (past_word (codes "as") (has_nested x.0 (past_sign (codes "(") (past_word (codes "cast") (noted started) word.2) open_.0.2) open_.1 p.1) (rw q.1 at as_.2)) g)))
 
 pub cast-returns : goal.cast-returns
 cast-returns t c =
     let word = c.in_ok-next.ensures in
-    let open_ = c.in_ok-next-2.ensures in
-    let value = c.in_ok-value.ensures in
-    let as_ = c.in_ok-next-3.ensures in
-    let to = c.in_ok-to.ensures in
-    let close = c.in_ok-next-4.ensures in
-    rw (c.place-at.ensures, c.in_ok-value-2.ensures) (omega (arith, word.0, open_.0, value.0, as_.0, to.0, close.0), is_done (past_sign (codes ")") (past_type (λ k. take (is_sign (codes ")")) (λ g. done (the_primary.Cast (place (drop c.args.from c.args.tokens.now)) c.in_ok-value.value k))) (past_word (codes "as") (has_nested c.in_ok-value.value (past_sign (codes "(") (past_word (codes "cast") (noted started) word.2) open_.2) c.in_ok-deeper.ensures value.1) as_.2) to.2) close.2))
+    let open_ = c.in_ok-deeper.ensures in
+    let as_ = c.in_ok-next-2.ensures in
+    with_read _ _ _ c.expr-value.result c.in_ok-value.ensures c.expr-value.ensures (λ x q p.
+    with_read _ _ _ c.column_type-to.result c.in_ok-to.ensures c.column_type-to.ensures (λ y u v.
+    rw (c.place-at.ensures, q.0, u.0) (omega (arith, word.0, open_.0.0, p.0, q.1, as_.0, v.0, u.1.0), is_done (past_sign (codes ")") (past_type (λ k. take (is_sign (codes ")")) (λ g. done (the_primary.Cast (place (drop c.args.from c.args.tokens.now)) x.0 k))) (past_word (codes "as") (has_nested x.0 (past_sign (codes "(") (past_word (codes "cast") (noted started) word.2) open_.0.2) open_.1 p.1) (rw q.1 at as_.2)) v.2) u.1.2))))
 
 pub case-returns-in_err-next : goal.case-returns-in_err-next
 case-returns-in_err-next t c = told _ _ c.from_residual.result c.from_residual.ensures (lacks c.args.tokens.now c.args.from _ (noted started) c.in_err-next.ensures)
@@ -634,44 +600,28 @@ call-returns-in-None t c = λ s b I.
     let K = call_left {n = c.args.depth} {at = place (drop c.args.from c.args.tokens.now)} c.args.tokens.now c.args.from None c.in-None.ensures name.1 c.requires.undated c.requires.opened in
     fails_in _ c.args.tokens.now (Syntax (c.args.from + 1)) J (stuck_here c.args.tokens.now (c.args.from + 1) K)
 
-pub call-returns-in_err-next-in-Some : goal.call-returns-in_err-next-in-Some
-call-returns-in_err-next-in-Some t c = λ s b I.
-    let name = name_here c.args.tokens.now c.args.from c.requires.name in
-    let J = counted c.meet.ensures (past_name (λ x. read (named (place (drop c.args.from c.args.tokens.now)) x) done) I name.1) in
-    let K = call_left {n = c.args.depth} {at = place (drop c.args.from c.args.tokens.now)} c.args.tokens.now c.args.from (Some c.in-Some.function) c.in-Some.ensures name.1 c.requires.undated c.requires.opened in
-    told _ _ c.from_residual.result c.from_residual.ensures (fails_in _ c.args.tokens.now _ J (lacks c.args.tokens.now (c.args.from + 1) _ K c.in_err-next-in-Some.ensures))
-
 pub call-returns-in_err-deeper-in-Some : goal.call-returns-in_err-deeper-in-Some
 call-returns-in_err-deeper-in-Some t c = λ s b I.
     let name = name_here c.args.tokens.now c.args.from c.requires.name in
     let J = counted c.meet.ensures (past_name (λ x. read (named (place (drop c.args.from c.args.tokens.now)) x) done) I name.1) in
     let K = call_left {n = c.args.depth} {at = place (drop c.args.from c.args.tokens.now)} c.args.tokens.now c.args.from (Some c.in-Some.function) c.in-Some.ensures name.1 c.requires.undated c.requires.opened in
-    let open_ = c.in_ok-next-in-Some.ensures in
-    told _ _ c.from_residual-in_err-deeper-in-Some.result c.from_residual-in_err-deeper-in-Some.ensures (fails_in _ c.args.tokens.now _ J (too_deep c.args.tokens.now _ (past_sign (codes "(") K open_.2) c.in_err-deeper-in-Some.ensures))
+    told _ _ c.from_residual.result c.from_residual.ensures (fails_in _ c.args.tokens.now _ J (shut_out c.args.tokens.now (c.args.from + 1) _ refl K c.in_err-deeper-in-Some.ensures))
 
 pub call-returns-in_err-args-in-Some : goal.call-returns-in_err-args-in-Some
 call-returns-in_err-args-in-Some t c = λ s b I.
     let name = name_here c.args.tokens.now c.args.from c.requires.name in
     let J = counted c.meet.ensures (past_name (λ x. read (named (place (drop c.args.from c.args.tokens.now)) x) done) I name.1) in
     let K = call_left {n = c.args.depth} {at = place (drop c.args.from c.args.tokens.now)} c.args.tokens.now c.args.from (Some c.in-Some.function) c.in-Some.ensures name.1 c.requires.undated c.requires.opened in
-    let open_ = c.in_ok-next-in-Some.ensures in
-    told _ _ c.from_residual-in_err-args-in-Some.result c.from_residual-in_err-args-in-Some.ensures (fails_in _ c.args.tokens.now _ J (fails_nested _ c.in_ok-deeper-in-Some.deeper c.args.tokens.now _ (past_sign (codes "(") K open_.2) c.in_ok-deeper-in-Some.ensures c.in_err-args-in-Some.ensures))
+    let open_ = c.in_ok-deeper-in-Some.ensures in
+    told _ _ c.from_residual-in_err-args-in-Some.result c.from_residual-in_err-args-in-Some.ensures (fails_in _ c.args.tokens.now _ J (unshut _ _ _ c.args-args.result c.in_err-args-in-Some.ensures c.args-args.ensures
+    (λ x q p. lacks c.args.tokens.now x.1 _ (has_nested x.0 (past_sign (codes "(") K open_.0.2) open_.1 p.1) q)
+    (λ g. fails_nested _ c.in_ok-deeper-in-Some.deeper c.args.tokens.now _ (past_sign (codes "(") K open_.0.2) open_.1 g)))
 
-pub call-returns-in_err-next-in-Some-2 : goal.call-returns-in_err-next-in-Some-2
-call-returns-in_err-next-in-Some-2 t c = λ s b I.
+pub call-returns-in_ok-args-in-Some : goal.call-returns-in_ok-args-in-Some
+call-returns-in_ok-args-in-Some t c = λ s b I.
     let name = name_here c.args.tokens.now c.args.from c.requires.name in
     let J = counted c.meet.ensures (past_name (λ x. read (named (place (drop c.args.from c.args.tokens.now)) x) done) I name.1) in
     let K = call_left {n = c.args.depth} {at = place (drop c.args.from c.args.tokens.now)} c.args.tokens.now c.args.from (Some c.in-Some.function) c.in-Some.ensures name.1 c.requires.undated c.requires.opened in
-    let open_ = c.in_ok-next-in-Some.ensures in
-    let args = c.in_ok-args-in-Some.ensures in
-    told _ _ c.from_residual-in_err-next-in-Some-2.result c.from_residual-in_err-next-in-Some-2.ensures (fails_in _ c.args.tokens.now _ J (lacks c.args.tokens.now c.in_ok-args-in-Some.next _ (has_nested c.in_ok-args-in-Some.args (past_sign (codes "(") K open_.2) c.in_ok-deeper-in-Some.ensures args.1) c.in_err-next-in-Some-2.ensures))
-
-pub call-returns-in_ok-next-in-Some-2 : goal.call-returns-in_ok-next-in-Some-2
-call-returns-in_ok-next-in-Some-2 t c = λ s b I.
-    let name = name_here c.args.tokens.now c.args.from c.requires.name in
-    let J = counted c.meet.ensures (past_name (λ x. read (named (place (drop c.args.from c.args.tokens.now)) x) done) I name.1) in
-    let K = call_left {n = c.args.depth} {at = place (drop c.args.from c.args.tokens.now)} c.args.tokens.now c.args.from (Some c.in-Some.function) c.in-Some.ensures name.1 c.requires.undated c.requires.opened in
-    let open_ = c.in_ok-next-in-Some.ensures in
-    let args = c.in_ok-args-in-Some.ensures in
-    let close = c.in_ok-next-in-Some-2.ensures in
-    rw c.place-at.ensures (omega (arith, open_.0, args.0, close.0), is_done (closed J (past_sign (codes ")") (has_nested c.in_ok-args-in-Some.args (past_sign (codes "(") K open_.2) c.in_ok-deeper-in-Some.ensures args.1) close.2)))
+    let open_ = c.in_ok-deeper-in-Some.ensures in
+    with_read _ _ _ c.args-args.result c.in_ok-args-in-Some.ensures c.args-args.ensures (λ x q p.
+    rw (c.place-at.ensures, q.0) (omega (arith, open_.0.0, p.0, q.1.0), is_done (closed J (past_sign (codes ")") (has_nested x.0 (past_sign (codes "(") K open_.0.2) open_.1 p.1) q.1.2))))

@@ -1,15 +1,14 @@
 use Rattle.std.proofs.Common.{refl, codes, arith, sym, ◌∙◌}
 use Rattle.mesh_query.proofs.Steps.{started, past_sign, without, has_read, is_done}
+use Rattle.mesh_query.proofs.Made.{with_read, unread}
 use Rattle.mesh_query.proofs.Descent.{told, fails_in, closed, goes_on, items_over, items_left}
 use Rattle.mesh_query.proofs.queries.items.Goals as goal
 
-pub returns-in_err-first : goal.returns-in_err-first
-returns-in_err-first c = told _ _ c.from_residual.result c.from_residual.ensures (fails_in _ c.args.tokens.now _ started c.in_err-first.ensures)
+pub returns-in_err-list : goal.returns-in_err-list
+returns-in_err-list c = told _ _ c.from_residual.result c.from_residual.ensures (fails_in _ c.args.tokens.now _ started (unread _ _ c.item-first.result c.in_err-list.ensures c.item-first.ensures tt))
 
 pub commas-init : goal.commas-init
-commas-init c =
-    let first = c.in_ok-first.ensures in
-    rw (c.in_ok-push.ensures.ok, c.new-list.ensures) (first.0, has_read c.in_ok-first.first started first.1)
+commas-init c = with_read _ _ _ c.item-first.result c.in_ok-list.ensures c.item-first.ensures (λ x q p. rw (q.0, q.1) (p.0, has_read x.0 started p.1))
 
 pub returns-then-are_items_over : goal.returns-then-are_items_over
 returns-then-are_items_over c =
@@ -17,18 +16,17 @@ returns-then-are_items_over c =
     let sign = c.is_sign.ensures.taken c.commas-test.true in
     (omega (arith, before.0), is_done (closed before.1 (items_over (past_sign (codes ",") started sign.2) (sym c.are_items_over.ensures ∙ c.if-are_items_over.true))))
 
-pub returns-in_err-more : goal.returns-in_err-more
-returns-in_err-more c =
+pub returns-in_err-next : goal.returns-in_err-next
+returns-in_err-next c =
     let before = c.commas.invariant in
     let sign = c.is_sign.ensures.taken c.commas-test.true in
-    told _ _ c.from_residual-in_err-more.result c.from_residual-in_err-more.ensures (fails_in _ c.args.tokens.now _ before.1 (fails_in _ c.args.tokens.now _ (items_left (past_sign (codes ",") started sign.2) (sym c.are_items_over.ensures ∙ c.if-are_items_over.false)) c.in_err-more.ensures))
+    told _ _ c.from_residual-in_err-next.result c.from_residual-in_err-next.ensures (fails_in _ c.args.tokens.now _ before.1 (fails_in _ c.args.tokens.now _ (items_left (past_sign (codes ",") started sign.2) (sym c.are_items_over.ensures ∙ c.if-are_items_over.false)) (unread _ _ c.item-more.result c.in_err-next.ensures c.item-more.ensures tt)))
 
 pub commas-preserved : goal.commas-preserved
 commas-preserved c =
     let before = c.commas.invariant in
     let sign = c.is_sign.ensures.taken c.commas-test.true in
-    let more = c.in_ok-more.ensures in
-    rw c.in_ok-push-2.ensures.ok (omega (arith, before.0, more.0), goes_on (λ x. x) (refl, λ z. refl) before.1 (has_read c.in_ok-more.more (items_left (past_sign (codes ",") started sign.2) (sym c.are_items_over.ensures ∙ c.if-are_items_over.false)) more.1))
+    with_read _ _ _ c.item-more.result c.in_ok-next.ensures c.item-more.ensures (λ x q p. rw (q.0, q.1) (omega (arith, before.0, p.0), goes_on (λ x. x) (refl, λ z. refl) before.1 (has_read x.0 (items_left (past_sign (codes ",") started sign.2) (sym c.are_items_over.ensures ∙ c.if-are_items_over.false)) p.1)))
 
 pub returns : goal.returns
 returns c =

@@ -1,5 +1,6 @@
 use Rattle.std.proofs.Common.{refl, arith, sym, ◌∙◌}
 use Rattle.mesh_query.proofs.Steps.{started, noted, saw, missed, has_read, is_done}
+use Rattle.mesh_query.proofs.Made.{with_read, unread}
 use Rattle.mesh_query.proofs.Descent.{told, fails_in, closed, goes_on}
 use Rattle.mesh_query.proofs.relations.relations.Goals as goal
 
@@ -14,13 +15,12 @@ joins-init c =
 pub joins-preserved : goal.joins-preserved
 joins-preserved c =
     let before = c.joins.invariant in
-    let more = c.in_ok-more.ensures.answers in
-    rw c.in_ok-push.ensures.ok (omega (arith, before.0, more.0), goes_on (λ x. x) (refl, λ z. refl) before.1 (has_read c.in_ok-more.more (saw started (sym c.begins_join.ensures.seen ∙ c.joins-test.true)) more.1))
+    with_read _ _ _ c.join-more.result c.in_ok-next.ensures c.join-more.ensures.answers (λ x q p. rw (q.0, q.1) (omega (arith, before.0, p.0), goes_on (λ x. x) (refl, λ z. refl) before.1 (has_read x.0 (saw started (sym c.begins_join.ensures.seen ∙ c.joins-test.true)) p.1)))
 
-pub returns-in_err-more : goal.returns-in_err-more
-returns-in_err-more c =
+pub returns-in_err-next : goal.returns-in_err-next
+returns-in_err-next c =
     let before = c.joins.invariant in
-    told _ _ c.from_residual-in_err-more.result c.from_residual-in_err-more.ensures (fails_in _ c.args.tokens.now _ before.1 (fails_in _ c.args.tokens.now _ (saw started (sym c.begins_join.ensures.seen ∙ c.joins-test.true)) c.in_err-more.ensures.answers))
+    told _ _ c.from_residual-in_err-next.result c.from_residual-in_err-next.ensures (fails_in _ c.args.tokens.now _ before.1 (fails_in _ c.args.tokens.now _ (saw started (sym c.begins_join.ensures.seen ∙ c.joins-test.true)) (unread _ _ c.join-more.result c.in_err-next.ensures c.join-more.ensures.answers tt)))
 
 pub returns : goal.returns
 returns c =
