@@ -1,9 +1,9 @@
 // What each kind of change makes of a book. At `Err` the book is as it was.
 ghost use Rattle.std.specs.Prelude.{◌≡◌, IfOk, OnErr, OnOk, if◌then◌else◌};
 ghost use Rattle.std.specs.Option.{option_copied};
-ghost use Rattle.mesh_list.specs.Keyed.{found, without};
+ghost use Rattle.mesh_list.specs.Keyed.{exchanged, found, placed, without};
 ghost use Rattle.mesh_values.specs.Names.{name_cmp};
-ghost use Rattle.mesh_base.specs.Keys.{snapshot_ref};
+ghost use Rattle.mesh_base.specs.Keys.{ref_cmp, ref_itself, snapshot_ref};
 ghost use Rattle.mesh_book.specs.Changes.{delete_env, delete_snapshot, empty_book, expire, finalize, forget_version, joined, make_table, make_view, new_version, previous_of, put, put_snapshot, raise_moment, record_marks, record_range, set_pending, version_object, with_refs, with_version};
 
 use crate::book::Book;
@@ -62,8 +62,8 @@ impl Book {
         ensures ok { OnOk result (self.new ≡ make_table self.old object.now) }
         ensures err { OnErr result (self.new ≡ self.old) }
     {
-        let blank = unmade(object.copy()?);
-        match self.versions.exchange(blank) {
+        let had = blank_at(&mut self.versions, object)?;
+        match had {
             None => Ok(()),
             Some(mut version) => {
                 version.made = true;
@@ -80,8 +80,8 @@ impl Book {
         ensures ok { OnOk result (self.new ≡ make_view self.old object.now) }
         ensures err { OnErr result (self.new ≡ self.old) }
     {
-        let blank = unmade(object.copy()?);
-        match self.versions.exchange(blank) {
+        let had = blank_at(&mut self.versions, object)?;
+        match had {
             None => Ok(()),
             Some(mut version) => {
                 version.made = true;
@@ -100,8 +100,8 @@ impl Book {
         if start >= end {
             return Ok(());
         }
-        let blank = unmade(object.copy()?);
-        match self.versions.exchange(blank) {
+        let had = blank_at(&mut self.versions, object)?;
+        match had {
             None => Ok(()),
             Some(mut version) => {
                 let recorded = version.ranges.add(start, end);
@@ -116,8 +116,8 @@ impl Book {
         ensures ok { OnOk result (self.new ≡ record_marks self.old object.now marks) }
         ensures err { OnErr result (self.new ≡ self.old) }
     {
-        let blank = unmade(object.copy()?);
-        match self.versions.exchange(blank) {
+        let had = blank_at(&mut self.versions, object)?;
+        match had {
             None => Ok(()),
             Some(mut version) => {
                 version.marks = Some(marks);
@@ -261,6 +261,16 @@ fn unmade(object: Name) -> Version
     }
 }
 
+// Puts a version that isn't made in the place of the object's, where it has one, and answers that.
+fn blank_at(versions: &mut Versions, object: &Name) -> Result<Option<Version>, Memory>
+    ensures value { IfOk result (λ had. had ≡ found name_cmp version_object object.now versions.old) }
+    ensures rest { OnOk result (versions.new ≡ exchanged name_cmp version_object (new_version object.now) versions.old) }
+    ensures err { OnErr result (versions.new ≡ versions.old) }
+{
+    let blank = unmade(object.copy()?);
+    Ok(versions.exchange(blank))
+}
+
 // What stands for an environment while it is changed.
 fn blank_env(name: &Str) -> Result<Env, Memory>
     ensures { IfOk result (λ e. e.name ≡ name.now) }
@@ -274,11 +284,17 @@ fn blank_env(name: &Str) -> Result<Env, Memory>
     })
 }
 
+fn add_ref(r: &Ref, all: &mut Register<Ref>) -> Result<(), Memory>
+    ensures { OnOk result (all.new ≡ placed ref_cmp ref_itself r.now all.old) }
+{
+    all.place(r.copy()?)
+}
+
 fn add_refs(refs: &[Ref], all: &mut Register<Ref>) -> Result<(), Memory>
     ensures { OnOk result (all.new ≡ with_refs all.old refs.now) }
 {
     for r in refs {
-        all.place(r.copy()?)?;
+        add_ref(r, all)?;
     }
     Ok(())
 }

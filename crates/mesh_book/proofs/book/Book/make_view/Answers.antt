@@ -1,16 +1,14 @@
 use Rattle.std.proofs.Common.{◌≡◌, refl, sym, ◌∙◌, ap}
-use Rattle.mesh_book.specs.Changes.{as_view}
+use Rattle.mesh_book.specs.Changes.{as_view, new_version}
 use Rattle.mesh_book.specs.declared.versions.Version.{Version}
 use Rattle.mesh_book.proofs.Exchanged.{version_absent, version_changed}
 use Rattle.mesh_book.proofs.book.Book.make_view.Goals as goal
 
 pub returns-in-None-clause-ok : goal.returns-in-None-clause-ok
 returns-in-None-clause-ok c =
-    let same : c.unmade-blank.result.object ≡ c.args.object.now = ap (λ (v : Version). v.object) c.unmade-blank.ensures ∙ c.in_ok-copy.ensures in
-    version_absent as_view c.args.self.now c.args.object.now c.unmade-blank.result same c.exchange.new.self (sym c.exchange.ensures.value ∙ c.in-None.is) c.exchange.ensures.rest
+    version_absent as_view c.args.self.now c.args.object.now (new_version c.args.object.now) refl c.blank_at.new.versions (sym c.in_ok-had.ensures.value ∙ c.in-None.is) c.in_ok-had.ensures.rest
 
 pub returns-in-Some-clause-ok : goal.returns-in-Some-clause-ok
 returns-in-Some-clause-ok c =
-    let same : c.unmade-blank.result.object ≡ c.args.object.now = ap (λ (v : Version). v.object) c.unmade-blank.ensures ∙ c.in_ok-copy.ensures in
-    version_changed as_view c.args.self.now c.args.object.now c.unmade-blank.result same c.in-Some.version c.exchange.new.self c.exchange-in-Some.new.self (sym c.exchange.ensures.value ∙ c.in-Some.is) refl c.exchange.ensures.rest
-    (c.exchange-in-Some.ensures.rest)
+    version_changed as_view c.args.self.now c.args.object.now (new_version c.args.object.now) refl c.in-Some.version c.blank_at.new.versions c.exchange.new.self (sym c.in_ok-had.ensures.value ∙ c.in-Some.is) refl c.in_ok-had.ensures.rest
+    (c.exchange.ensures.rest)
