@@ -1,9 +1,8 @@
-use Rattle.std.proofs.Common.{◌≡◌, true, None, List, refl, sym, ◌∙◌, ap}
+use Rattle.std.proofs.Common.{true, None, List, refl, sym, ◌∙◌, ap}
 use Rattle.mesh_list.specs.Keyed.{exchanged}
 use Rattle.mesh_values.specs.Names.{name_cmp}
 use Rattle.mesh_values.specs.declared.times.Bounds.{Bounds}
 use Rattle.mesh_book.specs.Changes.{version_object, as_table, new_version}
-use Rattle.mesh_book.specs.declared.versions.Version.{Version}
 use Rattle.mesh_book.proofs.Exchanged.{version_absent, version_changed}
 use Rattle.mesh_book.proofs.book.Book.make_table.Goals as goal
 

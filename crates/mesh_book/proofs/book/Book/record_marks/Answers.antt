@@ -1,6 +1,5 @@
-use Rattle.std.proofs.Common.{◌≡◌, refl, sym, ◌∙◌, ap}
+use Rattle.std.proofs.Common.{refl, sym, ◌∙◌}
 use Rattle.mesh_book.specs.Changes.{with_marks, new_version}
-use Rattle.mesh_book.specs.declared.versions.Version.{Version}
 use Rattle.mesh_book.proofs.Exchanged.{version_absent, version_changed}
 use Rattle.mesh_book.proofs.book.Book.record_marks.Goals as goal
 
