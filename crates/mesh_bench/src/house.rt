@@ -1,7 +1,7 @@
 // A warehouse in memory with many tables, views and versions, whose versions gain hour after hour.
 use mesh_base::{Defn, Own, Query, Snapshot};
 use mesh_house::{Change, MemHouse, Warehouse, WhFail};
-use mesh_list::{Duplicate, Memory, Seq};
+use mesh_list::{Duplicate, Memory, Seq, together};
 use mesh_time::read_cron;
 use mesh_values::{ColType, Column, Columns, Cron, Kind, Name, Str, Unit};
 use std::alloc::Global;
@@ -42,46 +42,60 @@ fn columns(alloc: Global) -> Result<Columns, Memory> {
     Ok(columns)
 }
 
+fn own(alloc: Global, name: Name, cron: Cron) -> Own {
+    Own {
+        name,
+        kind: Kind::View,
+        cron,
+        unit: Unit::Hour,
+        start: None,
+        sources: Seq::new(alloc),
+        defn: Defn::Sql(Query {
+            ctes: Seq::new(alloc),
+            selects: Seq::new(alloc),
+        }),
+    }
+}
+
 fn snapshot(alloc: Global, cron: Cron, number: u32) -> Result<Snapshot, Memory> {
+    let names = together(name(alloc, b"bench", number), name(alloc, b"bench", number));
+    let (names, object) = together(names, table(alloc, number))?;
     Ok(Snapshot {
-        name: name(alloc, b"bench", number)?,
+        name: names.0,
         fingerprint: [0; 32],
-        own: Own {
-            name: name(alloc, b"bench", number)?,
-            kind: Kind::View,
-            cron,
-            unit: Unit::Hour,
-            start: None,
-            sources: Seq::new(alloc),
-            defn: Defn::Sql(Query {
-                ctes: Seq::new(alloc),
-                selects: Seq::new(alloc),
-            }),
-        },
+        own: own(alloc, names.1, cron),
         parents: Seq::new(alloc),
         rank: 0,
-        object: table(alloc, number)?,
+        object,
         expires: 0,
     })
 }
 
-/// Makes a model's snapshot, table and view.
-fn fill(alloc: Global, house: &mut MemHouse, cron: Cron, number: u32) -> Result<(), WhFail> {
+/// Puts a model's snapshot.
+fn put(alloc: Global, house: &mut MemHouse, cron: Cron, number: u32) -> Result<(), WhFail> {
     let put = Change::PutSnapshot {
         snapshot: snapshot(alloc, cron, number)?,
     };
-    house.change(alloc, &put)?;
-    let make = Change::MakeTable {
-        object: table(alloc, number)?,
-        columns: columns(alloc)?,
-    };
-    house.change(alloc, &make)?;
-    let point = Change::PointView {
-        view: name(alloc, b"bench", number)?,
-        target: table(alloc, number)?,
-    };
-    house.change(alloc, &point)?;
-    Ok(())
+    house.change(alloc, &put)
+}
+
+/// Makes a model's table.
+fn make(alloc: Global, house: &mut MemHouse, number: u32) -> Result<(), WhFail> {
+    let (object, columns) = together(table(alloc, number), columns(alloc))?;
+    house.change(alloc, &Change::MakeTable { object, columns })
+}
+
+/// Points a model's view at its table.
+fn point(alloc: Global, house: &mut MemHouse, number: u32) -> Result<(), WhFail> {
+    let (view, target) = together(name(alloc, b"bench", number), table(alloc, number))?;
+    house.change(alloc, &Change::PointView { view, target })
+}
+
+/// Makes a model's snapshot, table and view.
+fn fill(alloc: Global, house: &mut MemHouse, cron: Cron, number: u32) -> Result<(), WhFail> {
+    put(alloc, house, cron, number)?;
+    make(alloc, house, number)?;
+    point(alloc, house, number)
 }
 
 /// Records the next hour of a version.
@@ -92,8 +106,7 @@ fn record(alloc: Global, house: &mut MemHouse, number: u32, hour: u32) -> Result
         start,
         end: start.saturating_add(HOUR),
     };
-    house.change(alloc, &change)?;
-    Ok(())
+    house.change(alloc, &change)
 }
 
 fn spans(house: &MemHouse) -> usize {
@@ -104,20 +117,44 @@ fn spans(house: &MemHouse) -> usize {
     count
 }
 
-/// So many tables with a view and a version each, and then so many changes, which each record an hour of one version
-/// after another. The answer is how many spans are recorded.
-pub fn recorded(alloc: Global, tables: u32, changes: u32) -> Result<usize, WhFail> {
+fn fill_all(alloc: Global, house: &mut MemHouse, cron: Cron, tables: u32) -> Result<(), WhFail> {
+    for number in 0..tables {
+        fill(alloc, house, cron, number)?;
+    }
+    Ok(())
+}
+
+fn record_all(
+    alloc: Global,
+    house: &mut MemHouse,
+    tables: u32,
+    changes: u32,
+) -> Result<(), WhFail> {
+    for change in 0..changes {
+        if tables != 0 {
+            record(alloc, house, change % tables, change / tables)?;
+        }
+    }
+    Ok(())
+}
+
+fn change_all(
+    alloc: Global,
+    house: &mut MemHouse,
+    tables: u32,
+    changes: u32,
+) -> Result<(), WhFail> {
     let Ok(cron) = read_cron(b"@hourly") else {
         return Err(WhFail::Failed);
     };
+    fill_all(alloc, house, cron, tables)?;
+    record_all(alloc, house, tables, changes)
+}
+
+/// So many tables with a view and a version each, and then so many changes, which each record an hour of one version
+/// after another. The answer is how many spans are recorded.
+pub fn recorded(alloc: Global, tables: u32, changes: u32) -> Result<usize, WhFail> {
     let mut house = MemHouse::new(alloc);
-    for number in 0..tables {
-        fill(alloc, &mut house, cron, number)?;
-    }
-    for change in 0..changes {
-        if tables != 0 {
-            record(alloc, &mut house, change % tables, change / tables)?;
-        }
-    }
+    change_all(alloc, &mut house, tables, changes)?;
     Ok(spans(&house))
 }
