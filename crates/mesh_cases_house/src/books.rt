@@ -1,6 +1,6 @@
 // Books by their lines, the breaches of a well-formed one, and the rules that books stand on.
 use crate::changes::snapshot;
-use crate::line::{Line, Named, Owns, parted};
+use crate::line::{Line, Named, Owns, pair, parted};
 use crate::owns::{add_own, put_columns_of, put_sorted};
 use mesh_base::{Decl, Env, Indexes, Node, Nodes, Snapshot, columns_of};
 use mesh_book::{Book, Version, book_fault};
@@ -87,7 +87,15 @@ fn put_fault(alloc: Global, report: &mut Vec<u8>, book: &Book) -> Result<(), Tro
         }
         None => report.extend_from_slice(b"well formed")?,
     }
-    if !book.copy()?.same(book) {
+    put_unless(report, is_copied(book)?)
+}
+
+fn is_copied(book: &Book) -> Result<bool, Trouble> {
+    Ok(book.copy()?.same(book))
+}
+
+fn put_unless(report: &mut Vec<u8>, copied: bool) -> Result<(), Trouble> {
+    if !copied {
         report.extend_from_slice(b", unlike its copy")?;
     }
     Ok(())
@@ -120,26 +128,31 @@ fn places(line: &Line) -> Result<Indexes, Trouble> {
 }
 
 fn node(line: &Line, owns: &[Named]) -> Result<Node, Trouble> {
+    let (parents, rank) = pair(places(line), line.rank(2))?;
+    let own = line.own(owns, 1)?.copy()?;
     Ok(Node {
-        own: line.own(owns, 1)?.copy()?,
-        parents: places(line)?,
-        rank: line.rank(2)?,
+        own,
+        parents,
+        rank,
         fingerprint: [7; 32],
     })
 }
 
 fn put_project(alloc: Global, report: &mut Vec<u8>, nodes: Nodes) -> Result<(), Trouble> {
     match Project::new(nodes)? {
-        Some(made) => {
-            let text = format!(in alloc; "{} nodes", made.as_slice().len())?;
-            report.extend_from_slice(text.as_bytes())?;
-            if !made.copy()?.same(&made) {
-                report.extend_from_slice(b", unlike its copy")?;
-            }
-        }
-        None => report.extend_from_slice(b"none")?,
+        Some(made) => put_made(alloc, report, &made),
+        None => Ok(report.extend_from_slice(b"none")?),
     }
-    Ok(())
+}
+
+fn is_project_copied(made: &Project) -> Result<bool, Trouble> {
+    Ok(made.copy()?.same(made))
+}
+
+fn put_made(alloc: Global, report: &mut Vec<u8>, made: &Project) -> Result<(), Trouble> {
+    let text = format!(in alloc; "{} nodes", made.as_slice().len())?;
+    report.extend_from_slice(text.as_bytes())?;
+    put_unless(report, is_project_copied(made)?)
 }
 
 /// The lines of a good book, the same with those that are changed, and the nodes of a project.
@@ -165,8 +178,13 @@ impl<'a> Stage<'a> {
     }
 
     fn fault(&mut self, alloc: Global, owns: &[Named]) -> Result<(), Trouble> {
-        let book = book(alloc, self.now.as_slice(), owns)?;
+        self.put_now(alloc, owns)?;
         self.now = Vec::from_slice(alloc, self.good.as_slice())?;
+        Ok(())
+    }
+
+    fn put_now(&mut self, alloc: Global, owns: &[Named]) -> Result<(), Trouble> {
+        let book = book(alloc, self.now.as_slice(), owns)?;
         put_fault(alloc, &mut self.report, &book)
     }
 

@@ -1,54 +1,63 @@
 // The changes that lines say.
-use crate::line::{Line, Named, columns};
+use crate::line::{Line, Named, columns, pair};
 use mesh_base::{Own, Ref, Snapshot};
 use mesh_cases::Trouble;
 use mesh_house::Change;
 use mesh_list::{Duplicate, Seq};
 
-fn snapshot_with(line: &Line, key: Ref, own: Own) -> Result<Snapshot, Trouble> {
+fn own_at(line: &Line, owns: &[Named], at: usize) -> Result<Own, Trouble> {
+    Ok(line.own(owns, at)?.copy()?)
+}
+
+/// The snapshot that a line says from its second word on.
+pub fn snapshot(line: &Line, owns: &[Named]) -> Result<Snapshot, Trouble> {
+    let (rank, expires) = pair(line.rank(3), line.number(5))?;
+    let (key, object) = pair(line.reference(1), line.name(4))?;
+    let (parents, own) = pair(line.refs(b"parents"), own_at(line, owns, 2))?;
     let Ref { name, fingerprint } = key;
     Ok(Snapshot {
         name,
         fingerprint,
         own,
-        parents: line.refs(b"parents")?,
-        rank: line.rank(3)?,
-        object: line.name(4)?,
-        expires: line.number(5)?,
+        parents,
+        rank,
+        object,
+        expires,
     })
 }
 
-/// The snapshot that a line says from its second word on.
-pub fn snapshot(line: &Line, owns: &[Named]) -> Result<Snapshot, Trouble> {
-    let own = line.own(owns, 2)?.copy()?;
-    snapshot_with(line, line.reference(1)?, own)
-}
-
 fn load(line: &Line) -> Result<Change, Trouble> {
+    let name = line.name(1)?;
+    let (columns, rows) = pair(columns(line.alloc()), line.rows(3))?;
     Ok(Change::Load {
-        name: line.name(1)?,
-        columns: columns(line.alloc())?,
-        rows: line.rows(3)?,
+        name,
+        columns,
+        rows,
         keep: line.is(2, b"keep"),
     })
 }
 
 fn make_view(line: &Line, owns: &[Named]) -> Result<Change, Trouble> {
+    let (object, columns) = pair(line.name(1), columns(line.alloc()))?;
+    let (own, targets) = pair(own_at(line, owns, 2), line.pairs(3))?;
     Ok(Change::MakeView {
-        object: line.name(1)?,
-        columns: columns(line.alloc())?,
-        own: line.own(owns, 2)?.copy()?,
-        targets: line.pairs(3)?,
+        object,
+        columns,
+        own,
+        targets,
     })
 }
 
 fn write_range(line: &Line) -> Result<Change, Trouble> {
+    let (start, end) = pair(line.number(3), line.number(4))?;
+    let (object, time) = pair(line.name(1), line.text(2))?;
+    let rows = line.rows(5)?;
     Ok(Change::WriteRange {
-        object: line.name(1)?,
-        time: line.text(2)?,
-        start: line.number(3)?,
-        end: line.number(4)?,
-        rows: line.rows(5)?,
+        object,
+        time,
+        start,
+        end,
+        rows,
     })
 }
 

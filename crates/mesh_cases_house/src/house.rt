@@ -3,8 +3,9 @@ use crate::changes::change;
 use crate::line::{Line, Named, Owns, parted};
 use crate::owns::add_own;
 use crate::written::{put, put_body, put_book, put_columns, put_name, put_world};
+use mesh_book::Book;
 use mesh_cases::{Trouble, cases_of, put_number};
-use mesh_house::{Change, Changes, Fail, MemHouse, Warehouse, WhFail, make, make_all};
+use mesh_house::{Change, Changes, Fail, MemHouse, Warehouse, WhFail, World, make, make_all};
 use mesh_list::{Duplicate, Same, Seq};
 use std::alloc::Global;
 
@@ -14,6 +15,21 @@ struct Stage {
     house: MemHouse,
     list: Changes,
     report: Vec<u8>,
+}
+
+/// A copy of the world, after a change.
+fn stepped(alloc: Global, world: &World, change: &Change) -> Result<World, Trouble> {
+    let mut twin = world.copy()?;
+    twin.step(alloc, change)?;
+    Ok(twin)
+}
+
+fn is_same(twin: World, world: &World) -> bool {
+    twin.same(world)
+}
+
+fn is_copied(list: &Changes) -> Result<bool, Trouble> {
+    Ok(list.copy()?.same(list))
 }
 
 impl Stage {
@@ -36,16 +52,15 @@ impl Stage {
 
     /// Makes a change in the house, and by its step in a copy of the world that it keeps.
     fn change(&mut self, alloc: Global, change: &Change) -> Result<(), Trouble> {
-        let mut twin = self.house.world().copy()?;
-        twin.step(alloc, change)?;
+        let twin = stepped(alloc, self.house.world(), change)?;
         let answer = make(&mut self.house, alloc, change);
+        let same = answer.is_err() || is_same(twin, self.house.world());
         self.put_house(alloc, answer)?;
-        let same = answer.is_err() || twin.same(self.house.world());
         self.put_unless(same, b"unlike its step")
     }
 
     fn change_all(&mut self, alloc: Global) -> Result<(), Trouble> {
-        let copied = self.list.copy()?.same(&self.list);
+        let copied = is_copied(&self.list)?;
         let answer = make_all(&mut self.house, alloc, self.list.as_slice());
         self.list = Seq::new(alloc);
         self.put_house(alloc, answer)?;
@@ -101,15 +116,17 @@ impl Stage {
     fn book(&mut self, alloc: Global) -> Result<(), Trouble> {
         let answer = self.house.book(alloc);
         match self.found(answer.map(|book| Some(book)))? {
-            Some(book) => {
-                let same = book.same(&self.house.world().book);
-                self.report.push(b' ')?;
-                put_number(alloc, &mut self.report, book.moment)?;
-                put_book(alloc, &mut self.report, &book)?;
-                self.put_unless(same, b"unlike the world's")
-            }
+            Some(book) => self.put_found(alloc, &book),
             None => Ok(()),
         }
+    }
+
+    fn put_found(&mut self, alloc: Global, book: &Book) -> Result<(), Trouble> {
+        let same = book.same(&self.house.world().book);
+        self.report.push(b' ')?;
+        put_number(alloc, &mut self.report, book.moment)?;
+        put_book(alloc, &mut self.report, book)?;
+        self.put_unless(same, b"unlike the world's")
     }
 
     fn counts(&mut self, alloc: Global) -> Result<(), Trouble> {
@@ -141,6 +158,11 @@ impl Stage {
             || line.is(0, b"counts")
     }
 
+    fn changed(&mut self, line: &Line, owns: &[Named]) -> Result<(), Trouble> {
+        let change = change(line, owns)?;
+        self.change(line.alloc(), &change)
+    }
+
     /// A step that prints a line.
     fn shown(&mut self, line: &Line, owns: &[Named]) -> Result<(), Trouble> {
         if line.is(0, b"make_all") {
@@ -148,8 +170,7 @@ impl Stage {
         } else if Stage::is_read(line) {
             self.read(line)?;
         } else {
-            let change = change(line, owns)?;
-            self.change(line.alloc(), &change)?;
+            self.changed(line, owns)?;
         }
         self.report.push(b'\n')?;
         Ok(())

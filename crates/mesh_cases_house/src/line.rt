@@ -1,7 +1,7 @@
 // A line of a case, in words, and what its words say.
 use mesh_base::{Own, Ref, Refs};
 use mesh_cases::Trouble;
-use mesh_list::{Duplicate, Seq};
+use mesh_list::{Duplicate, Seq, together};
 use mesh_values::{Cell, ColType, Column, Columns, Name, Pair, Pairs, Row, Rows, Str};
 use std::alloc::Global;
 
@@ -16,6 +16,18 @@ pub fn parted(text: &[u8], byte: u8) -> (&[u8], &[u8]) {
     (text, &[])
 }
 
+/// Two answers as one.
+pub fn pair<A: Drop, B: Drop>(
+    a: Result<A, Trouble>,
+    b: Result<B, Trouble>,
+) -> Result<(A, B), Trouble> {
+    match (a, b) {
+        (Ok(first), Ok(second)) => Ok((first, second)),
+        (Err(trouble), _) => Err(trouble),
+        (_, Err(trouble)) => Err(trouble),
+    }
+}
+
 fn number_of(word: &[u8]) -> Result<i64, Trouble> {
     let digits = std::str::from_utf8(word).map_err(|_| Trouble::Case)?;
     digits.parse::<i64>().map_err(|_| Trouble::Case)
@@ -23,10 +35,8 @@ fn number_of(word: &[u8]) -> Result<i64, Trouble> {
 
 fn name_of(alloc: Global, word: &[u8]) -> Result<Name, Trouble> {
     let (schema, model) = parted(word, b'.');
-    Ok(Name {
-        schema: u8::copy_items(alloc, schema)?,
-        model: u8::copy_items(alloc, model)?,
-    })
+    let (schema, model) = together(u8::copy_items(alloc, schema), u8::copy_items(alloc, model))?;
+    Ok(Name { schema, model })
 }
 
 fn reference_of(alloc: Global, name: &[u8], mark: &[u8]) -> Result<Ref, Trouble> {
@@ -170,10 +180,8 @@ impl<'a> Line<'a> {
         let mut pairs = Seq::new(self.alloc);
         for word in self.words.iter().skip(from) {
             let (model, object) = parted(word, b'=');
-            pairs.push(Pair {
-                first: name_of(self.alloc, model)?,
-                second: name_of(self.alloc, object)?,
-            })?;
+            let (first, second) = pair(name_of(self.alloc, model), name_of(self.alloc, object))?;
+            pairs.push(Pair { first, second })?;
         }
         Ok(pairs)
     }
