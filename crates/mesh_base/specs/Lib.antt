@@ -2,5 +2,5 @@
 pub mod Keys
 -- Outputs: the output columns of a model.
 pub mod Outputs
--- Value: the value of a model from scratch.
-pub mod Value
+-- Nodes: how many nodes an expression has.
+pub mod Nodes

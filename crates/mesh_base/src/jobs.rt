@@ -27,13 +27,6 @@ pub struct Job {
     pub time: Option<Str>,
 }
 
-/// The columns and rows of a file.
-#[derive(Drop)]
-pub struct Seed {
-    pub columns: Columns,
-    pub rows: Rows,
-}
-
 /// How many units were computed, and how many changes the warehouse was asked for.
 #[derive(Clone, Copy, PartialEq, Eq)]
 pub struct Done {
@@ -74,13 +67,6 @@ impl Duplicate for Job {
     }
 }
 
-impl Duplicate for Seed {
-    fn copy(&self) -> Result<Seed, Memory> {
-        let (columns, rows) = both(&self.columns, &self.rows)?;
-        Ok(Seed { columns, rows })
-    }
-}
-
 impl Duplicate for Done {
     fn copy(&self) -> Result<Done, Memory> {
         Ok(*self)
@@ -107,12 +93,6 @@ impl Same for Job {
             && self.pool == other.pool
             && self.bounds.same(&other.bounds)
             && self.time.same(&other.time)
-    }
-}
-
-impl Same for Seed {
-    fn same(&self, other: &Seed) -> bool {
-        self.columns.same(&other.columns) && self.rows.same(&other.rows)
     }
 }
 

@@ -84,7 +84,7 @@ pub fn has_its_time(own: &Own) -> bool
     ensures { result ≡ has_its_time own.now.kind own.now.start (columns_of own.now) }
 {
     match &own.kind {
-        Kind::Incremental { time } => own.start.is_some() && own_has(own, time),
+        Kind::Incremental { time, .. } => own.start.is_some() && own_has(own, time),
         Kind::Full | Kind::View | Kind::Seed => true,
     }
 }

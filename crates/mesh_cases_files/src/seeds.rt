@@ -2,10 +2,10 @@
 use crate::answers::{put_column, put_count, put_fault};
 use crate::sources::{put_sources, put_sources_size};
 use mesh_cases::{Trouble, front_word, kind_of, put_cell};
-use mesh_csv::{Seed, read_seed};
+use mesh_csv::read_seed;
 use mesh_external::read_external;
 use mesh_list::{Duplicate, Seq};
-use mesh_values::{Column, Columns, Row, Str};
+use mesh_values::{Column, Columns, Row, Seed, Str};
 use std::alloc::Global;
 
 /// The columns that are declared, and what stands in front of each file.

@@ -2,7 +2,7 @@
 use Rattle.std.specs.Prelude.{◌≡◌, ℕ, Bool, false, List, [], ◌∷◌, ◌++◌, codes, take}
 use Rattle.std.specs.declared.option.Option.{Option}
 use Rattle.std.specs.Option.{ForSome, option_map}
-use Rattle.mesh_base.specs.declared.models.Model.{Model}
+use Rattle.mesh_project.specs.declared.models.Model.{Model}
 use Rattle.mesh_values.specs.Picked.{same_text}
 use Rattle.mesh_io.specs.declared.files.File.{File}
 use Rattle.mesh_io.specs.Told.{SinkTold}

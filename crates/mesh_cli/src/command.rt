@@ -3,14 +3,14 @@ ghost use Rattle.std.specs.Prelude.{◌≡◌, ◌↔◌, ◌⊎◌, ◌≤◌, 
 ghost use Rattle.mesh_list.specs.Counts.{Rose};
 ghost use Rattle.mesh_list.specs.Keyed.{ascends};
 ghost use Rattle.mesh_values.specs.Names.{name_cmp};
-ghost use Rattle.mesh_base.specs.Value.{model_name};
+ghost use Rattle.mesh_project.specs.Value.{model_name};
 ghost use Rattle.mesh_house.specs.Runs.{Ran, Stopped};
 ghost use Rattle.mesh_fault_text.specs.Lines.{fault_line};
 ghost use Rattle.mesh_cli.specs.Apply.{changes};
 ghost use Rattle.mesh_cli.specs.Mesh.{is_apply, Applied, Halted, Printed, IsRefused, IsCut};
 
 use crate::apply::apply;
-use mesh_base::Model;
+use mesh_project::Model;
 use mesh_fault_text::fault_line;
 use mesh_house::{Warehouse, WhFail};
 use mesh_io::{Clock, Folder, IoFail, Sink, Source};

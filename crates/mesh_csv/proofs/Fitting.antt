@@ -15,7 +15,7 @@ use Rattle.mesh_values.specs.declared.values.ColType.TheVariants.{Int, Text, Dat
 use Rattle.mesh_tokens.specs.declared.faults.ReadFault.{ReadFault}
 use Rattle.mesh_casts.specs.Casts.{number_named, truth_named}
 use Rattle.mesh_casts.specs.Dates.{day_named}
-use Rattle.mesh_csv.specs.declared.seed.Seed.{Seed}
+use Rattle.mesh_values.specs.declared.values.Seed.{Seed}
 use Rattle.mesh_csv.specs.Cells.{Record, value_of, cell_of, row_of, or_null}
 use Rattle.mesh_csv.specs.Fits.{is_of, fits}
 use Rattle.mesh_csv.specs.Headers.{bad_row, first_of, header_fault, header_names}

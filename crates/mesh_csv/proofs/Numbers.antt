@@ -10,7 +10,7 @@ use Rattle.mesh_values.specs.declared.values.Cell.TheVariants.{Int as Number}
 use Rattle.mesh_values.specs.declared.values.ColType.{ColType}
 use Rattle.mesh_values.specs.declared.values.ColType.TheVariants.{Int, Text, Date}
 use Rattle.mesh_casts.specs.Casts.{number_named}
-use Rattle.mesh_csv.specs.declared.seed.Seed.{Seed}
+use Rattle.mesh_values.specs.declared.values.Seed.{Seed}
 use Rattle.mesh_csv.specs.Cells.{Record, is_filled, is_read, cell_of, row_of, field, is_used, are_read, kind_found, or_null}
 use Rattle.mesh_csv.specs.Fits.{is_of, kind_at, cell_at, is_number, are_numbers}
 use Rattle.mesh_csv.specs.Headers.{header_fault, header_names}

@@ -10,7 +10,7 @@ use Rattle.mesh_values.specs.declared.values.ColType.{ColType}
 use Rattle.mesh_values.specs.declared.values.ColType.TheVariants as type
 use Rattle.mesh_values.specs.Picked.{same_text}
 use Rattle.mesh_tokens.specs.declared.faults.ReadFault.{ReadFault}
-use Rattle.mesh_csv.specs.declared.seed.Seed.{Seed}
+use Rattle.mesh_values.specs.declared.values.Seed.{Seed}
 use Rattle.mesh_csv.specs.Cells.{Record, is_read, row_of, kind_found}
 use Rattle.mesh_csv.specs.Headers.{bad_row, first_of, header_fault, header_names}
 

@@ -3,7 +3,7 @@ ghost use Rattle.std.specs.Prelude.{◌≡◌, ℕ, List, [], true, Result, Ok, 
 ghost use Rattle.std.specs.List.{list_all};
 ghost use Rattle.mesh_values.specs.declared.values.Column.{Column};
 ghost use Rattle.mesh_values.specs.declared.values.ColType.TheVariants.{Int};
-ghost use Rattle.mesh_csv.specs.declared.seed.Seed.{Seed as Seeds};
+ghost use Rattle.mesh_values.specs.declared.values.Seed.{Seed as Seeds};
 ghost use Rattle.mesh_csv.specs.Fits.{fits, kind_at, are_numbers};
 ghost use Rattle.mesh_csv.specs.Seeds.{seed_text};
 

@@ -15,4 +15,4 @@ mod types;
 pub use header::{bad_row, header_fault, header_names, long_name, many_columns};
 pub use laws::{numbers_are_found, rows_fit_columns};
 pub use records::{Record, Records, records_of};
-pub use seed::{Seed, read_seed};
+pub use seed::read_seed;

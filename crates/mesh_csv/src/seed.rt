@@ -11,15 +11,8 @@ use crate::rows::{records_fault, rows_of};
 use crate::types::kind_found;
 use mesh_list::{Duplicate, Memory, Seq};
 use mesh_tokens::ReadFault;
-use mesh_values::{ColType, Column, Columns, Rows, Str, Strs};
+use mesh_values::{ColType, Column, Columns, Seed, Str, Strs};
 use std::alloc::Global;
-
-/// The columns and the rows of a seed.
-#[derive(Drop, PartialEq, Eq)]
-pub struct Seed {
-    pub columns: Columns,
-    pub rows: Rows,
-}
 
 type Kinds = Seq<ColType>;
 

@@ -10,7 +10,7 @@ use crate::cells::is_true;
 use crate::expressions::{ev, item_row, key_list};
 use crate::frames::{Frame, Members};
 use crate::joined::JoinedRows;
-use crate::lists::{append, push_made};
+use crate::lists::push_made;
 use mesh_base::{Expr, Select};
 use mesh_index::Index;
 use mesh_list::Memory;
@@ -113,7 +113,7 @@ fn add_group(
 {
     index.find(key, found)?;
     let own = group_row(alloc, q, columns, key.as_slice(), rows, found.as_slice(), u)?;
-    append(made, own)
+    made.append(own)
 }
 
 /// The rows of the groups of equal keys, by the index of these.

@@ -68,7 +68,7 @@ module _ (a b : List Input) (own : Own) (h : (u : Bounds) → Each (Named_same u
   over_same SeedKind units = defn_same a b own.defn no_bounds (h no_bounds)
   over_same View units = defn_same a b own.defn no_bounds (h no_bounds)
   over_same Full units = defn_same a b own.defn no_bounds (h no_bounds)
-  over_same (Incremental time) units = flat_each (piece_over own time a) (piece_over own time b) (piece_same time) units
+  over_same (Incremental time lookback) units = flat_each (piece_over own time a) (piece_over own time b) (piece_same time) units
 
 -- a declared source's rows, by what is there
 declared_is : (columns : List Column) (o : Option Input) → declared_rows columns o ≡ cond (has_shape columns (columns_in o)) (picked_rows (map (λ (d : Column). d.name) columns) (columns_in o) (rows_in o)) []

@@ -103,4 +103,14 @@ impl<T: Drop> Seq<T> {
             Err(_) => Err(Memory),
         }
     }
+
+    /// Puts all elements of another list behind these, in their order. At `Err` some of them may stand there.
+    pub fn append(&mut self, more: Seq<T>) -> Result<(), Memory>
+        ensures { OnOk result (self.new ≡ self.old ++ more) }
+    {
+        for item in more.into_vec() {
+            self.push(item)?;
+        }
+        Ok(())
+    }
 }

@@ -3,7 +3,7 @@ use Rattle.std.proofs.Common.{◌≡◌, ℕ, Bool, true, false, List, [], ◌�
 use Rattle.std.specs.declared.option.Option.{Option}
 use Rattle.std.specs.declared.option.Option.TheVariants.{None, Some}
 use Rattle.mesh_base.specs.declared.definitions.Decl.{Decl}
-use Rattle.mesh_base.specs.declared.models.Model.{Model}
+use Rattle.mesh_project.specs.declared.models.Model.{Model}
 use Rattle.mesh_io.specs.declared.files.File.{File}
 use Rattle.mesh_io.specs.Files.{bytes_at}
 use Rattle.mesh_tokens.specs.declared.faults.ReadFault.TheVariants as read

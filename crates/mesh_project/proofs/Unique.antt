@@ -3,7 +3,7 @@ use Rattle.std.proofs.Common.{◌≡◌, ◌⊎◌, inl, inr, ℕ, Bool, true, f
 use Rattle.std.specs.declared.option.Option.{Option}
 use Rattle.std.specs.declared.option.Option.TheVariants.{None, Some}
 use Rattle.mesh_base.specs.declared.definitions.Decl.{Decl}
-use Rattle.mesh_base.specs.declared.models.Model.{Model}
+use Rattle.mesh_project.specs.declared.models.Model.{Model}
 use Rattle.mesh_io.specs.declared.files.File.{File}
 use Rattle.mesh_query.proofs.OneRefusal.{one_refusal, short}
 use Rattle.mesh_statement.specs.Statement.{Read, statement}

@@ -7,13 +7,13 @@ use Rattle.std.specs.declared.option.Option.TheVariants.{None, Some}
 use Rattle.mesh_list.specs.Keyed.{placed}
 use Rattle.mesh_values.specs.contracts.values.ColumnPartialEq.TheImpl.{eq-value}
 use Rattle.mesh_base.specs.declared.definitions.Decl.{Decl}
-use Rattle.mesh_base.specs.declared.models.Model.{Model}
-use Rattle.mesh_base.specs.declared.models.Picking.{Picking}
-use Rattle.mesh_base.specs.declared.models.Picking.TheVariants.{Seed, Pick}
+use Rattle.mesh_project.specs.declared.models.Model.{Model}
+use Rattle.mesh_project.specs.declared.models.Picking.{Picking}
+use Rattle.mesh_project.specs.declared.models.Picking.TheVariants.{Seed, Pick}
 use Rattle.mesh_values.specs.declared.values.Column.{Column}
 use Rattle.mesh_values.specs.Names.{name_cmp}
 use Rattle.mesh_values.specs.Picked.{same_text}
-use Rattle.mesh_base.specs.Value.{model_name, model_of}
+use Rattle.mesh_project.specs.Value.{model_name, model_of}
 use Rattle.mesh_project.specs.declared.faults.LoadFault.{LoadFault}
 use Rattle.mesh_project.specs.declared.gathered.Check.{Check}
 use Rattle.mesh_project.specs.declared.gathered.Gathered.{Gathered}

@@ -5,9 +5,9 @@ use Rattle.std.specs.declared.option.Option.{Option}
 use Rattle.std.specs.declared.option.Option.TheVariants.{None, Some}
 use Rattle.mesh_values.specs.declared.kinds.Kind.{Kind}
 use Rattle.mesh_values.specs.declared.kinds.Kind.TheVariants as kind
-use Rattle.mesh_base.specs.declared.models.Picking.TheVariants.{Seed as SeedRows, Pick}
+use Rattle.mesh_project.specs.declared.models.Picking.TheVariants.{Seed as SeedRows, Pick}
 use Rattle.mesh_values.specs.Picked.{same_text}
-use Rattle.mesh_csv.specs.declared.seed.Seed.{Seed}
+use Rattle.mesh_values.specs.declared.values.Seed.{Seed}
 use Rattle.mesh_csv.specs.Seeds.{seed_text}
 use Rattle.mesh_io.specs.declared.files.File.{File}
 use Rattle.mesh_io.specs.Files.{bytes_at}

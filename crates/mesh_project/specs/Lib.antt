@@ -1,3 +1,5 @@
+-- Value: a model of the first path, and its rows from scratch.
+pub mod Value
 -- Loading: what a call that asks the folder answers.
 pub mod Loading
 -- Plain: which query picks plain columns of one relation.

@@ -4,13 +4,14 @@ ghost use Rattle.mesh_project.specs.declared.faults.LoadFault.TheVariants as fau
 ghost use Rattle.std.specs.List.{list_all};
 ghost use Rattle.std.specs.Option.{option_copied};
 ghost use Rattle.mesh_values.specs.Picked.{same_text};
-ghost use Rattle.mesh_base.specs.Value.{model_of};
+ghost use Rattle.mesh_project.specs.Value.{model_of};
 ghost use Rattle.mesh_project.specs.Built.{has_column, is_among, are_distinct, is_seed_with, is_resolved, are_resolved, same_column, is_column, are_named, is_seed_of, is_picked, is_kept, is_undeclared, are_built, built};
 ghost use Rattle.mesh_project.specs.Loading.{Gives};
 
 use crate::faults::{LoadFault, outside};
 use crate::gathered::{Check, Gathered};
-use mesh_base::{Decl, Model, Picking};
+use crate::models::{Model, Picking};
+use mesh_base::Decl;
 use mesh_list::Sorted;
 use mesh_values::{Column, Str};
 use std::alloc::Global;

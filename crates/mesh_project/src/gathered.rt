@@ -3,7 +3,7 @@ ghost use Rattle.std.specs.Prelude.{◌≡◌, [], OnOk};
 ghost use Rattle.mesh_project.specs.Built.{nothing, with_file, with_item};
 
 use crate::item::{FileSays, Item};
-use mesh_base::Model;
+use crate::models::Model;
 use mesh_list::{Duplicate, Memory, Seq, Sorted};
 use mesh_values::{Columns, Name};
 use std::alloc::Global;

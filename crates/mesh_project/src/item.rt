@@ -7,13 +7,13 @@ ghost use Rattle.mesh_project.specs.Items.{seed_if_there, seed_at, seed_of, seed
 
 use crate::faults::{LoadFault, bad_path, in_file, outside};
 use crate::files::{below_models, is_python, read_within};
+use crate::models::{Model, Picking};
 use crate::plain::{Picked, picked_in};
-use mesh_base::{Model, Picking};
-use mesh_csv::{Seed, read_seed};
+use mesh_csv::read_seed;
 use mesh_io::Folder;
 use mesh_list::{Duplicate, Memory, Seq};
 use mesh_text::{ModelText, read_model};
-use mesh_values::{Columns, Kind, LARGEST_FILE, LARGEST_SEED, Str};
+use mesh_values::{Columns, Kind, LARGEST_FILE, LARGEST_SEED, Seed, Str};
 use std::alloc::Global;
 
 /// A model, and the columns that its file declares for its query.

@@ -1,6 +1,6 @@
 // What the files of a project mean is one thing.
 ghost use Rattle.std.specs.Prelude.{◌≡◌, ℕ, List};
-ghost use Rattle.mesh_base.specs.declared.models.Model.{Model as Models};
+ghost use Rattle.mesh_project.specs.declared.models.Model.{Model as Models};
 ghost use Rattle.mesh_io.specs.declared.files.File.{File as Files};
 ghost use Rattle.mesh_tokens.specs.declared.faults.FaultKind.{FaultKind as Kinds};
 ghost use Rattle.mesh_project.specs.Project.{Means, IsFirstFault};

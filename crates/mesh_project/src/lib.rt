@@ -10,9 +10,11 @@ mod files;
 mod gathered;
 mod item;
 mod laws;
+mod models;
 mod plain;
 mod project;
 
 pub use faults::LoadFault;
 pub use laws::files_mean_one_thing;
+pub use models::{Model, Picking};
 pub use project::load;

@@ -8,7 +8,7 @@ use crate::faults::LoadFault;
 use crate::files::{paths_in, sources_in};
 use crate::gathered::{Gathered, add, nothing};
 use crate::item::file_says;
-use mesh_base::Model;
+use crate::models::Model;
 use mesh_io::Folder;
 use mesh_list::Sorted;
 use mesh_values::Str;

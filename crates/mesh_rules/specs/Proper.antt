@@ -36,7 +36,7 @@ is_body_of other (Sql query) = true
 
 -- an incremental model has a start, and a column of the name that its kind gives for the time
 abbrev pub has_its_time : Kind → Option ℤ → List Column → Bool
-has_its_time (Incremental time) start columns = is_some start && has_column columns time
+has_its_time (Incremental time lookback) start columns = is_some start && has_column columns time
 has_its_time other start columns = true
 
 -- what the body names is there

@@ -1,12 +1,13 @@
 // What a command will do to an environment.
 use crate::projects::Project;
-use mesh_base::{Dues, Entries};
+use mesh_base::{Dues, Entries, Forgets};
 use mesh_list::{Duplicate, Memory, Same, both};
 use mesh_values::{Pairs, Str};
 
 /// What a command will do to an environment at a moment. `run` computes what the environment lists, and plans no
 /// change of it. `entries` has one entry for each node of the project. A pair of `removed` is a model that goes and a
-/// name that has the word of its kind as its model part; one of `unsteady` is a model and one that it reads.
+/// name that has the word of its kind as its model part; one of `unsteady` is a model and one that it reads. What
+/// `forgets` has is forgotten before anything is computed.
 #[derive(Drop)]
 pub struct Plan {
     pub env: Str,
@@ -17,6 +18,7 @@ pub struct Plan {
     pub removed: Pairs,
     pub unsteady: Pairs,
     pub dues: Dues,
+    pub forgets: Forgets,
 }
 
 impl Duplicate for Plan {
@@ -24,6 +26,7 @@ impl Duplicate for Plan {
         let (env, project) = both(&self.env, &self.project)?;
         let (entries, removed) = both(&self.entries, &self.removed)?;
         let (unsteady, dues) = both(&self.unsteady, &self.dues)?;
+        let forgets = self.forgets.copy()?;
         Ok(Plan {
             env,
             moment: self.moment,
@@ -33,6 +36,7 @@ impl Duplicate for Plan {
             removed,
             unsteady,
             dues,
+            forgets,
         })
     }
 }
@@ -47,5 +51,6 @@ impl Same for Plan {
             && self.removed.same(&other.removed)
             && self.unsteady.same(&other.unsteady)
             && self.dues.same(&other.dues)
+            && self.forgets.same(&other.forgets)
     }
 }

@@ -36,7 +36,7 @@ fn has_its_time(kind: &Kind, start: Option<i32>, columns: &[Column]) -> bool
     ensures { result ≡ has_its_time kind.now start columns.now }
 {
     match kind {
-        Kind::Incremental { time } => start.is_some() && has_column(columns, time),
+        Kind::Incremental { time, .. } => start.is_some() && has_column(columns, time),
         Kind::Full | Kind::View | Kind::Seed => true,
     }
 }

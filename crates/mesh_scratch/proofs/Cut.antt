@@ -22,7 +22,8 @@ use Rattle.std.proofs.lemmas.Int.{ints, by_lt_z}
 use Rattle.mesh_time.specs.Ranges.{IsWithin, unit_size, unit_at}
 use Rattle.mesh_time.proofs.Apart.{lt_true, lt_says, le_true, le_says, and_true}
 use Rattle.mesh_seconds.specs.Times.{time_of, is_within, lies_in}
-use Rattle.mesh_scratch.specs.Sources.{same_type, is_of_type, has_shape, declared_rows}
+use Rattle.mesh_values.specs.Types.{same_type}
+use Rattle.mesh_scratch.specs.Sources.{is_of_type, has_shape, declared_rows}
 
 type_is : (a b : ColType) → same_type a b ≡ true → a ≡ b
 type_is Int Int e = refl

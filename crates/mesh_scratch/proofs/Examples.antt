@@ -46,7 +46,7 @@ midnight each_day = record { minute = 1; hour = 1; dom = 0xffff_fffe; month = 0x
 abbrev model : List ℕ → Bool → ℤ → Own
 model name each_day start = record {
   name = record { schema = codes "a"; model = name };
-  kind = kind.Incremental (codes "t");
+  kind = kind.Incremental (codes "t") 0;
   cron = midnight each_day;
   unit = unit.Day;
   start = Some start;
@@ -248,7 +248,7 @@ of_the_unit = record {
 abbrev by_day : Own
 by_day = record {
   name = record { schema = codes "shop"; model = codes "daily" };
-  kind = kind.Incremental day;
+  kind = kind.Incremental day 0;
   cron = midnight true;
   unit = unit.Day;
   start = Some (pos 19_723);
@@ -278,7 +278,7 @@ within_is u row =
 -- on 2024-01-03 the third day isn't over, so its order isn't there yet
 on_wednesday : from_scratch dated (λ own. pos (19_725 * 86_400)) (Model by_day Alone) ≡ order 1 19_723 ∷ order 2 19_723 ∷ order 3 19_724 ∷ []
 on_wednesday =
-    incrementals dated (λ own. pos (19_725 * 86_400)) by_day Alone day refl
+    incrementals dated (λ own. pos (19_725 * 86_400)) by_day Alone day 0 refl
     ∙ simp (within_is, its_id_is, its_day_is) refl
 
 -- a sum of no rows

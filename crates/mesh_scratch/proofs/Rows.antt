@@ -36,9 +36,9 @@ pub fulls : (sources : List Input) (clock : Clock) (own : Own) (parents : Closur
 fulls sources clock own parents q k d =
     ap (λ k. rows_over k own (inputs_of sources clock (Model own parents)) (schedule clock (Model own parents))) k ∙ ap (λ d. defn_rows d (inputs_of sources clock (Model own parents)) no_bounds) d
 
-pub incrementals : (sources : List Input) (clock : Clock) (own : Own) (parents : Closures) (time : List ℕ) → own.kind ≡ Incremental time
+pub incrementals : (sources : List Input) (clock : Clock) (own : Own) (parents : Closures) (time : List ℕ) (lookback : ℕ) → own.kind ≡ Incremental time lookback
     → from_scratch sources clock (Model own parents) ≡ flat_map (piece sources clock (Model own parents) time) (schedule clock (Model own parents))
-incrementals sources clock own parents time k = ap (λ k. rows_over k own (inputs_of sources clock (Model own parents)) (schedule clock (Model own parents))) k
+incrementals sources clock own parents time lookback k = ap (λ k. rows_over k own (inputs_of sources clock (Model own parents)) (schedule clock (Model own parents))) k
 
 -- a FULL model that reads one seed and nothing else
 pub full_over_seed : (sources : List Input) (clock : Clock) (own seed : Own) (q : Query) (columns : List Column) (rows : List (List Cell)) → own.kind ≡ Full → own.defn ≡ Sql q → own.sources ≡ [] → seed.kind ≡ SeedKind → seed.defn ≡ Seed columns rows
@@ -73,8 +73,8 @@ lie_in_one own time inputs (u ∷ us) =
     later true m k = refl
     later false m k = k
 
-pub in_schedule : (sources : List Input) (clock : Clock) (own : Own) (parents : Closures) (time : List ℕ) → own.kind ≡ Incremental time
+pub in_schedule : (sources : List Input) (clock : Clock) (own : Own) (parents : Closures) (time : List ℕ) (lookback : ℕ) → own.kind ≡ Incremental time lookback
     → All (λ row. list_any (λ u. lies_in (columns_of own) time u row) (schedule clock (Model own parents)) ≡ true) (from_scratch sources clock (Model own parents))
-in_schedule sources clock own parents time k =
+in_schedule sources clock own parents time lookback k =
     let P : List (List Cell) → Type 0 = λ rows. All (λ row. list_any (λ u. lies_in (columns_of own) time u row) (schedule clock (Model own parents)) ≡ true) rows in
     subst P (sym (incrementals sources clock own parents time k)) (lie_in_one own time (inputs_of sources clock (Model own parents)) (schedule clock (Model own parents)))

@@ -35,7 +35,7 @@ abbrev pub HasCrons : Closure → Type 0
 HasCrons c = All (λ s. IsTrue (is_cron (own_of s).cron)) (standing c)
 
 abbrev pub is_incremental : Kind → Bool
-is_incremental (Incremental time) = true
+is_incremental (Incremental time lookback) = true
 is_incremental other = false
 
 abbrev pub is_timed : Closure → Bool

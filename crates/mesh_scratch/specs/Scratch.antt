@@ -34,7 +34,7 @@ abbrev pub rows_over : Kind → Own → List Input → List Bounds → List (Lis
 rows_over SeedKind own inputs units = defn_rows own.defn inputs no_bounds
 rows_over View own inputs units = defn_rows own.defn inputs no_bounds
 rows_over Full own inputs units = defn_rows own.defn inputs no_bounds
-rows_over (Incremental time) own inputs units = flat_map (piece_over own time inputs) units
+rows_over (Incremental time lookback) own inputs units = flat_map (piece_over own time inputs) units
 
 -- a model as a table that others read
 abbrev pub table_of : Own → List (List Cell) → Input

@@ -6,20 +6,13 @@ use Rattle.std.specs.declared.option.Option.TheVariants.{None, Some}
 use Rattle.mesh_list.specs.Keyed.{found}
 use Rattle.mesh_values.specs.declared.values.Cell.{Cell}
 use Rattle.mesh_values.specs.declared.values.ColType.{ColType}
-use Rattle.mesh_values.specs.declared.values.ColType.TheVariants.{Int, Text, Date, Bool as Truth}
 use Rattle.mesh_values.specs.declared.values.Column.{Column}
 use Rattle.mesh_base.specs.declared.jobs.Input.{Input}
 use Rattle.mesh_base.specs.declared.definitions.Decl.{Decl}
 use Rattle.mesh_base.specs.Keys.{input_name}
 use Rattle.mesh_values.specs.Names.{name_cmp}
 use Rattle.mesh_values.specs.Picked.{same_text, picked_rows}
-
-abbrev pub same_type : ColType → ColType → Bool
-same_type Int Int = true
-same_type Text Text = true
-same_type Date Date = true
-same_type Truth Truth = true
-same_type _ _ = false
+use Rattle.mesh_values.specs.Types.{same_type}
 
 -- there is a column, and it has this type
 abbrev pub is_of_type : ColType → Option Column → Bool

@@ -43,7 +43,7 @@ pub fn rows_go_by_the_kind()
         from_scratch sources clock (Model own parents) ≡ Sel q (inputs_of sources clock (Model own parents)) no_bounds }
     ensures full { (sources : List Input) (clock : Clock) (own : Own) (parents : Closures) (q : Query) → own.kind ≡ kind.Full → own.defn ≡ defn.Sql q →
         from_scratch sources clock (Model own parents) ≡ Sel q (inputs_of sources clock (Model own parents)) no_bounds }
-    ensures incremental { (sources : List Input) (clock : Clock) (own : Own) (parents : Closures) (time : List ℕ) → own.kind ≡ kind.Incremental time →
+    ensures incremental { (sources : List Input) (clock : Clock) (own : Own) (parents : Closures) (time : List ℕ) (lookback : ℕ) → own.kind ≡ kind.Incremental time lookback →
         from_scratch sources clock (Model own parents) ≡ flat_map (piece sources clock (Model own parents) time) (schedule clock (Model own parents)) }
 {}
 
@@ -56,7 +56,7 @@ pub fn full_models_read_their_seed()
 
 /// Each row of an incremental model lies in a unit of its schedule.
 pub fn rows_lie_in_the_schedule()
-    ensures { (sources : List Input) (clock : Clock) (own : Own) (parents : Closures) (time : List ℕ) → own.kind ≡ kind.Incremental time →
+    ensures { (sources : List Input) (clock : Clock) (own : Own) (parents : Closures) (time : List ℕ) (lookback : ℕ) → own.kind ≡ kind.Incremental time lookback →
         All (λ row. list_any (λ u. lies_in (columns_of own) time u row) (schedule clock (Model own parents)) ≡ true) (from_scratch sources clock (Model own parents)) }
 {}
 

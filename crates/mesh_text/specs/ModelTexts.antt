@@ -71,7 +71,7 @@ with_tokens ts None w = w
 with_tokens ts (Some token) w = earlier ts token w
 
 abbrev pub is_timed : Kind → Bool
-is_timed (kind.Incremental time) = true
+is_timed (kind.Incremental time lookback) = true
 is_timed _ = false
 
 abbrev pub no_start : ReadFault

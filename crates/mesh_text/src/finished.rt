@@ -31,7 +31,7 @@ fn is_timed(kind: &Kind) -> bool
     ensures { result ≡ is_timed kind.now }
 {
     match kind {
-        Kind::Incremental { time: _ } => true,
+        Kind::Incremental { .. } => true,
         _ => false,
     }
 }

@@ -6,3 +6,5 @@ pub mod Letters
 pub mod Pieces
 -- Text: the tokens of a text.
 pub mod Text
+-- Walk: steps up to the first fault.
+pub mod Walk

@@ -1,5 +1,5 @@
 // Copies of values, which are equal to them.
-use crate::values::{Cell, ColType, Column, Name, Pair};
+use crate::values::{Cell, ColType, Column, Name, Pair, Seed};
 use mesh_list::{Duplicate, Memory, both};
 
 impl Duplicate for ColType {
@@ -33,6 +33,13 @@ impl Duplicate for Column {
             name: self.name.copy()?,
             kind: self.kind,
         })
+    }
+}
+
+impl Duplicate for Seed {
+    fn copy(&self) -> Result<Seed, Memory> {
+        let (columns, rows) = both(&self.columns, &self.rows)?;
+        Ok(Seed { columns, rows })
     }
 }
 

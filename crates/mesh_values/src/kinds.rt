@@ -11,8 +11,9 @@ pub enum Kind {
     View,
     /// The rows of a file.
     Seed,
-    /// For each unit of the schedule, the query's rows whose time column lies in it.
-    Incremental { time: Str },
+    /// For each unit of the schedule, the query's rows whose time column lies in it. A unit is computed again with each of
+    /// the next `lookback` units of the schedule.
+    Incremental { time: Str, lookback: u32 },
 }
 
 impl Duplicate for Kind {
@@ -21,7 +22,10 @@ impl Duplicate for Kind {
             Kind::Full => Ok(Kind::Full),
             Kind::View => Ok(Kind::View),
             Kind::Seed => Ok(Kind::Seed),
-            Kind::Incremental { time } => Ok(Kind::Incremental { time: time.copy()? }),
+            Kind::Incremental { time, lookback } => Ok(Kind::Incremental {
+                time: time.copy()?,
+                lookback: *lookback,
+            }),
         }
     }
 }

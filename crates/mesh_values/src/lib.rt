@@ -21,14 +21,14 @@ pub use kinds::Kind;
 pub use limits::{
     DEEPEST_NESTING, FEWEST_WORKERS, FIRST_DATE, FIRST_MOMENT, LARGEST_EXPRESSION, LARGEST_FILE,
     LARGEST_NUMBER, LARGEST_SCRIPT, LARGEST_SEED, LARGEST_SOURCE, LARGEST_WAVE, LAST_DATE,
-    LAST_MOMENT, LIFETIME, LONGEST_ENVIRONMENT_NAME, LONGEST_NAME, MOST_COLUMNS, MOST_INTERVALS,
-    MOST_MODELS, MOST_WORKERS,
+    LAST_MOMENT, LIFETIME, LONGEST_ENVIRONMENT_NAME, LONGEST_LOOKBACK, LONGEST_NAME, MOST_COLUMNS,
+    MOST_INTERVALS, MOST_MODELS, MOST_WORKERS,
 };
 pub use names::{has_two_underscores, is_identifier, is_schema};
 pub use order::{cell_cmp, row_cmp};
 pub use sorts::{one_ascending_list, sort_rows};
 pub use times::{Bounds, Schedule, Spans, Unit};
 pub use values::{
-    Cell, ColType, Column, Columns, Name, Names, Numbers, Pair, Pairs, Row, Rows, RowsList, Str,
-    Strs,
+    Cell, ColType, Column, Columns, Name, Names, Numbers, Pair, Pairs, Row, Rows, RowsList, Seed,
+    Str, Strs,
 };

@@ -33,6 +33,9 @@ pub const MOST_MODELS: u64 = 4_096;
 /// Units of one model's schedule.
 pub const MOST_INTERVALS: u64 = 200_000;
 
+/// Units that an incremental model looks back.
+pub const LONGEST_LOOKBACK: u32 = 366;
+
 /// Seconds since 1970-01-01T00:00:00 UTC: the least moment.
 pub const FIRST_MOMENT: i64 = 0;
 

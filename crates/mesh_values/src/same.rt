@@ -1,5 +1,5 @@
 // Tests whether two values are the same.
-use crate::values::{Cell, ColType, Column, Name, Pair};
+use crate::values::{Cell, ColType, Column, Name, Pair, Seed};
 use mesh_list::Same;
 
 impl Same for ColType {
@@ -23,6 +23,12 @@ impl Same for Name {
 impl Same for Column {
     fn same(&self, other: &Column) -> bool {
         self == other
+    }
+}
+
+impl Same for Seed {
+    fn same(&self, other: &Seed) -> bool {
+        self.columns.same(&other.columns) && self.rows.same(&other.rows)
     }
 }
 

@@ -57,6 +57,13 @@ pub struct Column {
     pub kind: ColType,
 }
 
+/// The columns and the rows of a file.
+#[derive(Drop)]
+pub struct Seed {
+    pub columns: Columns,
+    pub rows: Rows,
+}
+
 /// Two names that belong together, as a model and the table that has its rows.
 #[derive(Drop)]
 pub struct Pair {

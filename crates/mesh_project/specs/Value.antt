@@ -5,9 +5,9 @@ use Rattle.mesh_list.specs.Keyed.{found}
 use Rattle.mesh_values.specs.declared.values.Cell.{Cell}
 use Rattle.mesh_values.specs.declared.values.Column.{Column}
 use Rattle.mesh_values.specs.declared.values.Name.{Name}
-use Rattle.mesh_base.specs.declared.models.Picking.{Picking}
-use Rattle.mesh_base.specs.declared.models.Picking.TheVariants.{Seed, Pick}
-use Rattle.mesh_base.specs.declared.models.Model.{Model}
+use Rattle.mesh_project.specs.declared.models.Picking.{Picking}
+use Rattle.mesh_project.specs.declared.models.Picking.TheVariants.{Seed, Pick}
+use Rattle.mesh_project.specs.declared.models.Model.{Model}
 use Rattle.mesh_values.specs.Names.{name_cmp}
 use Rattle.mesh_values.specs.Picked.{picked_columns, picked_rows}
 
