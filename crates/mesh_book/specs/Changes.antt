@@ -18,7 +18,7 @@ use Rattle.mesh_book.specs.declared.book.Book.{Book}
 
 -- the empty book
 abbrev pub empty_book : Book
-empty_book = record { moment = pos 0; snapshots = []; versions = []; environments = [] }
+empty_book = record { version = 2; moment = pos 0; snapshots = []; versions = []; environments = [] }
 
 -- an item instead of the one that has its key, or added at its place where there is none
 abbrev pub put_for : {A K : Type 0} → Option A → (K → K → Ordering) → (A → K) → A → List A → List A

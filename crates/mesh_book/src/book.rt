@@ -3,10 +3,12 @@ use crate::versions::Versions;
 use mesh_base::{Envs, Snapshots};
 use mesh_list::{Duplicate, Memory, Same, both};
 
-/// What a warehouse records beside its tables and views. `moment` is in seconds since 1970-01-01T00:00:00 UTC. Any lists
-/// make a book; `book_fault` tells whether it is a well-formed one.
+/// What a warehouse records beside its tables and views. `version` is that of the fingerprints: they are those of the
+/// canonical text that names an incremental model's lookback from 2 on, and before it of a text without one. `moment` is
+/// in seconds since 1970-01-01T00:00:00 UTC. Any lists make a book; `book_fault` tells whether it is a well-formed one.
 #[derive(Drop)]
 pub struct Book {
+    pub version: u32,
     pub moment: i64,
     pub snapshots: Snapshots,
     pub versions: Versions,
@@ -18,6 +20,7 @@ impl Duplicate for Book {
         let snapshots = self.snapshots.copy()?;
         let (versions, environments) = both(&self.versions, &self.environments)?;
         Ok(Book {
+            version: self.version,
             moment: self.moment,
             snapshots,
             versions,
@@ -28,7 +31,8 @@ impl Duplicate for Book {
 
 impl Same for Book {
     fn same(&self, other: &Book) -> bool {
-        self.moment == other.moment
+        self.version == other.version
+            && self.moment == other.moment
             && self.snapshots.same(&other.snapshots)
             && self.versions.same(&other.versions)
             && self.environments.same(&other.environments)

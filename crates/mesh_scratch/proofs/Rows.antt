@@ -77,4 +77,4 @@ pub in_schedule : (sources : List Input) (clock : Clock) (own : Own) (parents : 
     → All (λ row. list_any (λ u. lies_in (columns_of own) time u row) (schedule clock (Model own parents)) ≡ true) (from_scratch sources clock (Model own parents))
 in_schedule sources clock own parents time lookback k =
     let P : List (List Cell) → Type 0 = λ rows. All (λ row. list_any (λ u. lies_in (columns_of own) time u row) (schedule clock (Model own parents)) ≡ true) rows in
-    subst P (sym (incrementals sources clock own parents time k)) (lie_in_one own time (inputs_of sources clock (Model own parents)) (schedule clock (Model own parents)))
+    subst P (sym (incrementals sources clock own parents time lookback k)) (lie_in_one own time (inputs_of sources clock (Model own parents)) (schedule clock (Model own parents)))
