@@ -1,5 +1,5 @@
 // Copies of a query as it is written. The functions on expressions call one another, as the types lead to one another.
-ghost use Rattle.std.specs.Prelude.{◌≡◌, IfOk};
+ghost use Rattle.std.specs.Prelude.{◌≡◌, [], ◌∷◌, ◌++◌, IfOk, Ok, OnOk};
 
 use crate::expressions::{
     AddExpr, AddStep, AndExpr, Args, Arm, CatExpr, MulExpr, MulStep, NotExpr, OrExpr, Post, Pred,
@@ -11,6 +11,7 @@ use crate::queries::{
 };
 use mesh_list::{Boxed, Duplicate, Memory, Seq, both, together};
 use mesh_values::{ColType, Str};
+use std::alloc::Global;
 
 impl Duplicate for OrExpr {
     fn copy(&self) -> Result<OrExpr, Memory> {
@@ -24,7 +25,7 @@ fn or_copied(e: &OrExpr) -> Result<OrExpr, Memory>
 {
     let mut parts = Seq::new(e.parts.alloc());
     for part in e.parts.as_slice() {
-        parts.push(and_copied(part)?)?;
+        pushed(&mut parts, and_copied(part))?;
     }
     Ok(OrExpr { at: e.at, parts })
 }
@@ -35,7 +36,7 @@ fn and_copied(e: &AndExpr) -> Result<AndExpr, Memory>
 {
     let mut parts = Seq::new(e.parts.alloc());
     for part in e.parts.as_slice() {
-        parts.push(not_copied(part)?)?;
+        pushed(&mut parts, not_copied(part))?;
     }
     Ok(AndExpr { at: e.at, parts })
 }
@@ -47,7 +48,7 @@ fn not_copied(e: &NotExpr) -> Result<NotExpr, Memory>
     match e {
         NotExpr::Not { at, inner } => Ok(NotExpr::Not {
             at: *at,
-            inner: Boxed::new(inner.alloc(), not_copied(inner.get())?)?,
+            inner: boxed(inner.alloc(), not_copied(inner.get()))?,
         }),
         NotExpr::Plain { at, pred } => Ok(NotExpr::Plain {
             at: *at,
@@ -100,7 +101,7 @@ fn cat_copied(e: &CatExpr) -> Result<CatExpr, Memory>
 {
     let mut parts = Seq::new(e.parts.alloc());
     for part in e.parts.as_slice() {
-        parts.push(add_copied(part)?)?;
+        pushed(&mut parts, add_copied(part))?;
     }
     Ok(CatExpr { at: e.at, parts })
 }
@@ -123,10 +124,11 @@ fn add_steps_copied(steps: &Seq<AddStep>) -> Result<Seq<AddStep>, Memory>
 {
     let mut made = Seq::new(steps.alloc());
     for step in steps.as_slice() {
+        let part = mul_copied(&step.part)?;
         made.push(AddStep {
             at: step.at,
             sign: step.sign,
-            part: mul_copied(&step.part)?,
+            part,
         })?;
     }
     Ok(made)
@@ -150,10 +152,11 @@ fn mul_steps_copied(steps: &Seq<MulStep>) -> Result<Seq<MulStep>, Memory>
 {
     let mut made = Seq::new(steps.alloc());
     for step in steps.as_slice() {
+        let part = unary_copied(&step.part)?;
         made.push(MulStep {
             at: step.at,
             sign: step.sign,
-            part: unary_copied(&step.part)?,
+            part,
         })?;
     }
     Ok(made)
@@ -166,7 +169,7 @@ fn unary_copied(e: &Unary) -> Result<Unary, Memory>
     match e {
         Unary::Minus { at, inner } => Ok(Unary::Minus {
             at: *at,
-            inner: Boxed::new(inner.alloc(), unary_copied(inner.get())?)?,
+            inner: boxed(inner.alloc(), unary_copied(inner.get()))?,
         }),
         Unary::Plain { at, post } => Ok(Unary::Plain {
             at: *at,
@@ -233,11 +236,12 @@ fn primary_copied(e: &Primary) -> Result<Primary, Memory>
             arms,
             otherwise,
         } => {
-            let (operand, otherwise) = together(option_copied(operand), option_copied(otherwise))?;
+            let ends = together(option_copied(operand), option_copied(otherwise));
+            let ((operand, otherwise), arms) = together(ends, arms_copied(arms))?;
             Ok(Primary::Case {
                 at: *at,
                 operand,
-                arms: arms_copied(arms)?,
+                arms,
                 otherwise,
             })
         }
@@ -250,10 +254,10 @@ fn primary_copied(e: &Primary) -> Result<Primary, Memory>
 }
 
 #[cycle(copy)]
-fn boxed_copied(boxed: &Boxed<OrExpr>) -> Result<Boxed<OrExpr>, Memory>
-    ensures { IfOk result (λ made. made ≡ boxed.now) }
+fn boxed_copied(value: &Boxed<OrExpr>) -> Result<Boxed<OrExpr>, Memory>
+    ensures { IfOk result (λ made. made ≡ value.now) }
 {
-    Boxed::new(boxed.alloc(), or_copied(boxed.get())?)
+    boxed(value.alloc(), or_copied(value.get()))
 }
 
 #[cycle(copy)]
@@ -261,7 +265,7 @@ fn option_copied(value: &Option<Boxed<OrExpr>>) -> Result<Option<Boxed<OrExpr>>,
     ensures { IfOk result (λ made. made ≡ value.now) }
 {
     match value {
-        Some(boxed) => Ok(Some(Boxed::new(boxed.alloc(), or_copied(boxed.get())?)?)),
+        Some(value) => Ok(Some(boxed(value.alloc(), or_copied(value.get()))?)),
         None => Ok(None),
     }
 }
@@ -305,9 +309,23 @@ fn values_copied(values: &Seq<OrExpr>) -> Result<Seq<OrExpr>, Memory>
 {
     let mut made = Seq::new(values.alloc());
     for value in values.as_slice() {
-        made.push(or_copied(value)?)?;
+        pushed(&mut made, or_copied(value))?;
     }
     Ok(made)
+}
+
+fn pushed<T: Drop>(made: &mut Seq<T>, item: Result<T, Memory>) -> Result<(), Memory>
+    ensures { OnOk result ((x : T) × (item ≡ Ok x) × (made.new ≡ made.old ++ x ∷ [])) }
+{
+    let item = item?;
+    made.push(item)
+}
+
+fn boxed<T: Drop>(alloc: Global, value: Result<T, Memory>) -> Result<Boxed<T>, Memory>
+    ensures { IfOk result (λ made. value ≡ Ok made) }
+{
+    let value = value?;
+    Boxed::new(alloc, value)
 }
 
 fn text_copied(text: &Str) -> Result<Str, Memory>
