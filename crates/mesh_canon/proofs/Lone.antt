@@ -1,8 +1,10 @@
 -- Cells and types of columns on their own.
-use Rattle.std.proofs.Common.{◌≡◌, ℕ, true, List, [], ◌++◌, Some, refl, sym, ap, ◌∙◌}
+use Rattle.std.proofs.Common.{◌≡◌, ℕ, true, List, [], ◌∷◌, ◌++◌, Some, refl, sym, ap, ◌∙◌}
+use Rattle.std.specs.Prelude.{codes}
 use Rattle.std.proofs.lemmas.List.{append-nil}
 use Rattle.mesh_values.specs.declared.values.Cell.{Cell}
 use Rattle.mesh_values.specs.declared.values.ColType.{ColType}
+use Rattle.mesh_values.specs.declared.values.ColType.TheVariants as types
 use Rattle.mesh_canon_text.specs.Text.{cell_text, type_word}
 use Rattle.mesh_canon.specs.Fits.{cell_fits}
 use Rattle.mesh_canon_words.specs.Words.{type_at}
@@ -22,7 +24,8 @@ type_is_read kind = ap (λ t. whole (type_at t)) (sym (append-nil (type_word kin
 
 type_says : (bytes : List ℕ) (y : ColType × List ℕ) → type_at bytes ≡ Some y → bytes ≡ type_word y.0 ++ y.1
 unfolding type_at
-type_says bytes y e = word_says type_word _ bytes (refl, refl, refl, refl, tt) y e
+type_says bytes y e = 
+    word_says type_word ((codes "int", types.Int) ∷ (codes "text", types.Text) ∷ (codes "date", types.Date) ∷ (codes "bool", types.Bool) ∷ []) bytes (refl, (refl, (refl, (refl, tt)))) y e
 
 -- what is read as a type is its text
 pub type_has_text : (bytes : List ℕ) (kind : ColType) → type_in bytes ≡ Some kind → bytes ≡ type_word kind
