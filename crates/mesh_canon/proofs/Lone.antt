@@ -24,7 +24,7 @@ type_is_read kind = ap (λ t. whole (type_at t)) (sym (append-nil (type_word kin
 
 type_says : (bytes : List ℕ) (y : ColType × List ℕ) → type_at bytes ≡ Some y → bytes ≡ type_word y.0 ++ y.1
 unfolding type_at
-type_says bytes y e = 
+type_says bytes y e =
     word_says type_word ((codes "int", types.Int) ∷ (codes "text", types.Text) ∷ (codes "date", types.Date) ∷ (codes "bool", types.Bool) ∷ []) bytes (refl, (refl, (refl, (refl, tt)))) y e
 
 -- what is read as a type is its text
