@@ -2,7 +2,7 @@
 use Rattle.std.proofs.Common.{◌≡◌, ℕ, ◌+◌, ◌-◌, ◌*◌, ◌<◌, ◌≤◌, true, false, Some, None, refl, List, ◌∷◌}
 use Rattle.std.specs.Char.{is_ascii_digit}
 use Rattle.std.proofs.lemmas.Bool.{le-leb, lt-leb}
-use Rattle.mesh_canon.specs.Reading.{digits_at}
+use Rattle.mesh_canon_words.specs.Words.{digits_at}
 
 -- a digit more, where the number stays within its limit
 pub digit_more : (most n b : ℕ) (bytes : List ℕ) → is_ascii_digit b ≡ true → n * 10 + (b - 48) ≤ most → digits_at most n (b ∷ bytes) ≡ digits_at most (n * 10 + (b - 48)) bytes

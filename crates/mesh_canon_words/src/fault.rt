@@ -1,6 +1,6 @@
 // Why a text was not read.
 ghost use Rattle.std.specs.Prelude.{◌≡◌};
-ghost use Rattle.mesh_canon.specs.declared.fault.CanonFault.TheVariants.{Memory as OutOfMemory};
+ghost use Rattle.mesh_canon_words.specs.declared.fault.CanonFault.TheVariants.{Memory as OutOfMemory};
 
 use mesh_list::Memory;
 use std::alloc::{AllocError, AllocFailed};

@@ -1,6 +1,6 @@
 // Words, numbers and texts at the front of what is left to read.
 ghost use Rattle.std.specs.Prelude.{◌≡◌, ◌<◌, ◌≤◌, ◌^◌, ◌+◌, ◌-◌, pos, negsuc, ◌≤ℤ◌, MatchOption, IfOk};
-ghost use Rattle.mesh_canon.specs.Reading.{Gives, after, below_at, digits_at, number_at, signed_at, text_at, then_at};
+ghost use Rattle.mesh_canon_words.specs.Words.{Gives, after, below_at, digits_at, number_at, signed_at, text_at, then_at};
 
 use crate::fault::CanonFault;
 use mesh_list::Seq;
@@ -8,14 +8,14 @@ use mesh_values::Str;
 use std::alloc::Global;
 
 /// What stands behind a word.
-pub(crate) fn after<'a>(bytes: &'a [u8], word: &[u8]) -> Option<&'a [u8]>
+pub fn after<'a>(bytes: &'a [u8], word: &[u8]) -> Option<&'a [u8]>
     ensures { MatchOption result (after word.now bytes.now ≡ None) (λ rest. after word.now bytes.now ≡ Some rest.now) }
 {
     bytes.strip_prefix(word)
 }
 
 /// What stands behind a word that has to come.
-pub(crate) fn expect<'a>(bytes: &'a [u8], word: &[u8]) -> Result<&'a [u8], CanonFault>
+pub fn expect<'a>(bytes: &'a [u8], word: &[u8]) -> Result<&'a [u8], CanonFault>
     ensures { Gives (λ rest. rest.now) result (after word.now bytes.now) }
 {
     match after(bytes, word) {
@@ -25,8 +25,8 @@ pub(crate) fn expect<'a>(bytes: &'a [u8], word: &[u8]) -> Result<&'a [u8], Canon
 }
 
 /// The number of at most `most` that the digits at the front say: one digit, or more that don't begin with 0.
-#[tactic(auto, unfolding(crate::specs::Reading::number_at))]
-pub(crate) fn number(bytes: &[u8], most: u64) -> Result<(u64, &[u8]), CanonFault>
+#[tactic(auto, unfolding(crate::specs::Words::number_at))]
+pub fn number(bytes: &[u8], most: u64) -> Result<(u64, &[u8]), CanonFault>
     ensures gives { Gives (λ x. (x.0, x.1.now)) result (number_at most bytes.now) }
     ensures bound { IfOk result (λ x. x.0 ≤ most) }
 {
@@ -38,7 +38,7 @@ pub(crate) fn number(bytes: &[u8], most: u64) -> Result<(u64, &[u8]), CanonFault
 }
 
 // The same, behind digits that say a number.
-#[tactic(auto, unfolding(crate::specs::Reading::digits_at), using(crate::proofs::Digits::digit_more, crate::proofs::Digits::digit_over, crate::proofs::Digits::digit_none))]
+#[tactic(auto, unfolding(crate::specs::Words::digits_at), using(crate::proofs::Digits::digit_more, crate::proofs::Digits::digit_over, crate::proofs::Digits::digit_none))]
 fn digits(bytes: &[u8], most: u64, number: u64) -> Result<(u64, &[u8]), CanonFault>
     requires { number ≤ most }
     ensures gives { Gives (λ x. (x.0, x.1.now)) result (digits_at most number bytes.now) }
@@ -60,8 +60,8 @@ fn digits(bytes: &[u8], most: u64, number: u64) -> Result<(u64, &[u8]), CanonFau
 }
 
 /// The number from `-most - 1` to `most` at the front.
-#[tactic(auto, unfolding(crate::specs::Reading::signed_at))]
-pub(crate) fn signed(bytes: &[u8], most: u64) -> Result<(i64, &[u8]), CanonFault>
+#[tactic(auto, unfolding(crate::specs::Words::signed_at))]
+pub fn signed(bytes: &[u8], most: u64) -> Result<(i64, &[u8]), CanonFault>
     requires { most < 2 ^ 63 }
     ensures gives { Gives (λ x. (x.0, x.1.now)) result (signed_at most bytes.now) }
     ensures low { IfOk result (λ x. negsuc most ≤ℤ x.0) }
@@ -98,8 +98,8 @@ fn opposite(number: u64) -> i64
 }
 
 /// A text with its length.
-#[tactic(auto, unfolding(crate::specs::Reading::text_at))]
-pub(crate) fn text(alloc: Global, bytes: &[u8]) -> Result<(Str, &[u8]), CanonFault>
+#[tactic(auto, unfolding(crate::specs::Words::text_at))]
+pub fn text(alloc: Global, bytes: &[u8]) -> Result<(Str, &[u8]), CanonFault>
     ensures { Gives (λ x. (x.0, x.1.now)) result (text_at bytes.now) }
 {
     let (length, rest) = number(bytes, bytes.len() as u64)?;
@@ -113,8 +113,8 @@ pub(crate) fn text(alloc: Global, bytes: &[u8]) -> Result<(Str, &[u8]), CanonFau
 }
 
 /// A text and the sign behind it.
-#[tactic(auto, unfolding(crate::specs::Reading::then_at))]
-pub(crate) fn text_then<'a>(
+#[tactic(auto, unfolding(crate::specs::Words::then_at))]
+pub fn text_then<'a>(
     alloc: Global,
     bytes: &'a [u8],
     sign: &[u8],

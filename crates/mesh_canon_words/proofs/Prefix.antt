@@ -2,7 +2,7 @@
 use Rattle.std.proofs.Common.{◌≡◌, ◌≢◌, ℕ, Bool, true, false, cond, ◌==◌, List, [], ◌∷◌, ◌++◌, Option, Some, None, refl, sym, ap, ◌∙◌, Bor}
 use Rattle.std.specs.Prelude.{MatchOption}
 use Rattle.std.proofs.lemmas.Bool.{eq-eqb, eqb-true}
-use Rattle.mesh_canon.specs.Reading.{after}
+use Rattle.mesh_canon_words.specs.Words.{after}
 
 pub after_again : (word rest : List ℕ) → after word (word ++ rest) ≡ Some rest
 unfolding after

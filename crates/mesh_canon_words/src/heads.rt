@@ -1,5 +1,5 @@
 // The words of a text, and what the nodes of an expression begin with.
-ghost use Rattle.mesh_canon.specs.Reading.{Finds, Gives, agg_at, bare_head_at, call_head_at, cell_head_at, compare_op_at, distinct_at, equal_op_at, func_at, grouped_at, head_at, join_at, end_var_at, macro_at, many_func_at, node_head_at, number_op_at, one_func_at, op_head_at, order_op_at, plain_head_at, start_var_at, test_head_at, then_at, truth_op_at, type_at, unit_at, valued_head_at};
+ghost use Rattle.mesh_canon_words.specs.Words.{Finds, Gives, agg_at, bare_head_at, call_head_at, cell_head_at, compare_op_at, distinct_at, equal_op_at, func_at, grouped_at, head_at, join_at, end_var_at, macro_at, many_func_at, node_head_at, number_op_at, one_func_at, op_head_at, order_op_at, plain_head_at, start_var_at, test_head_at, then_at, truth_op_at, type_at, unit_at, valued_head_at};
 
 use crate::fault::CanonFault;
 use crate::words::{after, expect};
@@ -8,7 +8,7 @@ use mesh_values::{ColType, Unit};
 
 /// How a cell begins.
 #[derive(Clone, Copy)]
-pub(crate) enum CellHead {
+pub enum CellHead {
     Null,
     True,
     False,
@@ -19,7 +19,7 @@ pub(crate) enum CellHead {
 
 /// How a node of an expression begins.
 #[derive(Clone, Copy)]
-pub(crate) enum Head {
+pub enum Head {
     Literal(CellHead),
     Col,
     Macro,
@@ -37,8 +37,8 @@ pub(crate) enum Head {
 }
 
 /// The head of a cell.
-#[tactic(auto, unfolding(crate::specs::Reading::cell_head_at))]
-pub(crate) fn cell_head(bytes: &[u8]) -> Option<(CellHead, &[u8])>
+#[tactic(auto, unfolding(crate::specs::Words::cell_head_at))]
+pub fn cell_head(bytes: &[u8]) -> Option<(CellHead, &[u8])>
     ensures { Finds (λ x. (x.0, x.1.now)) result (cell_head_at bytes.now) }
 {
     if let Some(found) = valued_head(bytes) {
@@ -48,7 +48,7 @@ pub(crate) fn cell_head(bytes: &[u8]) -> Option<(CellHead, &[u8])>
 }
 
 // The head of a cell with a value behind its word.
-#[tactic(auto, unfolding(crate::specs::Reading::valued_head_at))]
+#[tactic(auto, unfolding(crate::specs::Words::valued_head_at))]
 fn valued_head(bytes: &[u8]) -> Option<(CellHead, &[u8])>
     ensures { Finds (λ x. (x.0, x.1.now)) result (valued_head_at bytes.now) }
 {
@@ -65,7 +65,7 @@ fn valued_head(bytes: &[u8]) -> Option<(CellHead, &[u8])>
 }
 
 // The head of a cell that is a word.
-#[tactic(auto, unfolding(crate::specs::Reading::bare_head_at))]
+#[tactic(auto, unfolding(crate::specs::Words::bare_head_at))]
 fn bare_head(bytes: &[u8]) -> Option<(CellHead, &[u8])>
     ensures { Finds (λ x. (x.0, x.1.now)) result (bare_head_at bytes.now) }
 {
@@ -82,8 +82,8 @@ fn bare_head(bytes: &[u8]) -> Option<(CellHead, &[u8])>
 }
 
 /// The head of a node.
-#[tactic(auto, unfolding(crate::specs::Reading::head_at))]
-pub(crate) fn any_head(bytes: &[u8]) -> Option<(Head, &[u8])>
+#[tactic(auto, unfolding(crate::specs::Words::head_at))]
+pub fn any_head(bytes: &[u8]) -> Option<(Head, &[u8])>
     ensures { Finds (λ x. (x.0, x.1.now)) result (head_at bytes.now) }
 {
     if let Some((cell, rest)) = cell_head(bytes) {
@@ -96,7 +96,7 @@ pub(crate) fn any_head(bytes: &[u8]) -> Option<(Head, &[u8])>
 }
 
 // The head of a node that is neither a literal nor an operator.
-#[tactic(auto, unfolding(crate::specs::Reading::node_head_at))]
+#[tactic(auto, unfolding(crate::specs::Words::node_head_at))]
 fn node_head(bytes: &[u8]) -> Option<(Head, &[u8])>
     ensures { Finds (λ x. (x.0, x.1.now)) result (node_head_at bytes.now) }
 {
@@ -110,7 +110,7 @@ fn node_head(bytes: &[u8]) -> Option<(Head, &[u8])>
 }
 
 // The head of a column, a macro, NEG or NOT.
-#[tactic(auto, unfolding(crate::specs::Reading::plain_head_at))]
+#[tactic(auto, unfolding(crate::specs::Words::plain_head_at))]
 fn plain_head(bytes: &[u8]) -> Option<(Head, &[u8])>
     ensures { Finds (λ x. (x.0, x.1.now)) result (plain_head_at bytes.now) }
 {
@@ -130,7 +130,7 @@ fn plain_head(bytes: &[u8]) -> Option<(Head, &[u8])>
 }
 
 // The head of a test or a cast.
-#[tactic(auto, unfolding(crate::specs::Reading::test_head_at))]
+#[tactic(auto, unfolding(crate::specs::Words::test_head_at))]
 fn test_head(bytes: &[u8]) -> Option<(Head, &[u8])>
     ensures { Finds (λ x. (x.0, x.1.now)) result (test_head_at bytes.now) }
 {
@@ -150,7 +150,7 @@ fn test_head(bytes: &[u8]) -> Option<(Head, &[u8])>
 }
 
 // The head of a call, a CASE or an aggregate.
-#[tactic(auto, unfolding(crate::specs::Reading::call_head_at))]
+#[tactic(auto, unfolding(crate::specs::Words::call_head_at))]
 fn call_head(bytes: &[u8]) -> Option<(Head, &[u8])>
     ensures { Finds (λ x. (x.0, x.1.now)) result (call_head_at bytes.now) }
 {
@@ -170,7 +170,7 @@ fn call_head(bytes: &[u8]) -> Option<(Head, &[u8])>
 }
 
 // The head of an operator.
-#[tactic(auto, unfolding(crate::specs::Reading::op_head_at))]
+#[tactic(auto, unfolding(crate::specs::Words::op_head_at))]
 fn op_head(bytes: &[u8]) -> Option<(Op, &[u8])>
     ensures { Finds (λ x. (x.0, x.1.now)) result (op_head_at bytes.now) }
 {
@@ -184,7 +184,7 @@ fn op_head(bytes: &[u8]) -> Option<(Op, &[u8])>
 }
 
 // The head of an operator that compares, or joins texts.
-#[tactic(auto, unfolding(crate::specs::Reading::compare_op_at))]
+#[tactic(auto, unfolding(crate::specs::Words::compare_op_at))]
 fn compare_op(bytes: &[u8]) -> Option<(Op, &[u8])>
     ensures { Finds (λ x. (x.0, x.1.now)) result (compare_op_at bytes.now) }
 {
@@ -195,7 +195,7 @@ fn compare_op(bytes: &[u8]) -> Option<(Op, &[u8])>
 }
 
 // The head of an operator of numbers.
-#[tactic(auto, unfolding(crate::specs::Reading::number_op_at))]
+#[tactic(auto, unfolding(crate::specs::Words::number_op_at))]
 fn number_op(bytes: &[u8]) -> Option<(Op, &[u8])>
     ensures { Finds (λ x. (x.0, x.1.now)) result (number_op_at bytes.now) }
 {
@@ -218,7 +218,7 @@ fn number_op(bytes: &[u8]) -> Option<(Op, &[u8])>
 }
 
 // The head of an operator of texts, or of one that asks whether two are equal.
-#[tactic(auto, unfolding(crate::specs::Reading::equal_op_at))]
+#[tactic(auto, unfolding(crate::specs::Words::equal_op_at))]
 fn equal_op(bytes: &[u8]) -> Option<(Op, &[u8])>
     ensures { Finds (λ x. (x.0, x.1.now)) result (equal_op_at bytes.now) }
 {
@@ -235,7 +235,7 @@ fn equal_op(bytes: &[u8]) -> Option<(Op, &[u8])>
 }
 
 // The head of an operator that asks which of two comes first.
-#[tactic(auto, unfolding(crate::specs::Reading::order_op_at))]
+#[tactic(auto, unfolding(crate::specs::Words::order_op_at))]
 fn order_op(bytes: &[u8]) -> Option<(Op, &[u8])>
     ensures { Finds (λ x. (x.0, x.1.now)) result (order_op_at bytes.now) }
 {
@@ -255,7 +255,7 @@ fn order_op(bytes: &[u8]) -> Option<(Op, &[u8])>
 }
 
 // The head of an operator of truth values.
-#[tactic(auto, unfolding(crate::specs::Reading::truth_op_at))]
+#[tactic(auto, unfolding(crate::specs::Words::truth_op_at))]
 fn truth_op(bytes: &[u8]) -> Option<(Op, &[u8])>
     ensures { Finds (λ x. (x.0, x.1.now)) result (truth_op_at bytes.now) }
 {
@@ -268,9 +268,9 @@ fn truth_op(bytes: &[u8]) -> Option<(Op, &[u8])>
     None
 }
 
-// The word of a type.
-#[tactic(auto, unfolding(crate::specs::Reading::type_at))]
-fn column_type(bytes: &[u8]) -> Option<(ColType, &[u8])>
+/// The word of a type.
+#[tactic(auto, unfolding(crate::specs::Words::type_at))]
+pub fn column_type(bytes: &[u8]) -> Option<(ColType, &[u8])>
     ensures { Finds (λ x. (x.0, x.1.now)) result (type_at bytes.now) }
 {
     if let Some(rest) = after(bytes, b"int") {
@@ -289,8 +289,8 @@ fn column_type(bytes: &[u8]) -> Option<(ColType, &[u8])>
 }
 
 /// The word of a type and the sign behind it.
-#[tactic(auto, unfolding(crate::specs::Reading::then_at))]
-pub(crate) fn type_then<'a>(bytes: &'a [u8], sign: &[u8]) -> Result<(ColType, &'a [u8]), CanonFault>
+#[tactic(auto, unfolding(crate::specs::Words::then_at))]
+pub fn type_then<'a>(bytes: &'a [u8], sign: &[u8]) -> Result<(ColType, &'a [u8]), CanonFault>
     ensures { Gives (λ x. (x.0, x.1.now)) result (then_at sign.now type_at bytes.now) }
 {
     let Some((kind, rest)) = column_type(bytes) else {
@@ -301,8 +301,8 @@ pub(crate) fn type_then<'a>(bytes: &'a [u8], sign: &[u8]) -> Result<(ColType, &'
 }
 
 /// The word of a function and the space behind it.
-#[tactic(auto, unfolding(crate::specs::Reading::func_at))]
-pub(crate) fn func(bytes: &[u8]) -> Option<(Func, &[u8])>
+#[tactic(auto, unfolding(crate::specs::Words::func_at))]
+pub fn func(bytes: &[u8]) -> Option<(Func, &[u8])>
     ensures { Finds (λ x. (x.0, x.1.now)) result (func_at bytes.now) }
 {
     if let Some(found) = one_func(bytes) {
@@ -312,7 +312,7 @@ pub(crate) fn func(bytes: &[u8]) -> Option<(Func, &[u8])>
 }
 
 // The word of a function of one value and the space behind it.
-#[tactic(auto, unfolding(crate::specs::Reading::one_func_at))]
+#[tactic(auto, unfolding(crate::specs::Words::one_func_at))]
 fn one_func(bytes: &[u8]) -> Option<(Func, &[u8])>
     ensures { Finds (λ x. (x.0, x.1.now)) result (one_func_at bytes.now) }
 {
@@ -332,7 +332,7 @@ fn one_func(bytes: &[u8]) -> Option<(Func, &[u8])>
 }
 
 // The word of a function of several values and the space behind it.
-#[tactic(auto, unfolding(crate::specs::Reading::many_func_at))]
+#[tactic(auto, unfolding(crate::specs::Words::many_func_at))]
 fn many_func(bytes: &[u8]) -> Option<(Func, &[u8])>
     ensures { Finds (λ x. (x.0, x.1.now)) result (many_func_at bytes.now) }
 {
@@ -346,8 +346,8 @@ fn many_func(bytes: &[u8]) -> Option<(Func, &[u8])>
 }
 
 /// The word of an aggregate and the space behind it.
-#[tactic(auto, unfolding(crate::specs::Reading::agg_at))]
-pub(crate) fn aggregate(bytes: &[u8]) -> Option<(AggKind, &[u8])>
+#[tactic(auto, unfolding(crate::specs::Words::agg_at))]
+pub fn aggregate(bytes: &[u8]) -> Option<(AggKind, &[u8])>
     ensures { Finds (λ x. (x.0, x.1.now)) result (agg_at bytes.now) }
 {
     if let Some(rest) = after(bytes, b"count ") {
@@ -369,8 +369,8 @@ pub(crate) fn aggregate(bytes: &[u8]) -> Option<(AggKind, &[u8])>
 }
 
 /// The word of a macro.
-#[tactic(auto, unfolding(crate::specs::Reading::macro_at))]
-pub(crate) fn macro_var(bytes: &[u8]) -> Option<(Var, &[u8])>
+#[tactic(auto, unfolding(crate::specs::Words::macro_at))]
+pub fn macro_var(bytes: &[u8]) -> Option<(Var, &[u8])>
     ensures { Finds (λ x. (x.0, x.1.now)) result (macro_at bytes.now) }
 {
     if let Some(found) = start_var(bytes) {
@@ -380,7 +380,7 @@ pub(crate) fn macro_var(bytes: &[u8]) -> Option<(Var, &[u8])>
 }
 
 // The word of a macro for the start.
-#[tactic(auto, unfolding(crate::specs::Reading::start_var_at))]
+#[tactic(auto, unfolding(crate::specs::Words::start_var_at))]
 fn start_var(bytes: &[u8]) -> Option<(Var, &[u8])>
     ensures { Finds (λ x. (x.0, x.1.now)) result (start_var_at bytes.now) }
 {
@@ -397,7 +397,7 @@ fn start_var(bytes: &[u8]) -> Option<(Var, &[u8])>
 }
 
 // The word of a macro for the end.
-#[tactic(auto, unfolding(crate::specs::Reading::end_var_at))]
+#[tactic(auto, unfolding(crate::specs::Words::end_var_at))]
 fn end_var(bytes: &[u8]) -> Option<(Var, &[u8])>
     ensures { Finds (λ x. (x.0, x.1.now)) result (end_var_at bytes.now) }
 {
@@ -414,8 +414,8 @@ fn end_var(bytes: &[u8]) -> Option<(Var, &[u8])>
 }
 
 /// The word of a join and the space behind it.
-#[tactic(auto, unfolding(crate::specs::Reading::join_at))]
-pub(crate) fn join(bytes: &[u8]) -> Option<(Join, &[u8])>
+#[tactic(auto, unfolding(crate::specs::Words::join_at))]
+pub fn join(bytes: &[u8]) -> Option<(Join, &[u8])>
     ensures { Finds (λ x. (x.0, x.1.now)) result (join_at bytes.now) }
 {
     if let Some(rest) = after(bytes, b"first ") {
@@ -434,8 +434,8 @@ pub(crate) fn join(bytes: &[u8]) -> Option<(Join, &[u8])>
 }
 
 /// The word of a unit and the space behind it.
-#[tactic(auto, unfolding(crate::specs::Reading::unit_at))]
-pub(crate) fn unit(bytes: &[u8]) -> Option<(Unit, &[u8])>
+#[tactic(auto, unfolding(crate::specs::Words::unit_at))]
+pub fn unit(bytes: &[u8]) -> Option<(Unit, &[u8])>
     ensures { Finds (λ x. (x.0, x.1.now)) result (unit_at bytes.now) }
 {
     if let Some(rest) = after(bytes, b"hour ") {
@@ -448,8 +448,8 @@ pub(crate) fn unit(bytes: &[u8]) -> Option<(Unit, &[u8])>
 }
 
 /// Whether a SELECT is distinct, and the space behind that word.
-#[tactic(auto, unfolding(crate::specs::Reading::distinct_at))]
-pub(crate) fn distinct(bytes: &[u8]) -> Option<(bool, &[u8])>
+#[tactic(auto, unfolding(crate::specs::Words::distinct_at))]
+pub fn distinct(bytes: &[u8]) -> Option<(bool, &[u8])>
     ensures { Finds (λ x. (x.0, x.1.now)) result (distinct_at bytes.now) }
 {
     if let Some(rest) = after(bytes, b"distinct ") {
@@ -462,8 +462,8 @@ pub(crate) fn distinct(bytes: &[u8]) -> Option<(bool, &[u8])>
 }
 
 /// Whether a SELECT is grouped, and the space behind that word.
-#[tactic(auto, unfolding(crate::specs::Reading::grouped_at))]
-pub(crate) fn grouped(bytes: &[u8]) -> Option<(bool, &[u8])>
+#[tactic(auto, unfolding(crate::specs::Words::grouped_at))]
+pub fn grouped(bytes: &[u8]) -> Option<(bool, &[u8])>
     ensures { Finds (λ x. (x.0, x.1.now)) result (grouped_at bytes.now) }
 {
     if let Some(rest) = after(bytes, b"grouped ") {
