@@ -344,7 +344,7 @@ within_is u row =
 -- on 2024-01-03 the third day isn't over, so its order isn't there yet
 on_wednesday : from_scratch dated (λ cron. pos (19_725 * 86_400)) (Model by_day Alone) ≡ order 1 19_723 ∷ order 2 19_723 ∷ order 3 19_724 ∷ []
 on_wednesday =
-    incrementals dated (λ cron. pos (19_725 * 86_400)) by_day Alone day 0 refl
+    incrementals dated (λ cron. pos (19_725 * 86_400)) by_day Alone day refl
     ∙ simp (within_is, its_id_is, its_day_is) refl
 
 -- a sum of no rows

@@ -10,7 +10,7 @@ use Rattle.mesh_values.specs.Kinds.{is_incremental}
 use Rattle.mesh_time.specs.Ticks.{IsFloor}
 use Rattle.mesh_scratch.specs.Closures.{Closure, Closures, Model, Alone, With, own_of, standing, ancestors}
 use Rattle.mesh_scratch.specs.Horizons.{Clock, Shows, HasCrons, floored, last_tick, least_of, horizon_under, with_horizon, horizons_from, horizons_of, horizon, schedule, units_from}
-use Rattle.mesh_scratch.specs.Sources.{declared}
+use Rattle.mesh_scratch.specs.Sources.{inputs}
 use Rattle.mesh_scratch.specs.Scratch.{from_scratch, tables, rows_over, table_of}
 
 -- a cron has one last tick at a moment
@@ -57,7 +57,7 @@ module _ (clock other : Clock) where
   mutual
     rows_same : (sources : List Input) (c : Closure) → Each (standing c) → from_scratch sources clock c ≡ from_scratch sources other c
     rows_same sources (Model own parents) h =
-        (λ i. rows_over own.kind own (map (declared sources) own.sources ++ tables_same sources parents h.1 i) (schedule_same (Model own parents) h i))
+        (λ i. rows_over own (inputs sources own (tables_same sources parents h.1 i)) (schedule_same (Model own parents) h i))
 
     tables_same : (sources : List Input) (cs : Closures) → Each (ancestors cs) → tables sources clock cs ≡ tables sources other cs
     tables_same sources Alone h = refl

@@ -8,7 +8,7 @@ ghost use Rattle.mesh_values.specs.declared.times.Bounds.{Bounds};
 ghost use Rattle.mesh_values.specs.declared.times.Schedule.{Schedule};
 ghost use Rattle.mesh_values.specs.declared.times.Unit.{Unit as TimeUnit};
 ghost use Rattle.mesh_values.specs.Crons.{CronSets, is_cron};
-ghost use Rattle.mesh_values.specs.Kinds.{is_incremental};
+ghost use Rattle.mesh_values.specs.Kinds.{is_incremental, time_column};
 ghost use Rattle.mesh_base.specs.declared.jobs.Input.{Input};
 ghost use Rattle.mesh_values.specs.declared.values.Cell.{Cell};
 ghost use Rattle.mesh_values.specs.declared.values.Column.{Column};
@@ -26,7 +26,7 @@ ghost use Rattle.mesh_scratch.specs.Closures.{Closure, Closures, Model, Alone, W
 ghost use Rattle.mesh_scratch.specs.Horizons.{Clock, Shows, HasCrons, floored, is_timed, last_tick, least_of, horizon, schedule};
 ghost use Rattle.mesh_scratch.specs.Sources.{declared_rows};
 ghost use Rattle.mesh_seconds.specs.Times.{lies_in, time_of};
-ghost use Rattle.mesh_scratch.specs.Scratch.{from_scratch, inputs_of, no_bounds, piece};
+ghost use Rattle.mesh_scratch.specs.Scratch.{from_scratch, inputs_of, no_bounds, defn_rows, piece};
 
 /// The closures of a project are one for each model, and the parents of each are among them. Where a model's parents
 /// stand before it, its closure has theirs as parents, in the order of their places.
@@ -39,7 +39,8 @@ pub fn projects_are_closed_under_parents()
 {}
 
 /// The rows of a seed are its file's, and those of a view or a FULL model its query's. An incremental model's are taken
-/// unit by unit of its schedule: what its query gives for the unit and lies in it.
+/// unit by unit of its schedule: what its query gives for the unit and lies in it by its time column. A model without a
+/// time column has no rows of a unit.
 pub fn rows_go_by_the_kind()
     ensures seed { (sources : List Input) (clock : Clock) (own : Own) (parents : Closures) (columns : List Column) (rows : List (List Cell)) → own.kind ≡ kind.Seed → own.defn ≡ defn.Seed columns rows →
         from_scratch sources clock (Model own parents) ≡ rows }
@@ -47,8 +48,11 @@ pub fn rows_go_by_the_kind()
         from_scratch sources clock (Model own parents) ≡ Sel q (inputs_of sources clock (Model own parents)) no_bounds }
     ensures full { (sources : List Input) (clock : Clock) (own : Own) (parents : Closures) (q : Query) → own.kind ≡ kind.Full → own.defn ≡ defn.Sql q →
         from_scratch sources clock (Model own parents) ≡ Sel q (inputs_of sources clock (Model own parents)) no_bounds }
-    ensures incremental { (sources : List Input) (clock : Clock) (own : Own) (parents : Closures) (time : List ℕ) (lookback : ℕ) → own.kind ≡ kind.Incremental time lookback →
-        from_scratch sources clock (Model own parents) ≡ flat_map (piece sources clock (Model own parents) time) (schedule clock (Model own parents)) }
+    ensures incremental { (sources : List Input) (clock : Clock) (own : Own) (parents : Closures) (time : List ℕ) → time_column own.kind ≡ Some time →
+        from_scratch sources clock (Model own parents) ≡ flat_map (piece sources clock (Model own parents)) (schedule clock (Model own parents)) }
+    ensures piece { (sources : List Input) (clock : Clock) (c : Closure) (u : Bounds) (time : List ℕ) → time_column (own_of c).kind ≡ Some time →
+        piece sources clock c u ≡ filter (lies_in (columns_of (own_of c)) time u) (defn_rows (own_of c).defn (inputs_of sources clock c) u) }
+    ensures none { (sources : List Input) (clock : Clock) (c : Closure) (u : Bounds) → time_column (own_of c).kind ≡ None → piece sources clock c u ≡ [] }
 {}
 
 /// A FULL model of one seed has the rows of its query over the seed's rows.
@@ -60,7 +64,7 @@ pub fn full_models_read_their_seed()
 
 /// Each row of an incremental model lies in a unit of its schedule.
 pub fn rows_lie_in_the_schedule()
-    ensures { (sources : List Input) (clock : Clock) (own : Own) (parents : Closures) (time : List ℕ) (lookback : ℕ) → own.kind ≡ kind.Incremental time lookback →
+    ensures { (sources : List Input) (clock : Clock) (own : Own) (parents : Closures) (time : List ℕ) → time_column own.kind ≡ Some time →
         All (λ row. list_any (λ u. lies_in (columns_of own) time u row) (schedule clock (Model own parents)) ≡ true) (from_scratch sources clock (Model own parents)) }
 {}
 
