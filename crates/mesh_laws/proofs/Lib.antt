@@ -18,3 +18,5 @@ pub mod Cutting
 pub mod ReadBags
 -- Models: a model's rows as bags.
 pub mod Models
+-- Examples: sources that a model can't tell apart, worked out by hand.
+pub mod Examples

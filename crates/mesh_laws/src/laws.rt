@@ -1,5 +1,5 @@
 // What a query's rows hang on, and what not.
-ghost use Rattle.std.specs.Prelude.{◌≡◌, ℕ, List};
+ghost use Rattle.std.specs.Prelude.{◌≡◌, List};
 ghost use Rattle.mesh_values.specs.Bag.{IsSameBag};
 ghost use Rattle.mesh_base.specs.declared.jobs.Input.{Input};
 ghost use Rattle.mesh_base.specs.declared.definitions.Own.{Own};
@@ -9,9 +9,10 @@ ghost use Rattle.mesh_rules.specs.Proper.{defn_names};
 ghost use Rattle.mesh_meaning.specs.Sel.{Sel};
 ghost use Rattle.mesh_scratch.specs.Closures.{Closure};
 ghost use Rattle.mesh_scratch.specs.Horizons.{Clock};
-ghost use Rattle.mesh_scratch.specs.Scratch.{from_scratch, piece_over, rows_over};
+ghost use Rattle.mesh_scratch.specs.Scratch.{from_scratch, piece, piece_over, rows_over};
+ghost use Rattle.mesh_scratch.specs.Sources.{inputs};
 ghost use Rattle.mesh_laws.specs.Alike.{AreSameTables, HaveSameBags};
-ghost use Rattle.mesh_laws.specs.Loads.{HaveSameSources};
+ghost use Rattle.mesh_laws.specs.Loads.{HasSameSources, HaveSameSources};
 ghost use Rattle.mesh_laws.specs.Reads.{AgreeAsBags, AgreeOnReads, cut_inputs};
 
 /// Where the tables that a query names have the same columns and the same rows, in whatever order, its rows are the same
@@ -32,11 +33,14 @@ pub fn rows_respect_bags_of_read_columns()
     ensures { (q : Query) (a b : List Input) → AgreeAsBags q a b → (u : Bounds) → IsSameBag (Sel q a u) (Sel q b u) }
 {}
 
-/// Where the sources that a model and its ancestors declare have the same columns and the same rows, in whatever order,
-/// its rows from scratch are the same but for their order. So it is of one model over the tables that it names, and of
+/// Where each source that a model and its ancestors declare has the same rows when it is cut to the declared columns, in
+/// whatever order the rows and the columns stand, and whatever other columns it has, the model's rows from scratch are the
+/// same but for their order, and so are those of each unit. So it is of one model over the tables that it names, and of
 /// each of its units.
 pub fn models_respect_bags()
     ensures scratch { (a b : List Input) (c : Closure) → HaveSameSources a b c → (clock : Clock) → IsSameBag (from_scratch a clock c) (from_scratch b clock c) }
-    ensures rows { (a b : List Input) (own : Own) → AreSameTables (defn_names own.defn) a b → (units : List Bounds) → IsSameBag (rows_over own.kind own a units) (rows_over own.kind own b units) }
-    ensures pieces { (a b : List Input) (own : Own) → AreSameTables (defn_names own.defn) a b → (time : List ℕ) (u : Bounds) → IsSameBag (piece_over own time a u) (piece_over own time b u) }
+    ensures units { (a b : List Input) (c : Closure) → HaveSameSources a b c → (clock : Clock) (u : Bounds) → IsSameBag (piece a clock c u) (piece b clock c u) }
+    ensures inputs { (a b : List Input) (own : Own) → HasSameSources a b own → (ts us : List Input) → AreSameTables (defn_names own.defn) ts us → AreSameTables (defn_names own.defn) (inputs a own ts) (inputs b own us) }
+    ensures rows { (a b : List Input) (own : Own) → AreSameTables (defn_names own.defn) a b → (units : List Bounds) → IsSameBag (rows_over own a units) (rows_over own b units) }
+    ensures pieces { (a b : List Input) (own : Own) → AreSameTables (defn_names own.defn) a b → (u : Bounds) → IsSameBag (piece_over own a u) (piece_over own b u) }
 {}
