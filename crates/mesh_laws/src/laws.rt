@@ -1,19 +1,25 @@
 // What a query's rows hang on, and what not.
-ghost use Rattle.std.specs.Prelude.{◌≡◌, List};
+ghost use Rattle.std.specs.Prelude.{◌≡◌, true, ◌↔◌, ℕ, List};
+ghost use Rattle.std.specs.List.{Contains};
+ghost use Rattle.mesh_list.specs.Keyed.{ascends};
 ghost use Rattle.mesh_values.specs.Bag.{IsSameBag};
+ghost use Rattle.mesh_values.specs.declared.values.Name.{Name};
 ghost use Rattle.mesh_base.specs.declared.jobs.Input.{Input};
+ghost use Rattle.mesh_base.specs.declared.definitions.Defn.{Defn};
 ghost use Rattle.mesh_base.specs.declared.definitions.Own.{Own};
+ghost use Rattle.mesh_base.specs.declared.definitions.Reading.{Reading};
 ghost use Rattle.mesh_base.specs.declared.queries.Query.{Query};
 ghost use Rattle.mesh_values.specs.declared.times.Bounds.{Bounds};
 ghost use Rattle.mesh_rules.specs.Proper.{defn_names};
 ghost use Rattle.mesh_meaning.specs.Sel.{Sel};
 ghost use Rattle.mesh_scratch.specs.Closures.{Closure};
 ghost use Rattle.mesh_scratch.specs.Horizons.{Clock};
-ghost use Rattle.mesh_scratch.specs.Scratch.{from_scratch, piece, piece_over, rows_over};
+ghost use Rattle.mesh_scratch.specs.Scratch.{defn_rows, from_scratch, piece, piece_over, rows_over};
 ghost use Rattle.mesh_scratch.specs.Sources.{inputs};
 ghost use Rattle.mesh_laws.specs.Alike.{AreSameTables, HaveSameBags};
 ghost use Rattle.mesh_laws.specs.Loads.{HasSameSources, HaveSameSources};
-ghost use Rattle.mesh_laws.specs.Reads.{AgreeAsBags, AgreeOnReads, cut_inputs};
+ghost use Rattle.mesh_laws.specs.Cuts.{AgreeAsBags, AgreeOnReads, cut_inputs};
+ghost use Rattle.mesh_laws.specs.Reads.{IsRead, reading_cmp, reading_itself, readings, reads};
 
 /// Where the tables that a query names have the same columns and the same rows, in whatever order, its rows are the same
 /// but for their order.
@@ -21,16 +27,31 @@ pub fn rows_respect_bags()
     ensures { (q : Query) (a b : List Input) → HaveSameBags q a b → (u : Bounds) → IsSameBag (Sel q a u) (Sel q b u) }
 {}
 
-/// Where the tables that a query names have the same rows as far as it reads their columns, its rows are the same list,
-/// whatever other columns the tables have. So it has the same rows over tables without those other columns.
-pub fn rows_hang_on_read_columns()
-    ensures agree { (q : Query) (a b : List Input) → AgreeOnReads q a b → (u : Bounds) → Sel q a u ≡ Sel q b u }
-    ensures cut { (q : Query) (inputs : List Input) (u : Bounds) → Sel q (cut_inputs q inputs) u ≡ Sel q inputs u }
+/// A definition reads exactly the columns that some column of some SELECT names at a FROM item of their relation: in an
+/// item, an ON condition, WHERE, a key or HAVING, of the query itself or of a CTE. They stand by relation and column, each
+/// once. A seed reads none.
+pub fn definitions_read_what_they_name()
+    ensures exactly { (own : Own) (r : Reading) → Contains (readings own) r ↔ IsRead own.defn r }
+    ensures once { (own : Own) → ascends reading_cmp reading_itself (readings own) ≡ true }
+    ensures of_one { (own : Own) (name : Name) (column : List ℕ) → Contains (reads own name) column ↔ IsRead own.defn (record { relation = name; column = column }) }
 {}
 
-/// Where these rows, as far as the query reads their columns, are the same but for their order, so are its rows.
+/// Where the tables that a definition names have the same rows as far as it reads their columns, its rows are the same
+/// list, whatever other columns the tables have. So it has the same rows over tables without those other columns. It is the
+/// same of a model's rows, and of those of a unit.
+pub fn rows_hang_on_read_columns()
+    ensures agree { (d : Defn) (a b : List Input) → AgreeOnReads d a b → (u : Bounds) → defn_rows d a u ≡ defn_rows d b u }
+    ensures cut { (d : Defn) (inputs : List Input) (u : Bounds) → defn_rows d (cut_inputs d inputs) u ≡ defn_rows d inputs u }
+    ensures rows { (own : Own) (a b : List Input) → AgreeOnReads own.defn a b → (units : List Bounds) → rows_over own a units ≡ rows_over own b units }
+    ensures pieces { (own : Own) (a b : List Input) → AgreeOnReads own.defn a b → (u : Bounds) → piece_over own a u ≡ piece_over own b u }
+{}
+
+/// Where these rows, as far as the definition reads their columns, are the same but for their order, so are
+/// its rows, a model's rows, and those of a unit.
 pub fn rows_respect_bags_of_read_columns()
-    ensures { (q : Query) (a b : List Input) → AgreeAsBags q a b → (u : Bounds) → IsSameBag (Sel q a u) (Sel q b u) }
+    ensures definition { (d : Defn) (a b : List Input) → AgreeAsBags d a b → (u : Bounds) → IsSameBag (defn_rows d a u) (defn_rows d b u) }
+    ensures rows { (own : Own) (a b : List Input) → AgreeAsBags own.defn a b → (units : List Bounds) → IsSameBag (rows_over own a units) (rows_over own b units) }
+    ensures pieces { (own : Own) (a b : List Input) → AgreeAsBags own.defn a b → (u : Bounds) → IsSameBag (piece_over own a u) (piece_over own b u) }
 {}
 
 /// Where each source that a model and its ancestors declare has the same rows when it is cut to the declared columns, in
