@@ -14,6 +14,9 @@ lt_false a b h = grind (arith, ints)
 pub lt_says : (a b : ℤ) → lt_z a b ≡ true → a <ℤ b
 lt_says a b h = grind (arith, ints)
 
+pub lt_not : (a b : ℤ) → lt_z a b ≡ false → b ≤ℤ a
+lt_not a b h = grind (arith, ints)
+
 pub le_true : (a b : ℤ) → a ≤ℤ b → le_z a b ≡ true
 le_true a b h = grind (arith, ints)
 

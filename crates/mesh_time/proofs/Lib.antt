@@ -12,3 +12,4 @@ pub mod Held
 pub mod Missing
 pub mod Same
 pub mod Units
+pub mod Without

@@ -2,7 +2,7 @@ use Rattle.std.proofs.Common.{◌&&◌, ap, ◌≡◌, ℕ, ◌+◌, ◌*◌, �
 use Rattle.std.proofs.lemmas.Int.{by_lt_z}
 use Rattle.jiff_core.specs.declared.civil.date.Date.{Date}
 use Rattle.jiff_core.specs.Date.{epoch_day}
-use Rattle.jiff_core.proofs.SignedLemmas.{signed_arith, int_div_euclid-parts, int_rem_euclid-parts, unsigned_abs-parts, one_part}
+use Rattle.jiff_core.proofs.SignedLemmas.{signed_arith, unsigned_abs-parts, one_part}
 use Rattle.jiff_core.proofs.DateLemmas.{epoch_day_injective}
 use Rattle.mesh_values.specs.Crons.{CronSets, has, count_below}
 use Rattle.mesh_days.specs.Moments.{moment, day_number, day_at, second_at, IsDayNumber}

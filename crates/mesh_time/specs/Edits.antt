@@ -1,5 +1,5 @@
 -- The lists of spans that adding and forgetting make.
-use Rattle.std.specs.Prelude.{Bool, false, List, [], ◌∷◌, ◌++◌, if◌then◌else◌, ℤ, Some, None}
+use Rattle.std.specs.Prelude.{Bool, true, false, ◌&&◌, List, [], ◌∷◌, ◌++◌, if◌then◌else◌, ℤ, Some, None}
 use Rattle.std.specs.declared.option.Option.{Option}
 use Rattle.std.specs.List.{flat_map}
 use Rattle.std.specs.Int.{int_min, int_max}
@@ -34,6 +34,21 @@ spans_with start end spans = added (Some (record { start = start; end = end })) 
 -- the spans without the seconds from a start to an end
 abbrev pub spans_without : ℤ → ℤ → List Bounds → List Bounds
 spans_without start end spans = flat_map (pieces (record { start = start; end = end })) spans
+
+-- the spans without the seconds of each of these, one after another; one whose start isn't below its end has none
+abbrev pub spans_without_each : List Bounds → List Bounds → List Bounds
+spans_without_each [] spans = spans
+spans_without_each (b ∷ bs) spans = spans_without_each bs (if lt_z b.start b.end then spans_without b.start b.end spans else spans)
+
+-- each has a second, and none begins below this one or below an earlier one
+abbrev pub rises_from : ℤ → List Bounds → Bool
+rises_from t [] = true
+rises_from t (b ∷ bs) = le_z t b.start && (lt_z b.start b.end && rises_from b.start bs)
+
+-- each has a second, and none begins below an earlier one
+abbrev pub rises : List Bounds → Bool
+rises [] = true
+rises (b ∷ bs) = lt_z b.start b.end && rises_from b.start bs
 
 -- the spans from the first on that ends after a second
 abbrev pub open_after : ℤ → List Bounds → List Bounds

@@ -3,7 +3,7 @@ ghost use Rattle.std.specs.Prelude.{◌≡◌, true, ℕ, ◌+◌, ◌<◌, ◌�
 ghost use Rattle.mesh_values.specs.declared.times.Bounds.{Bounds};
 ghost use Rattle.mesh_values.specs.declared.times.Schedule.{Schedule};
 ghost use Rattle.mesh_time.specs.Ranges.{IsWithin, Has, is_apart, is_held, unit_count, unit_at};
-ghost use Rattle.mesh_time.specs.Edits.{spans_with, spans_without};
+ghost use Rattle.mesh_time.specs.Edits.{spans_with, spans_without, spans_without_each};
 
 /// Ranges that have the same seconds are the same.
 pub fn same_seconds_same_ranges()
@@ -25,6 +25,13 @@ pub fn forgetting_is_exact()
         is_apart (spans_without start end spans) ≡ true }
     ensures seconds { (spans : List Bounds) (start end t : ℤ) → start <ℤ end →
         Has (spans_without start end spans) t ↔ (Has spans t × ((t <ℤ start) ⊎ (end ≤ℤ t))) }
+{}
+
+/// Spans without the seconds of several others stay apart, and have those that none of the others has.
+pub fn forgetting_each_is_exact()
+    ensures apart { (gone spans : List Bounds) → is_apart spans ≡ true → is_apart (spans_without_each gone spans) ≡ true }
+    ensures seconds { (gone spans : List Bounds) (t : ℤ) →
+        Has (spans_without_each gone spans) t ↔ (Has spans t × (Has gone t → ⊥)) }
 {}
 
 /// The test by which `missing` goes says of an interval what `holds` says.

@@ -5,6 +5,7 @@
 #![tactic(auto)]
 
 mod crontab;
+mod cuts;
 mod fields;
 mod laws;
 mod ranges;
@@ -12,8 +13,8 @@ mod ticks;
 
 pub use crontab::read_cron;
 pub use laws::{
-    adding_is_exact, forgetting_is_exact, held_is_every_second, same_seconds_same_ranges,
-    units_end_by_the_end, units_follow_one_another,
+    adding_is_exact, forgetting_each_is_exact, forgetting_is_exact, held_is_every_second,
+    same_seconds_same_ranges, units_end_by_the_end, units_follow_one_another,
 };
 pub use ranges::{END_OF_SECONDS, FIRST_SECOND, Ranges};
 pub use ticks::{floor, ticks_at, unit_of};

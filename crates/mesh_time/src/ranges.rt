@@ -3,8 +3,9 @@ ghost use Rattle.std.specs.Prelude.{◌≡◌, true, ℕ, [], ◌++◌, ◌∷�
 ghost use Rattle.std.specs.List.{flat_map, list_any};
 ghost use Rattle.mesh_values.specs.declared.times.Bounds.{Bounds};
 ghost use Rattle.mesh_time.specs.Ranges.{IsWithin, Has, is_apart, covers, is_held, unit_size, unit_count, unit_at, missing_units};
-ghost use Rattle.mesh_time.specs.Edits.{hull, added, filled, pieces, open_after, front_covers, spans_with, spans_without};
+ghost use Rattle.mesh_time.specs.Edits.{hull, added, filled, pieces, open_after, front_covers, spans_with, spans_without, spans_without_each};
 
+use crate::cuts::without_each;
 use mesh_list::{Duplicate, Memory, Same, Seq};
 use mesh_values::{Bounds, Schedule, Spans, Unit};
 use std::alloc::Global;
@@ -74,6 +75,18 @@ impl Ranges {
         ensures err { OnErr result (self.new ≡ self.old) }
     {
         let made = without_span(&self.spans, &Bounds { start, end })?;
+        self.spans = made;
+        Ok(())
+    }
+
+    /// Forgets the seconds of all these spans, which may stand in any order, in one pass over those that are recorded. A
+    /// span whose start is not below its end has none. At `Err` nothing has changed.
+    pub fn forget_each(&mut self, gone: &[Bounds]) -> Result<(), Memory>
+        ensures seconds { OnOk result ((t : ℤ) → Has self.new t ↔ (Has self.old t × (Has gone.now t → ⊥))) }
+        ensures spans { OnOk result (self.new ≡ spans_without_each gone.now self.old) }
+        ensures err { OnErr result (self.new ≡ self.old) }
+    {
+        let made = without_each(&self.spans, gone)?;
         self.spans = made;
         Ok(())
     }
@@ -163,7 +176,7 @@ fn with_span(spans: &Spans, span: Bounds) -> Result<Spans, Memory>
     Ok(made)
 }
 
-fn push_filled(made: &mut Spans, start: i64, end: i64) -> Result<(), Memory>
+pub(crate) fn push_filled(made: &mut Spans, start: i64, end: i64) -> Result<(), Memory>
     ensures { IfOk result (λ _. made.new ≡ made.old ++ filled start end) }
 {
     if start < end {
