@@ -22,5 +22,7 @@ pub mod Cutting
 pub mod ReadBags
 -- Models: a model's rows as bags.
 pub mod Models
+-- Finding: a well-formed definition finds all that it names.
+pub mod Finding
 -- Examples: sources that a model can't tell apart, worked out by hand.
 pub mod Examples

@@ -6,3 +6,5 @@ pub mod Reads
 pub mod Cuts
 -- Loads: sources that a model can't tell apart.
 pub mod Loads
+-- Found: what a query names is found among the tables that it reads.
+pub mod Found

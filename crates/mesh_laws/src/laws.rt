@@ -1,5 +1,5 @@
 // What a query's rows hang on, and what not.
-ghost use Rattle.std.specs.Prelude.{◌≡◌, true, ◌↔◌, ℕ, List};
+ghost use Rattle.std.specs.Prelude.{◌≡◌, true, ◌↔◌, ℕ, List, map};
 ghost use Rattle.std.specs.List.{Contains};
 ghost use Rattle.mesh_list.specs.Keyed.{ascends};
 ghost use Rattle.mesh_values.specs.Bag.{IsSameBag};
@@ -10,13 +10,18 @@ ghost use Rattle.mesh_base.specs.declared.definitions.Own.{Own};
 ghost use Rattle.mesh_base.specs.declared.definitions.Reading.{Reading};
 ghost use Rattle.mesh_base.specs.declared.queries.Query.{Query};
 ghost use Rattle.mesh_values.specs.declared.times.Bounds.{Bounds};
-ghost use Rattle.mesh_rules.specs.Proper.{defn_names};
+ghost use Rattle.mesh_rules.specs.declared.relations.Parent.{Parent};
+ghost use Rattle.mesh_rules.specs.declared.relations.Relation.{Relation};
+ghost use Rattle.mesh_rules.specs.Proper.{defn_names, is_well_formed};
+ghost use Rattle.mesh_rules.specs.Relations.{parent_relation};
+ghost use Rattle.mesh_rules.specs.Seen.{is_query_seen};
 ghost use Rattle.mesh_meaning.specs.Sel.{Sel};
-ghost use Rattle.mesh_scratch.specs.Closures.{Closure};
+ghost use Rattle.mesh_scratch.specs.Closures.{Closure, Closures, Model, each_of};
 ghost use Rattle.mesh_scratch.specs.Horizons.{Clock};
-ghost use Rattle.mesh_scratch.specs.Scratch.{defn_rows, from_scratch, piece, piece_over, rows_over};
+ghost use Rattle.mesh_scratch.specs.Scratch.{defn_rows, from_scratch, inputs_of, piece, piece_over, rows_over};
 ghost use Rattle.mesh_scratch.specs.Sources.{inputs};
 ghost use Rattle.mesh_laws.specs.Alike.{AreSameTables, HaveSameBags};
+ghost use Rattle.mesh_laws.specs.Found.{DefnFindsAll, QueryFindsAll, input_relation, model_relation};
 ghost use Rattle.mesh_laws.specs.Loads.{HasSameSources, HaveSameSources};
 ghost use Rattle.mesh_laws.specs.Cuts.{AgreeAsBags, AgreeOnReads, cut_inputs};
 ghost use Rattle.mesh_laws.specs.Reads.{IsRead, reading_cmp, reading_itself, readings, reads};
@@ -64,4 +69,15 @@ pub fn models_respect_bags()
     ensures inputs { (a b : List Input) (own : Own) → HasSameSources a b own → (ts us : List Input) → AreSameTables (defn_names own.defn) ts us → AreSameTables (defn_names own.defn) (inputs a own ts) (inputs b own us) }
     ensures rows { (a b : List Input) (own : Own) → AreSameTables (defn_names own.defn) a b → (units : List Bounds) → IsSameBag (rows_over own a units) (rows_over own b units) }
     ensures pieces { (a b : List Input) (own : Own) → AreSameTables (defn_names own.defn) a b → (u : Bounds) → IsSameBag (piece_over own a u) (piece_over own b u) }
+{}
+
+/// What a query that is seen names is found among tables of the names and columns that it was seen over: what each FROM
+/// item reads is there, a CTE among those before, and each column that a SELECT names is one of what its FROM item reads.
+/// So it is for a well-formed definition over its declared sources and its parents, also from scratch.
+pub fn well_formed_definitions_find_all()
+    ensures query { (relations : List Relation) (q : Query) (tables : List Input) → is_query_seen relations q ≡ true → map input_relation tables ≡ relations → (u : Bounds) → QueryFindsAll q tables u }
+    ensures definition { (parents : List Parent) (own : Own) → is_well_formed parents own ≡ true → (tables : List Input) → map input_relation tables ≡ map parent_relation parents →
+        (sources : List Input) (u : Bounds) → DefnFindsAll own.defn (inputs sources own tables) u }
+    ensures closure { (parents : List Parent) (own : Own) (cs : Closures) → is_well_formed parents own ≡ true → map model_relation (each_of cs) ≡ map parent_relation parents →
+        (sources : List Input) (clock : Clock) (u : Bounds) → DefnFindsAll own.defn (inputs_of sources clock (Model own cs)) u }
 {}
