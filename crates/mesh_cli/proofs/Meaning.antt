@@ -5,7 +5,7 @@ use Rattle.std.specs.declared.option.Option.{Option}
 use Rattle.std.specs.Ordering.{is_eq}
 use Rattle.std.specs.Cmp.{Equal-is}
 use Rattle.std.specs.List.{AllByRecursion}
-use Rattle.mesh_list.specs.Keyed.{ascends}
+use Rattle.mesh_list.specs.Keyed.{ascends, found}
 use Rattle.mesh_list.proofs.Ascends.{and_right}
 use Rattle.mesh_list.proofs.Each.{each_found, found-behind}
 use Rattle.mesh_values.specs.declared.values.Cell.{Cell}
@@ -21,10 +21,14 @@ use Rattle.mesh_house.specs.declared.objects.Body.{Body}
 use Rattle.mesh_house.specs.declared.objects.Body.TheVariants.{Rows}
 use Rattle.mesh_house.specs.declared.world.World.{World}
 use Rattle.mesh_house.specs.declared.world.Change.TheVariants.{PointView}
-use Rattle.mesh_house.specs.World.{body, view, shown_at, shown, rows_of}
+use Rattle.mesh_house.specs.declared.objects.Object.{Object}
+use Rattle.mesh_house.specs.Objects.{is_physical, object_name}
+use Rattle.mesh_house.specs.World.{as_table, body, body_of, object_at, source_at, view}
 use Rattle.mesh_house.specs.Step.{step, run}
 use Rattle.mesh_house.proofs.After.{body-filled, view-pointed}
 use Rattle.mesh_house.proofs.Runs.{run-append}
+use Rattle.mesh_shown.specs.Shown.{view_rows}
+use Rattle.mesh_shown.proofs.Behind.{behind_view, behind_table}
 use Rattle.mesh_cli.specs.Apply.{table_of, fills, fills_at, executes, points, changes, Final}
 use Rattle.mesh_cli.proofs.Tables.{table_is_physical, same_table}
 
@@ -96,6 +100,12 @@ body-points : (list : List Model) (w : World) (q : Name) → body (run w (points
 body-points [] w q = refl
 body-points (m ∷ ms) w q = body-points ms (step w (PointView m.name (table_of m.name))) q
 
+-- an object's name is no source's
+body_of_object : (w : World) (n : Name) → is_physical n ≡ true → body_of (object_at w n) ≡ body w n
+body_of_object w n physical =
+    let o : Option Object = found name_cmp object_name n w.objects in
+    ap (λ (b : Bool). body_of (cond b o None)) physical ∙ sym (ap (λ (b : Bool). body_of (cond b o (as_table (source_at w n)))) physical)
+
 module _ (models : List Model) (w : World) (up : ascends name_cmp model_name models ≡ true) where
   abbrev seeded : World
   seeded = run w (executes models 0 models)
@@ -128,15 +138,15 @@ module _ (models : List Model) (w : World) (up : ascends name_cmp model_name mod
       ∙ ap (made models 1 (Some m)) (body-executes models 0 models w m.name up ∙ ap (λ (o : Option Model). made models 0 o (body w (table_of m.name))) is)
       ∙ made_once m (body w (table_of m.name))
 
-  shows : (m : Model) → model_of models m.name ≡ Some m → shown last m.name ≡ Some (value models m.picking)
+  shows : (m : Model) → model_of models m.name ≡ Some m → view_rows last m.name ≡ Some (value models m.picking)
   shows m is =
-      ap (shown_at last) (ap (λ (u : World). view u m.name) last_is ∙ view-points models filled m.name up ∙ ap (λ (o : Option Model). aimed o (view filled m.name)) is)
-      ∙ ap rows_of (body_of_model m is)
+      behind_view last m.name (table_of m.name) (ap (λ (u : World). view u m.name) last_is ∙ view-points models filled m.name up ∙ ap (λ (o : Option Model). aimed o (view filled m.name)) is)
+      ∙ behind_table last (table_of m.name) (value models m.picking) (body_of_object last (table_of m.name) (table_is_physical m.name) ∙ body_of_model m is)
 
-  same_rows : (m : Model) → shown last m.name ≡ Some (value models m.picking) → IsSomeAnd (shown last m.name) (λ rows. IsSameBag rows (value models m.picking))
+  same_rows : (m : Model) → view_rows last m.name ≡ Some (value models m.picking) → IsSomeAnd (view_rows last m.name) (λ rows. IsSameBag rows (value models m.picking))
   same_rows m is = let P : Option (List (List Cell)) → Type 0 = λ o. IsSomeAnd o (λ rows. IsSameBag rows (value models m.picking)) in subst P (sym is) (λ row. refl)
 
-  each_shows : (list : List Model) → AllByRecursion (λ (m : Model). model_of models m.name ≡ Some m) list → AllByRecursion (λ (m : Model). IsSomeAnd (shown last m.name) (λ rows. IsSameBag rows (value models m.picking))) list
+  each_shows : (list : List Model) → AllByRecursion (λ (m : Model). model_of models m.name ≡ Some m) list → AllByRecursion (λ (m : Model). IsSomeAnd (view_rows last m.name) (λ rows. IsSameBag rows (value models m.picking))) list
   each_shows [] all = tt
   each_shows (m ∷ ms) all = (same_rows m (shows m all.0), each_shows ms all.1)
 

@@ -8,7 +8,7 @@ use Rattle.mesh_project.specs.Value.{columns_of, value, rank}
 use Rattle.mesh_house.specs.declared.world.World.{World}
 use Rattle.mesh_house.specs.declared.world.Change.{Change}
 use Rattle.mesh_house.specs.declared.world.Change.TheVariants.{MakeTable, ReplaceRows, PointView}
-use Rattle.mesh_house.specs.World.{shown}
+use Rattle.mesh_shown.specs.Shown.{view_rows}
 
 -- `sqlmesh__` before the schema
 abbrev pub physical_schema : List ℕ → List ℕ
@@ -44,4 +44,4 @@ changes models = executes models 0 models ++ (executes models 1 models ++ points
 
 -- the view of each model shows the model's value, as a bag
 abbrev pub Final : List Model → World → Type 0
-Final models w = AllByRecursion (λ (m : Model). IsSomeAnd (shown w m.name) (λ rows. IsSameBag rows (value models m.picking))) models
+Final models w = AllByRecursion (λ (m : Model). IsSomeAnd (view_rows w m.name) (λ rows. IsSameBag rows (value models m.picking))) models

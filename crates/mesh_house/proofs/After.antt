@@ -18,7 +18,7 @@ use Rattle.mesh_house.specs.declared.world.Change.TheVariants.{MakeTable, Replac
 use Rattle.mesh_values.specs.NameOrder.{names_total, names_exact}
 use Rattle.mesh_house.specs.Objects.{object_name, is_physical}
 use Rattle.mesh_book.specs.Changes.{make_table as table_made}
-use Rattle.mesh_house.specs.World.{view_name, source_at, as_table, object_at, kept_at, columns_of, body_of, target_of, head, body, view, rows_of, shown_at, shown}
+use Rattle.mesh_house.specs.World.{view_name, source_at, as_table, object_at, kept_at, columns_of, body_of, target_of, head, body, view}
 use Rattle.mesh_house.specs.Step.{with_book, with_object, filled_at, step, run}
 
 -- two names are one
@@ -104,7 +104,3 @@ body-pointed w v t q = refl
 
 pub head-pointed : (w : World) (v t q : Name) → head (step w (PointView v t)) q ≡ head w q
 head-pointed w v t q = refl
-
--- a view that is pointed shows the rows of its new target, and others show theirs
-pub shown-pointed : (w : World) (v t q : Name) → shown (step w (PointView v t)) q ≡ cond (is_eq (name_cmp v q)) (rows_of (body w t)) (shown w q)
-shown-pointed w v t q = ap (shown_at w) (view-pointed w v t q) ∙ chosen (shown_at w) (same_name v q) (Some t) (view w q)

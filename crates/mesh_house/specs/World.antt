@@ -83,12 +83,3 @@ abbrev pub rows_of : Option Body → Option (List (List Cell))
 rows_of None = None
 rows_of (Some (Rows rows)) = Some rows
 rows_of (Some (Stored own targets)) = None
-
--- the rows of what a view points at
-abbrev pub shown_at : World → Option Name → Option (List (List Cell))
-shown_at w None = None
-shown_at w (Some target) = rows_of (body w target)
-
--- the rows behind the view of that name
-abbrev pub shown : World → Name → Option (List (List Cell))
-shown w name = shown_at w (view w name)

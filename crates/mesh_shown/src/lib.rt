@@ -5,4 +5,6 @@
 
 mod laws;
 
-pub use laws::{objects_alone_are_shown, tables_and_stored_queries_show_their_rows, views_show_their_targets};
+pub use laws::{
+    objects_alone_are_shown, tables_and_stored_queries_show_their_rows, views_show_their_targets,
+};
