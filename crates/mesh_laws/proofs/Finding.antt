@@ -1,12 +1,12 @@
 -- A well-formed definition finds all that it names among the tables that it reads.
-use Rattle.std.proofs.Common.{◌≡◌, ℕ, zero, suc, Bool, true, false, cond, ◌&&◌, ◌||◌, ◌⊎◌, inl, inr, List, [], ◌∷◌, ◌++◌, map, refl, ap, sym, ◌∙◌, subst, append_assoc}
-use Rattle.std.specs.List.{All, Contains, find, flat_map, fold, list_all, slice_get}
+use Rattle.std.proofs.Common.{◌≡◌, ℕ, zero, suc, Bool, true, false, cond, ◌&&◌, ◌||◌, inl, inr, List, [], ◌∷◌, ◌++◌, map, refl, ap, sym, ◌∙◌, subst, append_assoc}
+use Rattle.std.specs.List.{All, find, flat_map, fold, list_all, slice_get}
 use Rattle.std.specs.Option.{is_some, option_map}
 use Rattle.std.specs.Ordering.{is_eq}
 use Rattle.std.specs.declared.option.Option.{Option}
 use Rattle.std.specs.declared.option.Option.TheVariants.{None, Some}
 use Rattle.std.proofs.lemmas.Bool.{and_parts}
-use Rattle.std.proofs.lemmas.List.{map-append}
+use Rattle.std.proofs.lemmas.List.{append-nil, map-append}
 use Rattle.std.proofs.lemmas.List.Elements.{All-nil, All-cons}
 use Rattle.std.proofs.lemmas.List.Folds.{list_all-append}
 use Rattle.mesh_values.specs.Names.{name_cmp}
@@ -32,14 +32,13 @@ use Rattle.mesh_base.specs.declared.queries.Select.{Select}
 use Rattle.mesh_rules.specs.declared.relations.Parent.{Parent}
 use Rattle.mesh_rules.specs.declared.relations.Relation.{Relation}
 use Rattle.mesh_rules.specs.Relations.{parent_relation, read_relations, relation_columns, source_relation}
-use Rattle.mesh_rules.specs.Seen.{are_ctes_seen, are_selects_seen, are_there, column_at, conditions_see, has_column, has_in, is_query_seen, is_select_seen, items_see, keys_see, or_no_columns, rel_columns, sees, sees_here, sees_some, sees_when, select_sees, tables_of, when_sees}
-use Rattle.mesh_rules.specs.Proper.{are_its_parents, has_its_time, is_body_of, is_body_seen, is_plain_schema, is_well_formed}
-use Rattle.mesh_rules.specs.Seen as seen
+use Rattle.mesh_rules.specs.Seen.{are_ctes_seen, are_distinct, are_selects_seen, are_there, column_at, conditions_see, has_column, has_in, is_query_seen, is_select_seen, items_see, keys_see, or_no_columns, rel_columns, sees, sees_here, sees_some, sees_when, select_sees, tables_of, when_sees}
+use Rattle.mesh_rules.specs.Proper.{has_its_time, is_body_of, is_body_seen, is_plain_schema, is_well_formed}
 use Rattle.mesh_values.specs.Crons.{is_cron}
 use Rattle.mesh_meaning.specs.Named.{Place, columns, columns_here, columns_when, when_columns}
 use Rattle.mesh_meaning.specs.Sel.{cte_input, cte_inputs}
 use Rattle.mesh_meaning.specs.Tables.{relation}
-use Rattle.mesh_scratch.specs.Closures.{Closure, Closures, Model, Alone, With, each_of, own_of}
+use Rattle.mesh_scratch.specs.Closures.{Closures, Model, Alone, With, each_of}
 use Rattle.mesh_scratch.specs.Horizons.{Clock}
 use Rattle.mesh_scratch.specs.Scratch.{inputs_of, tables}
 use Rattle.mesh_scratch.specs.Sources.{declared, inputs}
@@ -49,7 +48,7 @@ use Rattle.mesh_laws.proofs.Has.{Has, Has_from, Has_to}
 use Rattle.mesh_laws.proofs.ReadColumns.{Str, text_is}
 
 -- what a test of all says of one
-one_passes : {X : Type 0} (p : X → Bool) (xs : List X) (x : X) → list_all p xs ≡ true → Has x xs → p x ≡ true
+pub one_passes : {X : Type 0} (p : X → Bool) (xs : List X) (x : X) → list_all p xs ≡ true → Has x xs → p x ≡ true
 one_passes p [] x h k = absurd k
 one_passes p (y ∷ ys) x h (inl e) = subst (λ t. p t ≡ true) e (and_parts (p y) (list_all p ys) h).0
 one_passes p (y ∷ ys) x h (inr k) = one_passes p ys x (and_parts (p y) (list_all p ys) h).1 k
@@ -58,7 +57,7 @@ all_pass : {X : Type 0} (P : X → Type 0) (p : X → Bool) → ((x : X) → p x
 all_pass P p f [] h = All-nil P
 all_pass P p f (x ∷ xs) h = let b = and_parts (p x) (list_all p xs) h in All-cons P x xs (f x b.0) (all_pass P p f xs b.1)
 
-get_map : {X Y : Type 0} (f : X → Y) (xs : List X) (k : ℕ) → slice_get (map f xs) k ≡ option_map f (slice_get xs k)
+pub get_map : {X Y : Type 0} (f : X → Y) (xs : List X) (k : ℕ) → slice_get (map f xs) k ≡ option_map f (slice_get xs k)
 get_map f [] k = refl
 get_map f (x ∷ xs) zero = refl
 get_map f (x ∷ xs) (suc k) = get_map f xs k
@@ -189,11 +188,7 @@ named_columns (t ∷ ts) name = go (is_eq (name_cmp t.name name)) (named_columns
 module _ (tables : List Input) (u : Bounds) where
   ctes_after : (so_far : List Input) (ctes : List (List Select))
       → map columns_of_input (fold (λ so_far selects. so_far ++ cte_input tables u so_far selects ∷ []) so_far ctes) ≡ map columns_of_input so_far ++ map select_columns ctes
-  ctes_after so_far [] = sym (append_nil (map columns_of_input so_far))
-    where
-      append_nil : {X : Type 0} (xs : List X) → xs ++ [] ≡ xs
-      append_nil [] = refl
-      append_nil (x ∷ xs) = ap (λ l. x ∷ l) (append_nil xs)
+  ctes_after so_far [] = sym (append-nil (map columns_of_input so_far))
   ctes_after so_far (c ∷ cs) =
       ctes_after (so_far ++ cte_input tables u so_far c ∷ []) cs
       ∙ ap (λ l. l ++ map select_columns cs) (map-append columns_of_input so_far (cte_input tables u so_far c ∷ []))
@@ -242,11 +237,7 @@ module _ (tables : List Input) (u : Bounds) where
 
 cte_seen : (relations : List Relation) (so_far before after : List (List Select)) (c : List Select) → are_ctes_seen relations so_far (before ++ c ∷ after) ≡ true → are_selects_seen relations (so_far ++ before) c ≡ true
 cte_seen relations so_far [] after c h =
-    ap (λ l. are_selects_seen relations l c) (append_nil so_far) ∙ (and_parts (are_selects_seen relations so_far c) (are_ctes_seen relations (so_far ++ c ∷ []) after) h).0
-  where
-    append_nil : {X : Type 0} (xs : List X) → xs ++ [] ≡ xs
-    append_nil [] = refl
-    append_nil (x ∷ xs) = ap (λ l. x ∷ l) (append_nil xs)
+    ap (λ l. are_selects_seen relations l c) (append-nil so_far) ∙ (and_parts (are_selects_seen relations so_far c) (are_ctes_seen relations (so_far ++ c ∷ []) after) h).0
 cte_seen relations so_far (b ∷ before) after c h =
     ap (λ l. are_selects_seen relations l c) (sym (append_assoc so_far (b ∷ []) before))
     ∙ cte_seen relations (so_far ++ b ∷ []) before after c (and_parts (are_selects_seen relations so_far b) (are_ctes_seen relations (so_far ++ b ∷ []) (before ++ c ∷ after)) h).1
@@ -278,7 +269,7 @@ body_of parents own h =
     let b = and_parts (is_body_of own.kind own.defn) _ a.1 in
     let c = and_parts (is_cron own.cron) _ b.1 in
     let d = and_parts (has_its_time own.kind own.start (columns_of own)) _ c.1 in
-    let e = and_parts (seen.are_distinct (columns_of own)) _ d.1 in
+    let e = and_parts (are_distinct (columns_of own)) _ d.1 in
     (and_parts (is_body_seen (read_relations own.sources parents) own.defn) _ e.1).0
 
 pub definitions_find : (parents : List Parent) (own : Own) → is_well_formed parents own ≡ true → (tables : List Input) → map input_relation tables ≡ map parent_relation parents → (sources : List Input) (u : Bounds) → DefnFindsAll own.defn (inputs sources own tables) u

@@ -24,5 +24,7 @@ pub mod ReadBags
 pub mod Models
 -- Finding: a well-formed definition finds all that it names.
 pub mod Finding
+-- Projects: the models of a proper project are well formed with their parents' closures.
+pub mod Projects
 -- Examples: sources that a model can't tell apart, worked out by hand.
 pub mod Examples

@@ -1,14 +1,12 @@
 -- A model's rows are one bag where its sources' are.
-use Rattle.std.proofs.Common.{◌≡◌, ℕ, Bool, true, false, cond, List, [], ◌∷◌, ◌++◌, map, refl, ap, sym}
+use Rattle.std.proofs.Common.{◌≡◌, Bool, true, false, cond, List, [], ◌∷◌, ◌++◌, map, refl, ap}
 use Rattle.std.specs.List.{AllZip, find, flat_map}
 use Rattle.std.specs.Ordering.{is_eq}
-use Rattle.std.specs.declared.option.Option.{Option}
-use Rattle.std.specs.declared.option.Option.TheVariants.{None, Some}
+use Rattle.std.specs.declared.option.Option.TheVariants.{Some}
 use Rattle.std.proofs.lemmas.List.Elements.{All-weaker}
 use Rattle.mesh_values.specs.Bag.{IsSameBag}
 use Rattle.mesh_values.specs.Names.{name_cmp}
 use Rattle.mesh_values.specs.declared.times.Bounds.{Bounds}
-use Rattle.mesh_values.specs.declared.values.Cell.{Cell}
 use Rattle.mesh_values.specs.declared.values.Name.{Name}
 use Rattle.mesh_base.specs.declared.jobs.Input.{Input}
 use Rattle.mesh_base.specs.declared.definitions.Decl.{Decl}
@@ -17,7 +15,7 @@ use Rattle.mesh_base.specs.declared.definitions.Defn.TheVariants.{Seed, Sql}
 use Rattle.mesh_values.specs.Kinds.{is_incremental}
 use Rattle.mesh_base.specs.declared.definitions.Own.{Own}
 use Rattle.mesh_rules.specs.Proper.{defn_names}
-use Rattle.mesh_meaning.specs.Tables.{columns_in, rows_in}
+use Rattle.mesh_meaning.specs.Tables.{rows_in}
 use Rattle.mesh_scratch.specs.Closures.{Closure, Closures, Model, Alone, With, own_of, standing, ancestors}
 use Rattle.mesh_scratch.specs.Horizons.{Clock, schedule}
 use Rattle.mesh_scratch.specs.Sources.{declared, inputs}
@@ -25,7 +23,7 @@ use Rattle.mesh_scratch.specs.Scratch.{no_bounds, defn_rows, is_of_unit, piece, 
 use Rattle.mesh_laws.specs.Alike.{named, IsSameTable, AreSameTables}
 use Rattle.mesh_laws.specs.Loads.{HasSameSources, HaveSameSources}
 use Rattle.mesh_laws.proofs.Lists.{Each, each, Each_left, Each_right, Each_imp}
-use Rattle.mesh_laws.proofs.Perm.{Perm, nil, same, is, mapped, filtered, flat_each, trans}
+use Rattle.mesh_laws.proofs.Perm.{Perm, nil, same, filtered, flat_each}
 use Rattle.mesh_laws.proofs.Zips.{zip_append}
 use Rattle.mesh_laws.proofs.Bags.{IsSame, Named_same, sel_same, counts_same, bag_is_perm}
 

@@ -26,7 +26,7 @@ use Rattle.mesh_base.specs.declared.queries.Rel.{Rel}
 use Rattle.mesh_base.specs.declared.queries.Rel.TheVariants.{Named, Cte}
 use Rattle.mesh_base.specs.declared.queries.Select.{Select}
 use Rattle.mesh_base.specs.declared.queries.Query.{Query}
-use Rattle.mesh_meaning.specs.Named.{Place, columns}
+use Rattle.mesh_meaning.specs.Named.{columns}
 use Rattle.mesh_laws.specs.Reads.{on_of, expressions, rel_reading, item_reading, reading_at, select_readings, selects_readings, query_readings, reading_cmp, reading_itself, in_order, defn_readings, readings, is_of, defn_reads, reads, StandsIn, NamesColumn, IsSelectOf, IsRead}
 use Rattle.mesh_laws.proofs.Amounts.{equal_of}
 use Rattle.mesh_laws.proofs.Has.{Has, Has_from, Has_to, Has_left, Has_right, Has_cases, Has_flat, Has_flat_from, Has_map, Has_map_from, Has_filter, Has_filter_from, Has_some, Has_some_from}

@@ -1,17 +1,12 @@
 -- A query's rows hang on the columns that it reads, and on no other.
 use Rattle.std.proofs.Common.{◌≡◌, ℕ, ◌+◌, suc, zero, Bool, true, false, cond, ◌&&◌, ◌||◌, List, [], ◌∷◌, ◌++◌, map, length, get_or, refl, ap, sym, ◌∙◌, subst, arith, append_assoc, length-append, ◌⊎◌, inl, inr}
-use Rattle.std.specs.List.{All, AllZip, filter, flat_map, fold, list_all, list_any, slice_get}
+use Rattle.std.specs.List.{All, AllZip, filter, flat_map, fold, list_all, slice_get}
 use Rattle.std.specs.Option.{option_to_list}
-use Rattle.std.specs.Ordering.{is_eq}
 use Rattle.std.specs.declared.option.Option.{Option}
 use Rattle.std.specs.declared.option.Option.TheVariants.{None, Some}
 use Rattle.std.proofs.lemmas.Bool.{and_parts}
-use Rattle.std.proofs.lemmas.Cmp.{tied_itself}
-use Rattle.std.proofs.lemmas.Map.Lookups.{exact_bytes}
 use Rattle.std.proofs.lemmas.List.Folds.{list_all-append}
-use Rattle.mesh_values.specs.NameOrder.{texts_total, names_total}
 use Rattle.mesh_values.specs.Kinds.{is_incremental}
-use Rattle.mesh_values.specs.Names.{text_cmp}
 use Rattle.mesh_values.specs.Picked.{same_text, cell_of, picked_row}
 use Rattle.mesh_values.specs.declared.times.Bounds.{Bounds}
 use Rattle.mesh_values.specs.declared.values.Cell.{Cell}
@@ -22,7 +17,6 @@ use Rattle.mesh_base.specs.declared.expressions.Expr.{Expr}
 use Rattle.mesh_base.specs.declared.definitions.Defn.{Defn}
 use Rattle.mesh_base.specs.declared.definitions.Defn.TheVariants.{Seed, Sql}
 use Rattle.mesh_base.specs.declared.definitions.Own.{Own}
-use Rattle.mesh_base.specs.declared.definitions.Reading.{Reading}
 use Rattle.mesh_base.specs.declared.jobs.Input.{Input}
 use Rattle.mesh_base.specs.declared.queries.Item.{Item}
 use Rattle.mesh_base.specs.declared.queries.FromItem.{FromItem}
@@ -44,9 +38,8 @@ use Rattle.mesh_scratch.specs.Scratch.{defn_rows, is_of_unit, no_bounds, piece_o
 use Rattle.mesh_laws.specs.Alike.{names, named}
 use Rattle.mesh_laws.specs.Reads.{expressions, on_of, rel_reading, item_reading, reading_at, select_readings, selects_readings, query_readings, defn_reads}
 use Rattle.mesh_laws.specs.Cuts.{cut, AgreeOnReads}
-use Rattle.mesh_laws.proofs.ReadColumns.{Str, among, text_is, text_self, Wanted, each_wanted}
+use Rattle.mesh_laws.proofs.ReadColumns.{Str, among, text_is, Wanted, each_wanted}
 use Rattle.mesh_laws.proofs.Lists.{Each, each, Each_left, Each_right, Each_map}
-use Rattle.mesh_laws.proofs.Amounts.{equal_of}
 use Rattle.mesh_laws.proofs.Zips.{zip_map, zip_flat, zip_filter, zip_same, zip_of_map, zip_imp, zip_itself}
 
 abbrev pub Row : Type 0

@@ -10,7 +10,6 @@ use Rattle.mesh_base.specs.declared.expressions.Expr.{Expr}
 use Rattle.mesh_base.specs.declared.jobs.Input.{Input}
 use Rattle.mesh_base.specs.declared.queries.FromItem.{FromItem}
 use Rattle.mesh_base.specs.declared.queries.Query.{Query}
-use Rattle.mesh_base.specs.declared.queries.Rel.{Rel}
 use Rattle.mesh_base.specs.declared.queries.Select.{Select}
 use Rattle.mesh_base.specs.Outputs.{columns_of}
 use Rattle.mesh_rules.specs.declared.relations.Relation.{Relation}

@@ -1,6 +1,6 @@
 // What a query's rows hang on, and what not.
 ghost use Rattle.std.specs.Prelude.{◌≡◌, true, ◌↔◌, ℕ, List, map};
-ghost use Rattle.std.specs.List.{Contains};
+ghost use Rattle.std.specs.List.{All, Contains};
 ghost use Rattle.mesh_list.specs.Keyed.{ascends};
 ghost use Rattle.mesh_values.specs.Bag.{IsSameBag};
 ghost use Rattle.mesh_values.specs.declared.values.Name.{Name};
@@ -9,15 +9,16 @@ ghost use Rattle.mesh_base.specs.declared.definitions.Defn.{Defn};
 ghost use Rattle.mesh_base.specs.declared.definitions.Own.{Own};
 ghost use Rattle.mesh_base.specs.declared.definitions.Reading.{Reading};
 ghost use Rattle.mesh_base.specs.declared.queries.Query.{Query};
+ghost use Rattle.mesh_base.specs.declared.snapshots.Node.{Node};
 ghost use Rattle.mesh_values.specs.declared.times.Bounds.{Bounds};
 ghost use Rattle.mesh_rules.specs.declared.relations.Parent.{Parent};
 ghost use Rattle.mesh_rules.specs.declared.relations.Relation.{Relation};
-ghost use Rattle.mesh_rules.specs.Proper.{defn_names, is_well_formed};
+ghost use Rattle.mesh_rules.specs.Proper.{defn_names, is_proper, is_well_formed};
 ghost use Rattle.mesh_rules.specs.Relations.{parent_relation};
 ghost use Rattle.mesh_rules.specs.Seen.{is_query_seen};
 ghost use Rattle.mesh_meaning.specs.Sel.{Sel};
-ghost use Rattle.mesh_scratch.specs.Closures.{Closure, Closures, Model, each_of};
-ghost use Rattle.mesh_scratch.specs.Horizons.{Clock};
+ghost use Rattle.mesh_scratch.specs.Closures.{Closure, Closures, Model, closures, each_of, own_of};
+ghost use Rattle.mesh_scratch.specs.Horizons.{Clock, HasCrons};
 ghost use Rattle.mesh_scratch.specs.Scratch.{defn_rows, from_scratch, inputs_of, piece, piece_over, rows_over};
 ghost use Rattle.mesh_scratch.specs.Sources.{inputs};
 ghost use Rattle.mesh_laws.specs.Alike.{AreSameTables, HaveSameBags};
@@ -80,4 +81,12 @@ pub fn well_formed_definitions_find_all()
         (sources : List Input) (u : Bounds) → DefnFindsAll own.defn (inputs sources own tables) u }
     ensures closure { (parents : List Parent) (own : Own) (cs : Closures) → is_well_formed parents own ≡ true → map model_relation (each_of cs) ≡ map parent_relation parents →
         (sources : List Input) (clock : Clock) (u : Bounds) → DefnFindsAll own.defn (inputs_of sources clock (Model own cs)) u }
+{}
+
+/// Each model of a proper project, and each of its ancestors, has a cron that reading can give, and so a last tick at each
+/// moment. And each finds all that it names, from scratch.
+pub fn proper_projects_find_all()
+    ensures crons { (nodes : List Node) → is_proper nodes ≡ true → All HasCrons (closures nodes) }
+    ensures found { (nodes : List Node) → is_proper nodes ≡ true → (sources : List Input) (clock : Clock) (u : Bounds) →
+        All (λ c. DefnFindsAll (own_of c).defn (inputs_of sources clock c) u) (closures nodes) }
 {}

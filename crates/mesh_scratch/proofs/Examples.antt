@@ -1,5 +1,5 @@
 -- Small models and what they have, worked out by hand.
-use Rattle.std.proofs.Common.{◌≡◌, ◌≢◌, ℕ, ◌*◌, ◌^◌, ◌<◌, ◌≤◌, ◌==◌, not, ◌&&◌, IsTrue, arith, ℤ, pos, Bool, true, false, cond, List, [], ◌∷◌, map, length, refl, ap, ◌∙◌}
+use Rattle.std.proofs.Common.{◌≡◌, ◌≢◌, ℕ, ◌*◌, ◌^◌, ◌<◌, ◌==◌, not, ◌&&◌, IsTrue, arith, ℤ, pos, Bool, true, false, cond, List, [], ◌∷◌, map, length, refl, ap, ◌∙◌}
 use Rattle.std.specs.Prelude.{codes}
 use Rattle.std.specs.declared.option.Option.TheVariants.{None, Some}
 use Rattle.std.specs.List.{position}

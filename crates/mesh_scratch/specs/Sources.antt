@@ -1,5 +1,5 @@
 -- A source, cut to what a model declares of it, and the tables that a definition reads.
-use Rattle.std.specs.Prelude.{Bool, true, false, if◌then◌else◌, List, [], ◌++◌, map}
+use Rattle.std.specs.Prelude.{Bool, false, if◌then◌else◌, List, [], ◌++◌, map}
 use Rattle.std.specs.List.{find, list_all}
 use Rattle.std.specs.declared.option.Option.{Option}
 use Rattle.std.specs.declared.option.Option.TheVariants.{None, Some}
