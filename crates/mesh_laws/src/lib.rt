@@ -1,6 +1,6 @@
 //! Laws of what a query and a model mean, each the contract of a function with an empty body: what rows hang on, and what
-//! not. Its definitions are read in this order: `Alike`, `Reads`, `Cuts`, `Loads` and `Found`. It stands on `mesh_meaning`, `mesh_rules`
-//! and `mesh_scratch`.
+//! not; what a definition reads, and that it finds it. Its definitions are read in this order: `Alike`, `Reads`, `Cuts`,
+//! `Loads` and `Found`. It stands on `mesh_meaning`, `mesh_rules` and `mesh_scratch`.
 #![tactic(auto)]
 
 mod laws;
