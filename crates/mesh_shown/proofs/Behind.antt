@@ -1,5 +1,5 @@
 -- The rows behind an object and a view, by what stands under their names.
-use Rattle.std.proofs.Common.{◌≡◌, ℕ, suc, Bool, false, cond, List, map, Some, None, refl, ap, ◌∙◌}
+use Rattle.std.proofs.Common.{◌≡◌, ℕ, suc, Bool, false, cond, List, map, Some, None, ap, ◌∙◌}
 use Rattle.std.specs.Option.{option_map, option_and_then}
 use Rattle.std.specs.declared.option.Option.{Option}
 use Rattle.mesh_values.specs.declared.values.Cell.{Cell}
@@ -15,7 +15,6 @@ use Rattle.mesh_list.specs.Keyed.{found}
 use Rattle.mesh_meaning.specs.Sel.{Sel}
 use Rattle.mesh_scratch.specs.Sources.{inputs}
 use Rattle.mesh_scratch.specs.Scratch.{no_bounds}
-use Rattle.mesh_house.specs.declared.objects.Body.{Body}
 use Rattle.mesh_house.specs.declared.objects.Body.TheVariants.{Rows, Stored}
 use Rattle.mesh_house.specs.declared.objects.Object.{Object}
 use Rattle.mesh_house.specs.declared.world.World.{World}

@@ -1,5 +1,5 @@
 -- Small worlds and what they show, worked out by hand.
-use Rattle.std.proofs.Common.{◌≡◌, ℕ, ℤ, pos, Bool, true, false, List, [], ◌∷◌, refl, ap, ◌∙◌}
+use Rattle.std.proofs.Common.{◌≡◌, ℕ, pos, true, false, List, [], ◌∷◌, refl, ap, ◌∙◌}
 use Rattle.std.specs.Prelude.{codes}
 use Rattle.std.specs.declared.option.Option.TheVariants.{None, Some}
 use Rattle.mesh_values.specs.declared.values.Cell.{Cell}
@@ -29,10 +29,8 @@ use Rattle.mesh_meaning.proofs.Nodes.{Ev_out}
 use Rattle.mesh_book.specs.Changes.{empty_book}
 use Rattle.mesh_house.specs.declared.objects.Body.{Body}
 use Rattle.mesh_house.specs.declared.objects.Body.TheVariants as body
-use Rattle.mesh_house.specs.declared.objects.Object.{Object}
-use Rattle.mesh_house.specs.declared.world.ViewOf.{ViewOf}
 use Rattle.mesh_house.specs.declared.world.World.{World}
-use Rattle.mesh_shown.specs.Shown.{object_rows, view_rows}
+use Rattle.mesh_shown.specs.Shown.{view_rows}
 
 abbrev name : List ℕ → List ℕ → Name
 name schema model = record { schema = schema; model = model }

@@ -21,7 +21,7 @@ use Rattle.mesh_scratch.specs.Scratch.{no_bounds}
 use Rattle.mesh_house.specs.declared.objects.Body.{Body}
 use Rattle.mesh_house.specs.declared.objects.Body.TheVariants.{Rows, Stored}
 use Rattle.mesh_house.specs.declared.world.World.{World}
-use Rattle.mesh_house.specs.World.{body, object_at, columns_of, body_of, rows_of, view}
+use Rattle.mesh_house.specs.World.{object_at, columns_of, body_of, rows_of, view}
 
 -- each of them, where all are there
 abbrev pub each_there : {A : Type 0} → List (Option A) → Option (List A)

@@ -1,5 +1,5 @@
 // What the definitions give.
-ghost use Rattle.std.specs.Prelude.{◌≡◌, false, ◌<◌, ℕ, suc, List, [], map, Some, None, if◌then◌else◌};
+ghost use Rattle.std.specs.Prelude.{◌≡◌, false, ℕ, suc, List, [], map, Some, None, if◌then◌else◌};
 ghost use Rattle.std.specs.Option.{option_map};
 ghost use Rattle.std.specs.declared.option.Option.{Option};
 ghost use Rattle.mesh_values.specs.declared.values.Cell.{Cell};
