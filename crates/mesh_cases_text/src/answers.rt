@@ -4,12 +4,13 @@ use crate::notation::number_of;
 use crate::parts::{put_model, put_parts};
 use crate::pen::Pen;
 use crate::query::put_query;
+use crate::tokens::put_each;
 use mesh_cases::{Trouble, halves};
 use mesh_list::{Duplicate, Same};
 use mesh_query::parse;
 use mesh_statement::read_statement;
 use mesh_text::read_model;
-use mesh_tokens::{ReadFault, Token, TokenKind, Tokens, tokens_of};
+use mesh_tokens::{ReadFault, Tokens, tokens_of};
 use mesh_values::Str;
 use std::alloc::Global;
 
@@ -22,39 +23,13 @@ fn plain(alloc: Global, text: &[u8]) -> Result<Tokens, Trouble> {
     }
 }
 
-fn put_what(pen: &mut Pen, letter: &[u8], what: &[u8]) {
-    pen.put(letter);
-    pen.put(b" ");
-    pen.shown(what);
-}
-
-fn put_token(pen: &mut Pen, token: &Token) {
-    pen.put(b" [");
-    pen.count(token.start);
-    pen.put(b"-");
-    pen.count(token.end);
-    match &token.kind {
-        TokenKind::Ident(word) => put_what(pen, b" i", word.as_slice()),
-        TokenKind::Number(value) => {
-            pen.put(b" n ");
-            pen.count(*value);
-        }
-        TokenKind::Text(text) => put_what(pen, b" t", text.as_slice()),
-        TokenKind::Macro(name) => put_what(pen, b" m", name.as_slice()),
-        TokenKind::Sign(sign) => put_what(pen, b" s", sign.as_slice()),
-    }
-    pen.put(b"]");
-}
-
 /// The tokens of a text, which are copied first.
 pub fn put_tokens(alloc: Global, pen: &mut Pen, text: &[u8]) -> Result<(), Trouble> {
     match tokens_of(alloc, text) {
         Ok(found) => {
             let copied = found.copy()?;
             pen.put_if(!copied.same(&found), b" another copy:");
-            for token in copied.as_slice() {
-                put_token(pen, token);
-            }
+            put_each(pen, &copied);
             pen.put(b"\n");
         }
         Err(fault) => pen.fault(&fault),
@@ -112,11 +87,11 @@ fn file_of_models(alloc: Global) -> Result<Str, Trouble> {
     Ok(u8::copy_items(alloc, b"models/a.sql")?)
 }
 
-/// The model of the file `models/a.sql`.
+/// The model of the file `models/a.sql`, copied.
 pub fn put_model_file(alloc: Global, pen: &mut Pen, text: &[u8]) -> Result<(), Trouble> {
     match read_model(&file_of_models(alloc)?, text) {
         Ok(model) => {
-            put_model(pen, &model);
+            put_model(pen, &model.copy()?);
             pen.put(b"\n");
         }
         Err(fault) => pen.fault(&fault),

@@ -11,9 +11,10 @@
 //! - `behind.txt`: `N | TEXT`, the tree of the query that begins at token N, counted from 0;
 //! - `limits.txt`: `read` for a query that is read;
 //! - `statements.txt`: the properties of the MODEL statement in the file `models/m/a.sql`, with the byte at which a path
-//!   stands behind `at`, the hours of a cron as a number with a bit for each, a start as a day counted from 1970-01-01, a
-//!   letter for each column's type, behind `to` the end of the statement and behind `left` how many tokens it leaves;
-//! - `models.txt`: the same of the model file `models/a.sql`, and behind `query` the query's place and tree;
+//!   stands behind `at`, behind `by` the time column and behind `back` the lookback, the hours of a cron as a number with a
+//!   bit for each, a start as a day counted from 1970-01-01, a letter for each column's type, the tokens of `audits`, behind
+//!   `to` the end of the statement and behind `left` how many tokens it leaves;
+//! - `models.txt`: the same of a copy of the model in the file `models/a.sql`, and behind `query` the query's place and tree;
 //! - `cuts.txt`: a model file that is cut behind 0 bytes, behind 1 and so on until it is whole: each length from which on
 //!   something else is answered than before, and that;
 //! - `faults.txt`: `N | WHAT`, the line of the fault MN that names WHAT, at byte 10 of `models/m.sql`: a text, a name of two
@@ -27,6 +28,7 @@ mod notation;
 mod parts;
 mod pen;
 mod query;
+mod tokens;
 mod tree;
 
 use crate::answers::{

@@ -1,8 +1,10 @@
 // The properties of statements and of models in print, each behind a blank.
 use crate::pen::Pen;
 use crate::query::put_query;
+use crate::tokens::put_each;
 use mesh_statement::Parts;
 use mesh_text::ModelText;
+use mesh_tokens::Tokens;
 use mesh_values::{ColType, Columns, Cron, Kind, Name, Str, Unit};
 
 fn put_name(pen: &mut Pen, name: &Name) {
@@ -16,9 +18,10 @@ fn put_kind(pen: &mut Pen, kind: &Kind, path: &Option<Str>, path_at: u64) {
         Kind::Full => pen.word(b"full"),
         Kind::View => pen.word(b"view"),
         Kind::Seed => pen.word(b"seed"),
-        Kind::Incremental { time } => {
+        Kind::Incremental { time, lookback } => {
             pen.word(b"by");
             pen.word(time.as_slice());
+            put_count(pen, b"back", u64::from(*lookback));
         }
     }
     if let Some(path) = path {
@@ -60,6 +63,13 @@ fn put_columns(pen: &mut Pen, columns: &Columns) {
     }
 }
 
+fn put_audits(pen: &mut Pen, audits: &Tokens) {
+    if !audits.is_empty() {
+        pen.word(b"audits");
+        put_each(pen, audits);
+    }
+}
+
 /// The properties that are there.
 pub fn put_parts(pen: &mut Pen, parts: &Parts, end: u64, rest: usize) {
     if let Some(name) = &parts.name {
@@ -76,6 +86,7 @@ pub fn put_parts(pen: &mut Pen, parts: &Parts, end: u64, rest: usize) {
     }
     put_start(pen, parts.start);
     put_columns(pen, &parts.columns);
+    put_audits(pen, &parts.audits);
     put_count(pen, b"to", end);
     put_count(pen, b"left", rest as u64);
 }
@@ -87,6 +98,7 @@ pub fn put_model(pen: &mut Pen, model: &ModelText) {
     put_unit(pen, model.unit);
     put_start(pen, model.start);
     put_columns(pen, &model.columns);
+    put_audits(pen, &model.audits);
     if let Some(query) = &model.query {
         put_count(pen, b"query", query.at);
         pen.put(b" ");

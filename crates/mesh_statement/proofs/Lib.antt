@@ -7,5 +7,7 @@ pub mod PropertySteps
 pub mod Folders
 pub mod PathSteps
 pub mod Kept
+pub mod Held
+pub mod Lookbacks
 pub mod Schemas
 pub mod Stated

@@ -14,7 +14,7 @@ use Rattle.mesh_statement.specs.Brackets.{or_fault}
 use Rattle.mesh_statement.specs.Faults.{broken, bad, unknown, provided}
 use Rattle.mesh_statement.specs.Kinds.{kind_value, first_at, is_one_of}
 use Rattle.mesh_statement.specs.Named.{has_schema}
-use Rattle.mesh_statement.specs.Statement.{Read, noted, is_free, is_property, put_name, put, admitted, end_of, value_size, property, statement}
+use Rattle.mesh_statement.specs.Statement.{Read, noted, is_free, is_property, put_name, put_audits, put, admitted, end_of, value_size, property, statement}
 use Rattle.mesh_statement.specs.Values.{word, name_of, unit_of, start_of, cron_value, columns_value}
 use Rattle.mesh_statement.proofs.Kept.{bound, stated}
 use Rattle.mesh_statement.proofs.Schemas.{schema_read}
@@ -118,7 +118,8 @@ put_keeps file p m at name value h e =
     (chosen Q (bytes_eq name (codes "interval_unit")) _ _ m (λ f. keeps p m h (leaves (or_fault (bad at (codes "interval_unit")) (unit_of value)) (λ unit. record p { unit = Some unit }) p m (λ x. refl) f))
     (chosen Q (bytes_eq name (codes "start")) _ _ m (λ f. keeps p m h (leaves (or_fault (bad at (codes "start")) (start_of value)) (λ start. record p { start = Some start }) p m (λ x. refl) f))
     (chosen Q (bytes_eq name (codes "columns")) _ _ m (λ f. keeps p m h (leaves (columns_value at value) (λ columns. record p { columns = columns }) p m (λ x. refl) f))
-    (λ f. let same : p ≡ m = cc f in keeps p m h (ap (λ (q : Parts). q.name) same))))))) e
+    (chosen Q (bytes_eq name (codes "audits")) _ _ m (λ f. let same : put_audits p value ≡ m = cc f in keeps p m h (ap (λ (q : Parts). q.name) same))
+    (λ f. let same : p ≡ m = cc f in keeps p m h (ap (λ (q : Parts). q.name) same)))))))) e
 
 named_by_property : (file : List ℕ) (p : Parts) (before : ℕ) (ks : List Token) (r : Read) → property file p before ks ≡ Ok r → Named p ks → Named r.parts r.rest
 unfolding Named

@@ -1,5 +1,5 @@
 -- What the value of `kind` means: a word, and perhaps entries in parentheses.
-use Rattle.std.specs.Prelude.{ℕ, zero, suc, Bool, true, false, ◌&&◌, ◌||◌, not, ◌==◌, List, [], ◌∷◌, ◌++◌, codes, take, drop, length, map, Result, Ok, Err, if◌then◌else◌}
+use Rattle.std.specs.Prelude.{ℕ, zero, suc, Bool, true, false, ◌&&◌, ◌||◌, not, nat_le, ◌==◌, List, [], ◌∷◌, ◌++◌, codes, take, drop, length, map, Result, Ok, Err, if◌then◌else◌}
 use Rattle.std.specs.Char.{to_ascii_uppercase}
 use Rattle.std.specs.List.{list_any}
 use Rattle.std.specs.Str.{bytes_eq}
@@ -20,6 +20,7 @@ use Rattle.mesh_statement.specs.Faults.{bad, unknown, outside, provided, is_sign
 use Rattle.mesh_statement.specs.Brackets.{or_fault, value_len}
 use Rattle.mesh_statement.specs.Paths.{file_at}
 use Rattle.mesh_statement.specs.Values.{word, text, behind}
+use Rattle.mesh_statement.specs.Values as options
 
 abbrev pub words_left_out : List (List ℕ)
 words_left_out = codes "incremental_by_unique_key" ∷ codes "incremental_by_partition" ∷ codes "scd_type_2" ∷ codes "embedded" ∷ codes "managed" ∷ codes "custom" ∷ []
@@ -57,6 +58,22 @@ time_word (k ∷ []) = word k
 time_word (a ∷ k ∷ c ∷ f ∷ b ∷ []) = if is_sign (codes "(") a && (is_sign (codes ",") c && (is_day_format (text f) && is_sign (codes ")") b)) then word k else None
 time_word _ = None
 
+abbrev pub longest_lookback : ℕ
+longest_lookback = 366
+
+-- the number that a token is
+abbrev pub number_kind : TokenKind → Option ℕ
+number_kind (Number n) = Some n
+number_kind _ = None
+
+abbrev pub as_lookback : ℕ → Option ℕ
+as_lookback n = if nat_le n longest_lookback then Some n else None
+
+-- a number from 0 to the longest lookback
+abbrev pub lookback_number : List Token → Option ℕ
+lookback_number (k ∷ []) = options.◌>>=◌ (number_kind k.kind) as_lookback
+lookback_number _ = None
+
 abbrev pub is_number_kind : ℕ → TokenKind → Bool
 is_number_kind n (Number m) = m == n
 is_number_kind n _ = false
@@ -73,11 +90,10 @@ is_false _ = false
 abbrev pub is_idle : List ℕ → List Token → Bool
 is_idle name value =
     if bytes_eq name (codes "batch_size") then is_number 1 value
-    else if bytes_eq name (codes "lookback") then is_number 0 value
     else is_false value
 
 abbrev pub words_idle : List (List ℕ)
-words_idle = codes "batch_size" ∷ codes "lookback" ∷ codes "forward_only" ∷ codes "materialized" ∷ []
+words_idle = codes "batch_size" ∷ codes "forward_only" ∷ codes "materialized" ∷ []
 
 abbrev pub is_one_of : List (List ℕ) → List ℕ → Bool
 is_one_of words word = list_any (λ w. bytes_eq word w) words
@@ -85,7 +101,7 @@ is_one_of words word = list_any (λ w. bytes_eq word w) words
 -- the entries that a kind may have
 abbrev pub is_entry : KindWord → List ℕ → Bool
 is_entry the_kind.Seed name = bytes_eq name (codes "path") || is_one_of words_idle name
-is_entry the_kind.Incremental name = bytes_eq name (codes "time_column") || is_one_of words_idle name
+is_entry the_kind.Incremental name = bytes_eq name (codes "time_column") || (bytes_eq name (codes "lookback") || is_one_of words_idle name)
 is_entry kind name = is_one_of words_idle name
 
 -- the name of an entry, and what stands behind the entry
@@ -140,11 +156,15 @@ with_path file e name value = or_fault (bad (first_at value) name) (file_named f
 abbrev pub with_time : Entries → List ℕ → List Token → Result Entries ReadFault
 with_time e name value = or_fault (bad (first_at value) name) (time_word value) >>= λ time. Ok (record e { time = Some time })
 
+abbrev pub with_lookback : Entries → List ℕ → List Token → Result Entries ReadFault
+with_lookback e name value = or_fault (bad (first_at value) name) (lookback_number value) >>= λ n. Ok (record e { lookback = n })
+
 -- an entry's value; it is M20 where the entry means nothing and has another value
 abbrev pub entry_value : List ℕ → Entries → ℕ → List ℕ → List Token → Result Entries ReadFault
 entry_value file e at name value =
     if bytes_eq name (codes "path") then with_path file e name value
     else if bytes_eq name (codes "time_column") then with_time e name value
+    else if bytes_eq name (codes "lookback") then with_lookback e name value
     else provided (is_idle name value) e (outside at name)
 
 abbrev pub is_empty : List Token → Bool
@@ -180,7 +200,7 @@ entries_from file zero fault kind e (k ∷ ks) = Err fault
 entries_from file (suc most) fault kind e (k ∷ ks) = one_entry file fault kind e (k ∷ ks) >>= λ r. entries_from file most fault kind r.0 r.1
 
 abbrev pub no_entries : Entries
-no_entries = record { seen = []; path = None; path_at = 0; time = None }
+no_entries = record { seen = []; path = None; path_at = 0; time = None; lookback = 0 }
 
 -- the entries in parentheses, if there are any
 abbrev pub entries_in : List ℕ → ReadFault → KindWord → List Token → Result Entries ReadFault
@@ -194,15 +214,15 @@ plain kind = record { kind = kind; path = None; path_at = 0 }
 abbrev pub seed : ReadFault → Option (List ℕ) → ℕ → Result KindText ReadFault
 seed fault path at = or_fault fault path >>= λ path. Ok (record { kind = base_kind.Seed; path = Some path; path_at = at })
 
-abbrev pub incremental : ReadFault → Option (List ℕ) → Result KindText ReadFault
-incremental fault time = or_fault fault time >>= λ time. Ok (plain (base_kind.Incremental time))
+abbrev pub incremental : ReadFault → Option (List ℕ) → ℕ → Result KindText ReadFault
+incremental fault time lookback = or_fault fault time >>= λ time. Ok (plain (base_kind.Incremental time lookback))
 
 -- a SEED has a path, and an incremental kind a time column
 abbrev pub whole : ReadFault → KindWord → Entries → Result KindText ReadFault
 whole fault the_kind.Full e = Ok (plain base_kind.Full)
 whole fault the_kind.View e = Ok (plain base_kind.View)
 whole fault the_kind.Seed e = seed fault e.path e.path_at
-whole fault the_kind.Incremental e = incremental fault e.time
+whole fault the_kind.Incremental e = incremental fault e.time e.lookback
 
 abbrev pub kind_word : List ℕ
 kind_word = codes "kind"

@@ -12,6 +12,8 @@ pub mod Values
 pub mod Paths
 -- Kinds: what the value of `kind` means, with its entries.
 pub mod Kinds
+-- Lookbacks: how far incremental models look back.
+pub mod Lookbacks
 -- Named: how the names of models are.
 pub mod Named
 -- Statement: the properties of a MODEL statement, one after the other.

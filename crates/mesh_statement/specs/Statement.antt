@@ -25,7 +25,7 @@ abbrev pub is_property : List ℕ → Bool
 is_property name = is_one_of words_read name || is_free name
 
 abbrev pub no_parts : Parts
-no_parts = record { seen = []; name = None; kind = None; cron = None; unit = None; start = None; columns = [] }
+no_parts = record { seen = []; name = None; kind = None; cron = None; unit = None; start = None; columns = []; audits = [] }
 
 abbrev pub noted : Parts → List ℕ → Parts
 noted p name = record p { seen = p.seen ++ name ∷ [] }
@@ -48,6 +48,10 @@ put_start p at value = or_fault (bad at (codes "start")) (start_of value) >>= λ
 abbrev pub put_columns : Parts → ℕ → List Token → Result Parts ReadFault
 put_columns p at value = columns_value at value >>= λ columns. Ok (record p { columns = columns })
 
+-- the tokens of the value of `audits`, as they stand in the file
+abbrev pub put_audits : Parts → List Token → Parts
+put_audits p value = record p { audits = value }
+
 -- the parts with the value of a property in a model's file, which begins at this place
 abbrev pub put : List ℕ → Parts → ℕ → List ℕ → List Token → Result Parts ReadFault
 put file p at name value =
@@ -57,6 +61,7 @@ put file p at name value =
     else if bytes_eq name (codes "interval_unit") then put_unit p at value
     else if bytes_eq name (codes "start") then put_start p at value
     else if bytes_eq name (codes "columns") then put_columns p at value
+    else if bytes_eq name (codes "audits") then Ok (put_audits p value)
     else Ok p
 
 -- a property's name, which is known and was not there before

@@ -3,7 +3,7 @@ ghost use Rattle.std.specs.Prelude.{◌≡◌, IfOk, length, map};
 ghost use Rattle.std.specs.Char.{to_ascii_uppercase};
 ghost use Rattle.mesh_tokens.specs.Gives.{Gives};
 ghost use Rattle.mesh_statement.specs.Faults.{bad};
-ghost use Rattle.mesh_statement.specs.Kinds.{kind_or_fault, first_at, path_text, time_word, is_day_format, is_false, is_idle, noted, file_named, with_path, with_time, entry_value, entry, entry_behind, one_entry, entries_from, no_entries, entries_in, plain, seed, incremental, whole, kind_value, kind_word};
+ghost use Rattle.mesh_statement.specs.Kinds.{kind_or_fault, first_at, path_text, time_word, is_day_format, is_false, lookback_number, is_idle, noted, file_named, with_path, with_time, with_lookback, entry_value, entry, entry_behind, one_entry, entries_from, no_entries, entries_in, plain, seed, incremental, whole, kind_value, kind_word};
 ghost use Rattle.mesh_statement.specs.Answers.{GivesAs};
 ghost use Rattle.mesh_statement.specs.Values.{text as text_of};
 ghost use Rattle.mesh_statement.specs.Views.{seen};
@@ -11,13 +11,13 @@ ghost use Rattle.mesh_statement.specs.Views.{seen};
 use crate::brackets::value_len;
 use crate::faults::{bad, outside, unknown};
 use crate::forms::formed;
-use crate::look::{is_number, is_sign, is_word, text, word};
+use crate::look::{is_number, is_sign, is_word, number, text, word};
 use crate::paths::file_at;
 use crate::values::behind;
 use crate::words::{is_entry, is_left_out, is_one_of, kind_named};
 use mesh_list::{Duplicate, Memory, Seq};
 use mesh_tokens::{ReadFault, Token};
-use mesh_values::{Kind, Str, Strs};
+use mesh_values::{Kind, LONGEST_LOOKBACK, Str, Strs};
 use mesh_words::is_same;
 use std::alloc::Global;
 
@@ -37,6 +37,7 @@ pub struct Entries {
     pub path: Option<Str>,
     pub path_at: u64,
     pub time: Option<Str>,
+    pub lookback: u32,
 }
 
 /// A kind, and for a SEED the path of its file in the project and the byte at which that text begins.
@@ -114,6 +115,24 @@ fn time_word(value: &[Token]) -> Option<&[u8]>
     }
 }
 
+fn lookback_number(value: &[Token]) -> Option<u32>
+    ensures { result ≡ lookback_number value.now }
+{
+    let [token] = value else {
+        return None;
+    };
+    match number(token) {
+        Some(found) => {
+            if found <= u64::from(LONGEST_LOOKBACK) {
+                Some(found as u32)
+            } else {
+                None
+            }
+        }
+        None => None,
+    }
+}
+
 fn is_false(value: &[Token]) -> bool
     ensures { result ≡ is_false value.now }
 {
@@ -129,8 +148,6 @@ fn is_idle(name: &[u8], value: &[Token]) -> bool
 {
     if is_same(name, b"batch_size") {
         is_number(value, 1)
-    } else if is_same(name, b"lookback") {
-        is_number(value, 0)
     } else {
         is_false(value)
     }
@@ -188,6 +205,21 @@ fn with_time(
     Ok(())
 }
 
+fn with_lookback(
+    alloc: Global,
+    entries: &mut Entries,
+    name: &[u8],
+    value: &[Token],
+) -> Result<(), ReadFault>
+    ensures { GivesAs (λ done. entries.new) result (with_lookback entries.old name.now value.now) }
+{
+    let Some(lookback) = lookback_number(value) else {
+        return Err(bad(alloc, first_at(value), name));
+    };
+    entries.lookback = lookback;
+    Ok(())
+}
+
 fn entry_value(
     alloc: Global,
     file: &[u8],
@@ -203,6 +235,9 @@ fn entry_value(
     }
     if is_same(name, b"time_column") {
         return with_time(alloc, entries, name, value);
+    }
+    if is_same(name, b"lookback") {
+        return with_lookback(alloc, entries, name, value);
     }
     if is_idle(name, value) {
         Ok(())
@@ -308,6 +343,7 @@ fn no_entries(alloc: Global) -> Entries
         path: None,
         path_at: 0,
         time: None,
+        lookback: 0,
     }
 }
 
@@ -356,11 +392,16 @@ fn seed(alloc: Global, at: u64, path: Option<Str>, path_at: u64) -> Result<KindT
     }
 }
 
-fn incremental(alloc: Global, at: u64, time: Option<Str>) -> Result<KindText, ReadFault>
-    ensures { Gives result (incremental (bad at kind_word) time) }
+fn incremental(
+    alloc: Global,
+    at: u64,
+    time: Option<Str>,
+    lookback: u32,
+) -> Result<KindText, ReadFault>
+    ensures { Gives result (incremental (bad at kind_word) time lookback) }
 {
     match time {
-        Some(time) => Ok(plain(Kind::Incremental { time })),
+        Some(time) => Ok(plain(Kind::Incremental { time, lookback })),
         None => Err(bad(alloc, at, b"kind")),
     }
 }
@@ -370,11 +411,12 @@ fn whole(alloc: Global, at: u64, kind: KindWord, entries: Entries) -> Result<Kin
     ensures { Gives result (whole (bad at kind_word) kind entries) }
 {
     let path_at = entries.path_at;
+    let lookback = entries.lookback;
     match kind {
         KindWord::Full => Ok(plain(Kind::Full)),
         KindWord::View => Ok(plain(Kind::View)),
         KindWord::Seed => seed(alloc, at, entries.path, path_at),
-        KindWord::Incremental => incremental(alloc, at, entries.time),
+        KindWord::Incremental => incremental(alloc, at, entries.time, lookback),
     }
 }
 

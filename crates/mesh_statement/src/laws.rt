@@ -1,6 +1,7 @@
 // What holds of every statement that is read.
 ghost use Rattle.std.specs.Prelude.{◌≡◌, ◌-◌, ℕ, List, true, Ok, drop, length};
 ghost use Rattle.mesh_tokens.specs.declared.tokens.Token.{Token};
+ghost use Rattle.mesh_statement.specs.Lookbacks.{is_short};
 ghost use Rattle.mesh_statement.specs.Named.{has_schema};
 ghost use Rattle.mesh_statement.specs.Statement.{Read, statement};
 
@@ -14,4 +15,10 @@ pub fn the_rest_stands_behind()
 #[tactic(auto, using(crate::proofs::Stated::name_is_proper))]
 pub fn names_have_schemas()
     ensures { (file : List ℕ) (tokens : List Token) (r : Read) → statement file tokens ≡ Ok r → has_schema r.parts.name ≡ true }
+{}
+
+/// No model looks back over more units than the longest lookback.
+#[tactic(auto, using(crate::proofs::Lookbacks::lookback_short))]
+pub fn lookbacks_are_short()
+    ensures { (file : List ℕ) (tokens : List Token) (r : Read) → statement file tokens ≡ Ok r → is_short r.parts.kind ≡ true }
 {}

@@ -16,6 +16,6 @@ mod values;
 mod words;
 
 pub use kinds::KindText;
-pub use laws::{names_have_schemas, the_rest_stands_behind};
+pub use laws::{lookbacks_are_short, names_have_schemas, the_rest_stands_behind};
 pub use parts::Parts;
 pub use properties::{end_of, read_statement};

@@ -2,7 +2,7 @@
 ghost use Rattle.std.specs.Prelude.{◌≡◌, MatchOption};
 ghost use Rattle.mesh_statement.specs.Faults.{is_sign, is_word};
 ghost use Rattle.mesh_statement.specs.Values.{word, text, said_kind};
-ghost use Rattle.mesh_statement.specs.Kinds.{is_number, is_one_of};
+ghost use Rattle.mesh_statement.specs.Kinds.{number_kind, is_number};
 ghost use Rattle.mesh_statement.specs.Views.{seen};
 
 use mesh_tokens::{Token, TokenKind};
@@ -53,6 +53,16 @@ pub(crate) fn said(token: &Token) -> Option<&[u8]>
     match &token.kind {
         TokenKind::Ident(found) => Some(found.as_slice()),
         TokenKind::Text(found) => Some(found.as_slice()),
+        _ => None,
+    }
+}
+
+/// The number that a token is.
+pub(crate) fn number(token: &Token) -> Option<u64>
+    ensures { result ≡ number_kind token.now.kind }
+{
+    match &token.kind {
+        TokenKind::Number(found) => Some(*found),
         _ => None,
     }
 }

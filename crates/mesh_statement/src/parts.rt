@@ -1,20 +1,20 @@
 // The properties that have been read.
 ghost use Rattle.std.specs.Prelude.{◌≡◌, IfOk};
 ghost use Rattle.mesh_statement.specs.Answers.{GivesAs};
-ghost use Rattle.mesh_statement.specs.Statement.{no_parts, noted, put, put_name, put_unit, put_start, put_kind, put_cron, put_columns, admitted};
+ghost use Rattle.mesh_statement.specs.Statement.{no_parts, noted, put, put_name, put_unit, put_start, put_kind, put_cron, put_columns, put_audits, admitted};
 
 use crate::faults::{bad, unknown};
 use crate::kinds::{KindText, kind_value};
 use crate::values::{columns_value, cron_value, name_of, start_of, unit_of};
 use crate::words::{is_one_of, is_property};
 use mesh_list::{Duplicate, Memory, Seq};
-use mesh_tokens::{ReadFault, Token};
+use mesh_tokens::{ReadFault, Token, Tokens};
 use mesh_values::{Columns, Cron, Name, Strs, Unit};
 use mesh_words::is_same;
 use std::alloc::Global;
 
 /// The properties of a statement, and the names of all that stand in it. A start is a day counted from 1970-01-01; no
-/// columns stand where the property is absent.
+/// columns stand where the property is absent. `audits` are the tokens of that property's value, none where it is absent.
 #[derive(Drop)]
 pub struct Parts {
     pub seen: Strs,
@@ -24,6 +24,7 @@ pub struct Parts {
     pub unit: Option<Unit>,
     pub start: Option<i32>,
     pub columns: Columns,
+    pub audits: Tokens,
 }
 
 pub(crate) fn no_parts(alloc: Global) -> Parts
@@ -37,6 +38,7 @@ pub(crate) fn no_parts(alloc: Global) -> Parts
         unit: None,
         start: None,
         columns: Seq::new(alloc),
+        audits: Seq::new(alloc),
     }
 }
 
@@ -126,6 +128,14 @@ fn put_columns(alloc: Global, parts: &mut Parts, at: u64, value: &[Token]) -> Re
     Ok(())
 }
 
+fn put_audits(alloc: Global, parts: &mut Parts, value: &[Token]) -> Result<(), Memory>
+    ensures { IfOk result (λ done. parts.new ≡ put_audits parts.old value.now) }
+{
+    let audits = Token::copy_items(alloc, value)?;
+    parts.audits = audits;
+    Ok(())
+}
+
 /// Puts in the value of a property in a model's file, which begins at byte `at`.
 pub(crate) fn put(
     alloc: Global,
@@ -149,6 +159,8 @@ pub(crate) fn put(
         put_start(alloc, parts, at, value)
     } else if is_same(name, b"columns") {
         put_columns(alloc, parts, at, value)
+    } else if is_same(name, b"audits") {
+        Ok(put_audits(alloc, parts, value)?)
     } else {
         Ok(())
     }

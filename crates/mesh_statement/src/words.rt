@@ -48,10 +48,7 @@ pub(crate) fn kind_named(word: &[u8]) -> Option<KindWord>
 fn is_idle_word(word: &[u8]) -> bool
     ensures { result ≡ is_one_of words_idle word.now }
 {
-    is_same(word, b"batch_size")
-        || is_same(word, b"lookback")
-        || is_same(word, b"forward_only")
-        || is_same(word, b"materialized")
+    is_same(word, b"batch_size") || is_same(word, b"forward_only") || is_same(word, b"materialized")
 }
 
 /// Whether a kind may have an entry of this name.
@@ -60,7 +57,9 @@ pub(crate) fn is_entry(kind: KindWord, name: &[u8]) -> bool
 {
     match kind {
         KindWord::Seed => is_same(name, b"path") || is_idle_word(name),
-        KindWord::Incremental => is_same(name, b"time_column") || is_idle_word(name),
+        KindWord::Incremental => {
+            is_same(name, b"time_column") || is_same(name, b"lookback") || is_idle_word(name)
+        }
         KindWord::Full | KindWord::View => is_idle_word(name),
     }
 }

@@ -1,10 +1,11 @@
 -- What was read is complete.
-use Rattle.std.proofs.Common.{◌≡◌, ℕ, Bool, true, false, cond, ◌&&◌, not, List, codes, Result, Ok, Err, ℤ, refl, subst}
+use Rattle.std.proofs.Common.{◌≡◌, ℕ, Bool, true, false, cond, ◌&&◌, not, nat_le, List, codes, Result, Ok, Err, ℤ, refl, subst}
 use Rattle.std.specs.Option.{is_some, unwrap_or}
 use Rattle.std.specs.declared.option.Option.{Option}
 use Rattle.std.specs.declared.option.Option.TheVariants.{None, Some}
 use Rattle.mesh_list.proofs.Ascends.{and_both}
 use Rattle.mesh_values.specs.Crons.{CronSets}
+use Rattle.mesh_values.specs.Kinds.{lookback_of}
 use Rattle.mesh_values.specs.declared.kinds.Kind.{Kind}
 use Rattle.mesh_values.specs.declared.values.Name.{Name}
 use Rattle.mesh_tokens.specs.Gives.{◌>>=◌}
@@ -14,9 +15,11 @@ use Rattle.mesh_surface.specs.declared.queries.Surface.{Surface}
 use Rattle.mesh_statement.specs.declared.kinds.KindText.{KindText}
 use Rattle.mesh_statement.specs.Brackets.{or_fault}
 use Rattle.mesh_statement.specs.Faults.{bad, broken, provided}
-use Rattle.mesh_statement.specs.Kinds.{is_empty}
+use Rattle.mesh_statement.specs.Kinds.{is_empty, longest_lookback}
+use Rattle.mesh_statement.specs.Lookbacks.{is_short}
 use Rattle.mesh_statement.specs.Statement.{Read, statement}
 use Rattle.mesh_statement.proofs.Kept.{bound}
+use Rattle.mesh_statement.proofs.Lookbacks.{lookback_short}
 use Rattle.mesh_text.specs.declared.model.ModelText.{ModelText}
 use Rattle.mesh_text.specs.declared.model.Whole.{Whole as Text}
 use Rattle.mesh_text.specs.Complete.{is_model_name, is_complete}
@@ -35,9 +38,9 @@ unhurt ts (Some t) (Err f) w e = by (is_want ts f) e
     by true g = cc g
     by false g = cc g
 
--- the name, and the query that fits the kind
+-- the name, the query that fits the kind, and the lookback
 Sure : Text → Type 0
-Sure w = (is_name_if_any w.parts.name ≡ true) × (cond (is_seed_text w.parts.kind) (not (is_some w.query)) (is_some w.query) ≡ true)
+Sure w = (is_name_if_any w.parts.name ≡ true) × (cond (is_seed_text w.parts.kind) (not (is_some w.query)) (is_some w.query) ≡ true) × (is_short w.parts.kind ≡ true)
 
 body_fits : (seed : Bool) (before : ℕ) (rest : List Token) (query : Result Surface ReadFault) (q : Option Surface) → body seed before rest query ≡ Ok q → cond seed (not (is_some q)) (is_some q) ≡ true
 body_fits true before rest query q e = by (is_empty rest) e
@@ -54,7 +57,7 @@ whole_sure file ts query w words e =
     let r = bound (statement file ts) (λ (r : Read). body (is_seed_text r.parts.kind) r.before r.rest query >>= λ q. Ok (record { parts = r.parts; query = q })) w e in
     let q = bound (body (is_seed_text r.0.parts.kind) r.0.before r.0.rest query) (λ q. Ok (record { parts = r.0.parts; query = q })) w r.2 in
     let same : (record { parts = r.0.parts; query = q.0 }) ≡ w = cc q.2 in
-    subst Sure same (statement_named file ts r.0 words r.1, body_fits (is_seed_text r.0.parts.kind) r.0.before r.0.rest query q.0 q.1)
+    subst Sure same (statement_named file ts r.0 words r.1, body_fits (is_seed_text r.0.parts.kind) r.0.before r.0.rest query q.0 q.1, lookback_short file ts r.0 r.1)
 
 name_there : (fault : ReadFault) (found : Option Name) (name : Name) → is_name_if_any found ≡ true → or_fault fault found ≡ Ok name → is_model_name name ≡ true
 name_there fault None name h e = cc e
@@ -72,6 +75,10 @@ one_kind : (k : Option KindText) → is_seed_text k ≡ is_seed_kind (kind_of k)
 one_kind None = refl
 one_kind (Some k) = refl
 
+short_kind : (k : Option KindText) → is_short k ≡ true → nat_le (lookback_of (kind_of k).kind) longest_lookback ≡ true
+short_kind None h = refl
+short_kind (Some k) h = h
+
 finished_complete : (file : List ℕ) (w : Text) (m : ModelText) → Sure w → finished file w ≡ Ok m → is_complete m ≡ true
 unfolding Sure
 finished_complete file w m h e =
@@ -85,6 +92,7 @@ finished_complete file w m h e =
       columns = w.parts.columns;
       path = (kind_of w.parts.kind).path;
       path_at = (kind_of w.parts.kind).path_at;
+      audits = w.parts.audits;
       query = w.query;
     } in
     let n = bound (or_fault (bad 0 (codes "name")) w.parts.name) (λ name. started (kind_of w.parts.kind).kind w.parts.start >>= λ start. cron_or_daily w.parts.cron >>= λ cron. Ok (text name start cron)) m e in
@@ -94,7 +102,8 @@ finished_complete file w m h e =
     subst (λ (m : ModelText). is_complete m ≡ true) {x = text n.0 s.0 c.0} same
     (and_both _ _ (name_there (bad 0 (codes "name")) w.parts.name n.0 h.0 n.1)
     (and_both _ _ (subst (λ (b : Bool). cond b (not (is_some w.query)) (is_some w.query) ≡ true) (one_kind w.parts.kind) h.1)
-    (start_there (kind_of w.parts.kind).kind w.parts.start s.0 s.1)))
+    (and_both _ _ (start_there (kind_of w.parts.kind).kind w.parts.start s.0 s.1)
+    (short_kind w.parts.kind h.2))))
 
 pub model_complete : (file bytes : List ℕ) (query : Result Surface ReadFault) (m : ModelText) → model_of file (file_tokens bytes) (file_fault bytes) query ≡ Ok m → is_complete m ≡ true
 model_complete file bytes query m e =

@@ -1,5 +1,5 @@
 -- A statement whose identifiers are words gives a model's name.
-use Rattle.std.proofs.Common.{◌≡◌, ℕ, zero, suc, Bool, true, false, cond, ◌&&◌, not, List, [], ◌∷◌, codes, take, drop, Result, Ok, Err, IfOk, refl, subst}
+use Rattle.std.proofs.Common.{◌≡◌, ℕ, zero, suc, Bool, true, false, cond, ◌&&◌, not, List, [], ◌∷◌, codes, take, drop, Ok, IfOk, refl, subst}
 use Rattle.std.specs.Str.{bytes_eq}
 use Rattle.std.specs.declared.option.Option.{Option}
 use Rattle.std.specs.declared.option.Option.TheVariants.{None, Some}
@@ -7,7 +7,6 @@ use Rattle.mesh_list.proofs.Ascends.{and_left, and_right, and_both}
 use Rattle.mesh_values.specs.Names.{is_schema}
 use Rattle.mesh_values.specs.declared.values.Name.{Name}
 use Rattle.mesh_tokens.specs.Gives.{◌>>=◌}
-use Rattle.mesh_tokens.specs.declared.faults.ReadFault.{ReadFault}
 use Rattle.mesh_tokens.specs.declared.tokens.Token.{Token}
 use Rattle.mesh_statement.specs.declared.parts.Parts.{Parts}
 use Rattle.mesh_statement.specs.Brackets.{or_fault}
@@ -16,6 +15,7 @@ use Rattle.mesh_statement.specs.Kinds.{kind_value, first_at, is_one_of}
 use Rattle.mesh_statement.specs.Statement.{Read, is_free, is_property, put, admitted, value_size, property, statement}
 use Rattle.mesh_statement.specs.Values.{word, name_of, unit_of, start_of, cron_value, columns_value}
 use Rattle.mesh_statement.specs.Values as options
+use Rattle.mesh_statement.proofs.Held.{after, after_any, either}
 use Rattle.mesh_statement.proofs.Kept.{stated}
 use Rattle.mesh_text.specs.Complete.{is_word, is_model_name}
 use Rattle.mesh_text.proofs.Words.{is_word_if_any, have_words}
@@ -52,19 +52,6 @@ dropped zero ts h = h
 dropped (suc n) [] h = refl
 dropped (suc n) (t ∷ ts) h = dropped n ts (and_right _ _ h)
 
--- what a step gives holds behind the next one
-after : {A B : Type 0} (P : A → Type 0) (Q : B → Type 0) (r : Result A ReadFault) (next : A → Result B ReadFault) → IfOk r P → ((x : A) → P x → IfOk (next x) Q) → IfOk (r >>= next) Q
-after P Q (Ok x) next p f = f x p
-after P Q (Err e) next p f = tt
-
-after_any : {A B : Type 0} (Q : B → Type 0) (r : Result A ReadFault) (next : A → Result B ReadFault) → ((x : A) → IfOk (next x) Q) → IfOk (r >>= next) Q
-after_any Q (Ok x) next f = f x
-after_any Q (Err e) next f = tt
-
-either : {A : Type 0} (Q : A → Type 0) (b : Bool) (x y : Result A ReadFault) → IfOk x Q → IfOk y Q → IfOk (cond b x y) Q
-either Q true x y p q = p
-either Q false x y p q = q
-
 abbrev HasName : Parts → Type 0
 HasName p = is_name_if_any p.name ≡ true
 
@@ -79,7 +66,7 @@ put_named file p at name value h words =
     (either HasName (bytes_eq name (codes "interval_unit")) _ _ (after_any HasName (or_fault (bad at (codes "interval_unit")) (unit_of value)) _ (λ x. h))
     (either HasName (bytes_eq name (codes "start")) _ _ (after_any HasName (or_fault (bad at (codes "start")) (start_of value)) _ (λ x. h))
     (either HasName (bytes_eq name (codes "columns")) _ _ (after_any HasName (columns_value at value) _ (λ x. h))
-    h)))))
+    (either HasName (bytes_eq name (codes "audits")) _ _ h h))))))
   where
     by : (o : Option Name) → is_name_if_any o ≡ true → IfOk (or_fault (bad at (codes "name")) o >>= λ name. Ok (record p { name = Some name })) HasName
     by None is = tt

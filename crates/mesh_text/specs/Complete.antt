@@ -3,9 +3,11 @@ use Rattle.std.specs.Prelude.{ℕ, Bool, true, ◌&&◌, not, nat_le, List, leng
 use Rattle.std.specs.Char.{is_ascii_uppercase}
 use Rattle.std.specs.List.{list_any}
 use Rattle.std.specs.Option.{is_some}
+use Rattle.mesh_values.specs.Kinds.{lookback_of}
 use Rattle.mesh_values.specs.Names.{is_identifier, is_schema}
 use Rattle.mesh_values.specs.declared.values.Name.{Name}
 use Rattle.mesh_tokens.specs.Pieces.{longest_name}
+use Rattle.mesh_statement.specs.Kinds.{longest_lookback}
 use Rattle.mesh_text.specs.declared.model.ModelText.{ModelText}
 use Rattle.mesh_text.specs.ModelTexts.{is_seed_kind, is_timed}
 
@@ -24,5 +26,9 @@ has_its_query m = if is_seed_kind m.kind then not (is_some m.query) else is_some
 abbrev pub has_its_start : ModelText → Bool
 has_its_start m = if is_timed m.kind then is_some m.start else true
 
+-- a model looks back over so many units at most
+abbrev pub looks_back_shortly : ModelText → Bool
+looks_back_shortly m = nat_le (lookback_of m.kind) longest_lookback
+
 abbrev pub is_complete : ModelText → Bool
-is_complete m = is_model_name m.name && (has_its_query m && has_its_start m)
+is_complete m = is_model_name m.name && (has_its_query m && (has_its_start m && looks_back_shortly m))

@@ -106,6 +106,7 @@ finished file w = do
     columns = w.parts.columns;
     path = (kind_of w.parts.kind).path;
     path_at = (kind_of w.parts.kind).path_at;
+    audits = w.parts.audits;
     query = w.query;
   })
 

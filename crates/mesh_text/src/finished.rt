@@ -111,6 +111,7 @@ pub(crate) fn finished(alloc: Global, file: &Str, whole: Whole) -> Result<ModelT
         unit,
         start,
         columns,
+        audits,
     } = parts;
     let name = named(alloc, name)?;
     let KindText {
@@ -131,6 +132,7 @@ pub(crate) fn finished(alloc: Global, file: &Str, whole: Whole) -> Result<ModelT
         columns,
         path,
         path_at,
+        audits,
         query,
     })
 }

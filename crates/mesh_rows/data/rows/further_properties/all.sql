@@ -1,6 +1,6 @@
 MODEL (
   name a.f,
-  kind FULL (batch_size 1, lookback 0, forward_only false, materialized false),
+  kind FULL (batch_size 1, forward_only false, materialized false),
   cron @weekly,
   interval_unit 'hour',
   start '2024-01-01',

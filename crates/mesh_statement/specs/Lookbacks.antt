@@ -1,0 +1,12 @@
+-- How far incremental models look back.
+use Rattle.std.specs.Prelude.{Bool, true, nat_le}
+use Rattle.std.specs.declared.option.Option.{Option}
+use Rattle.std.specs.declared.option.Option.TheVariants.{None, Some}
+use Rattle.mesh_values.specs.Kinds.{lookback_of}
+use Rattle.mesh_statement.specs.declared.kinds.KindText.{KindText}
+use Rattle.mesh_statement.specs.Kinds.{longest_lookback}
+
+-- a kind's lookback is at most the longest
+abbrev pub is_short : Option KindText → Bool
+is_short None = true
+is_short (Some k) = nat_le (lookback_of k.kind) longest_lookback
