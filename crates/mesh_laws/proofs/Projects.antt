@@ -1,13 +1,13 @@
 -- The models of a proper project are well formed with their parents' closures.
-use Rattle.std.proofs.Common.{◌≡◌, ℕ, zero, suc, ◌+◌, ◌<◌, ◌≤◌, max, nat_lt, nat_eq, nat_le, Bool, true, false, ◌⊎◌, inl, inr, List, [], ◌∷◌, ◌++◌, map, length, refl, ap, sym, ◌∙◌, subst, append_assoc, arith, IsTrue}
-use Rattle.std.specs.List.{All, fold, slice_get}
-use Rattle.std.specs.Option.{is_some, option_map}
+use Rattle.std.proofs.Common.{◌≡◌, ℕ, zero, suc, ◌+◌, ◌<◌, ◌≤◌, max, nat_lt, nat_eq, nat_le, ◌&&◌, Bool, true, false, ◌⊎◌, inl, inr, List, [], ◌∷◌, ◌++◌, map, length, refl, ap, sym, ◌∙◌, subst, append_assoc, arith, IsTrue}
+use Rattle.std.specs.List.{All, flat_map, fold, list_all, slice_get}
+use Rattle.std.specs.Option.{is_some, option_map, option_to_list}
 use Rattle.std.specs.Ordering.{is_lt, nat_cmp, ordering_then}
 use Rattle.std.specs.Cmp.{nat_cmp_is}
 use Rattle.std.specs.declared.cmp.Ordering.TheVariants.{Greater}
 use Rattle.std.specs.declared.option.Option.{Option}
 use Rattle.std.specs.declared.option.Option.TheVariants.{None, Some}
-use Rattle.std.proofs.lemmas.Bool.{and_parts, eqb-true, ltb-true, ltb-false}
+use Rattle.std.proofs.lemmas.Bool.{and_parts, eqb-true, lt-ltb, ltb-true, ltb-false}
 use Rattle.std.proofs.lemmas.List.{map-append}
 use Rattle.std.proofs.lemmas.List.Elements.{All-nil, All-cons, All-append, All-head, All-push, All-weaker}
 use Rattle.std.proofs.lemmas.Option.{slice_get_within, get_or_from_slice_get}
@@ -23,19 +23,25 @@ use Rattle.mesh_rules.specs.declared.relations.Parent.{Parent}
 use Rattle.mesh_rules.specs.Relations.{parent_relation, rank_over}
 use Rattle.mesh_rules.specs.Proper.{are_fit, are_places, as_parent, have_distinct_names, is_body_of, is_fit, is_plain_schema, is_proper, is_well_formed, node_cmp, node_itself, parent_at, stands_on}
 use Rattle.mesh_rules.specs.Proper as proper
-use Rattle.mesh_scratch.specs.Closures.{Closure, Model, ancestors, closures, each_of, own_of, parents_at, parents_of, standing, with_model, with_parent}
+use Rattle.mesh_scratch.specs.Closures.{Closure, Closures, Model, ancestors, closures, each_of, own_of, parents_at, parents_of, standing, with_model, with_parent}
+use Rattle.mesh_scratch.proofs.Listed.{at_their_places}
 use Rattle.mesh_scratch.specs.Horizons.{Clock, HasCrons}
 use Rattle.mesh_scratch.specs.Scratch.{inputs_of}
 use Rattle.mesh_laws.specs.Found.{model_relation, DefnFindsAll}
 use Rattle.mesh_laws.proofs.Finding.{closures_find, get_map, one_passes}
 use Rattle.mesh_laws.proofs.Has.{Has, Has_flat, Has_right}
 
+-- what holds of each element of a list
+of_each : {X : Type 0} (P : X → Type 0) (xs : List X) → ((x : X) → Has x xs → P x) → All P xs
+of_each P [] f = All-nil P
+of_each P (x ∷ xs) f = All-cons P x xs (f x (inl refl)) (of_each P xs (λ y h. f y (inr h)))
+
 -- ranks
 from_itself : (rank : ℕ) (ps : List Parent) → rank ≤ rank_over rank ps
 from_itself rank [] = omega arith
 from_itself rank (p ∷ ps) = let more = from_itself (max rank (p.rank + 1)) ps in omega (arith, more)
 
-above_each : (rank : ℕ) (ps : List Parent) (p : Parent) → Has p ps → p.rank < rank_over rank ps
+pub above_each : (rank : ℕ) (ps : List Parent) (p : Parent) → Has p ps → p.rank < rank_over rank ps
 above_each rank [] p h = absurd h
 above_each rank (q ∷ ps) p (inl e) = let more = from_itself (max rank (q.rank + 1)) ps in let same : q.rank ≡ p.rank = ap (λ (x : Parent). x.rank) e in omega (arith, more, same)
 above_each rank (q ∷ ps) p (inr h) = above_each (max rank (q.rank + 1)) ps p h
@@ -103,6 +109,10 @@ as_relations nodes done (i ∷ is) h = go (h i (inl refl)) (as_relations nodes d
         ∙ (λ j. record { name = (o j).name; columns = columns_of (o j) } ∷ rest j)
         ∙ ap (λ x. map parent_relation (parent_at x ++ proper.parents_at nodes is)) (sym e)
 
+-- a node of a lower rank stands at this place among these
+abbrev pub IsBefore : List Node → Node → ℕ → Type 0
+IsBefore before n i = (m : Node) × (slice_get before i ≡ Some m) × (m.rank < n.rank)
+
 module _ (nodes : List Node) (up : ascends node_cmp node_itself nodes ≡ true) (fit : are_fit nodes nodes ≡ true) where
   abbrev node_own : Node → Own
   node_own n = n.own
@@ -118,7 +128,7 @@ module _ (nodes : List Node) (up : ascends node_cmp node_itself nodes ≡ true) 
       go None e h = absurd (cc)
       go (Some c) e h = (c, e, (let same : own_of c ≡ own = cc in same))
 
-  module _ (done : List Closure) (before after : List Node) (n : Node) (all : before ++ n ∷ after ≡ nodes) (made : map own_of done ≡ map node_own before) where
+  module _ (before after : List Node) (n : Node) (all : before ++ n ∷ after ≡ nodes) where
     its_rules : is_fit nodes n ≡ true
     its_rules = one_passes (is_fit nodes) nodes n fit (subst (Has n) all (Has_right n before (n ∷ after) (inl refl)))
 
@@ -152,15 +162,22 @@ module _ (nodes : List Node) (up : ascends node_cmp node_itself nodes ≡ true) 
             let low = lower i m h e in
             absurd (omega (arith, high, low))
 
-    is_made : (i : ℕ) → Has i n.parents → IsMade nodes done i
-    is_made i h =
-        let (m, e) = there (slice_get nodes i) (one_passes (λ i. is_some (slice_get nodes i)) n.parents i places h) in
-        let own : option_map own_of (slice_get done i) ≡ Some m.own =
-        sym (get_map own_of done i) ∙ ap (λ l. slice_get l i) made ∙ get_map node_own before i ∙ ap (option_map node_own) (earlier i m h e) in
-        (m, e, closure_there done i m.own own)
+    node_at : (i : ℕ) → Has i n.parents → (m : Node) × (slice_get nodes i ≡ Some m)
+    node_at i h = there (slice_get nodes i) (one_passes (λ i. is_some (slice_get nodes i)) n.parents i places h)
 
-    new_is_well : IsWell (Model n.own (parents_at done n.parents))
-    new_is_well = (proper.parents_at nodes n.parents, well, as_relations nodes done n.parents is_made)
+    stands_before : (i : ℕ) → Has i n.parents → IsBefore before n i
+    stands_before i h = let (m, e) = node_at i h in (m, earlier i m h e, lower i m h e)
+
+    module _ (done : List Closure) (made : map own_of done ≡ map node_own before) where
+      is_made : (i : ℕ) → Has i n.parents → IsMade nodes done i
+      is_made i h =
+          let (m, e) = node_at i h in
+          let own : option_map own_of (slice_get done i) ≡ Some m.own =
+          sym (get_map own_of done i) ∙ ap (λ l. slice_get l i) made ∙ get_map node_own before i ∙ ap (option_map node_own) (earlier i m h e) in
+          (m, e, closure_there done i m.own own)
+
+      new_is_well : IsWell (Model n.own (parents_at done n.parents))
+      new_is_well = (proper.parents_at nodes n.parents, well, as_relations nodes done n.parents is_made)
 
   good_after : (done : List Closure) (before rest : List Node) → before ++ rest ≡ nodes → map own_of done ≡ map node_own before → All IsGood done → All IsGood (fold with_model done rest)
   good_after done before [] all made good = good
@@ -168,7 +185,34 @@ module _ (nodes : List Node) (up : ascends node_cmp node_itself nodes ≡ true) 
       let new : Closure = Model n.own (parents_at done n.parents) in
       good_after (done ++ new ∷ []) (before ++ n ∷ []) after (append_assoc before (n ∷ []) after ∙ all)
       (map-append own_of done (new ∷ []) ∙ ap (λ l. l ++ n.own ∷ []) made ∙ sym (map-append node_own before (n ∷ [])))
-      (All-push IsGood done new good (All-cons IsWell new (ancestors (parents_at done n.parents)) (new_is_well done before after n all made) (good_parents done good n.parents)))
+      (All-push IsGood done new good (All-cons IsWell new (ancestors (parents_at done n.parents)) (new_is_well before after n all done made) (good_parents done good n.parents)))
+
+-- the parents of each node stand before it
+module _ (nodes : List Node) (h : is_proper nodes ≡ true) (before after : List Node) (n : Node) (all : before ++ n ∷ after ≡ nodes) where
+  before_it : (i : ℕ) → Has i n.parents → IsBefore before n i
+  before_it =
+      let a = and_parts (nat_le (length nodes) 4096) _ h in
+      let b = and_parts (ascends node_cmp node_itself nodes) _ a.1 in
+      let c = and_parts (have_distinct_names nodes) (are_fit nodes nodes) b.1 in
+      stands_before nodes b.0 c.1 before after n all
+
+  pub stand_before : All (IsBefore before n) n.parents
+  stand_before = of_each (IsBefore before n) n.parents before_it
+
+  are_before : list_all (λ i. nat_lt i (length before)) n.parents ≡ true
+  are_before = all_pass n.parents before_it
+    where
+      all_pass : (is : List ℕ) → ((i : ℕ) → Has i is → IsBefore before n i) → list_all (λ i. nat_lt i (length before)) is ≡ true
+      all_pass [] f = refl
+      all_pass (i ∷ is) f =
+          let (m, e, l) = f i (inl refl) in
+          let first : nat_lt i (length before) ≡ true = lt-ltb i (length before) (slice_get_within before i m e) in
+          (λ k. first k && all_pass is (λ j g. f j (inr g)) k)
+
+  pub closures_there : (parents : Closures) × (slice_get (closures nodes) (length before) ≡ Some (Model n.own parents)) × (each_of parents ≡ flat_map (λ i. option_to_list (slice_get (closures nodes) i)) n.parents)
+  closures_there =
+      subst (λ ns. (parents : Closures) × (slice_get (closures ns) (length before) ≡ Some (Model n.own parents)) × (each_of parents ≡ flat_map (λ i. option_to_list (slice_get (closures ns) i)) n.parents))
+      all (at_their_places before after n are_before)
 
 all_good : (nodes : List Node) → is_proper nodes ≡ true → All IsGood (closures nodes)
 all_good nodes h =

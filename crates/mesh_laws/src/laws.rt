@@ -1,6 +1,7 @@
 // What a query's rows hang on, and what not.
-ghost use Rattle.std.specs.Prelude.{◌≡◌, true, ◌↔◌, ℕ, List, map};
-ghost use Rattle.std.specs.List.{All, Contains};
+ghost use Rattle.std.specs.Prelude.{◌≡◌, true, ◌↔◌, ◌<◌, ◌++◌, ℕ, List, ◌∷◌, map, length, Some};
+ghost use Rattle.std.specs.List.{All, Contains, flat_map, slice_get};
+ghost use Rattle.std.specs.Option.{option_to_list};
 ghost use Rattle.mesh_list.specs.Keyed.{ascends};
 ghost use Rattle.mesh_values.specs.Bag.{IsSameBag};
 ghost use Rattle.mesh_values.specs.declared.values.Name.{Name};
@@ -89,4 +90,14 @@ pub fn proper_projects_find_all()
     ensures crons { (nodes : List Node) → is_proper nodes ≡ true → All HasCrons (closures nodes) }
     ensures found { (nodes : List Node) → is_proper nodes ≡ true → (sources : List Input) (clock : Clock) (u : Bounds) →
         All (λ c. DefnFindsAll (own_of c).defn (inputs_of sources clock c) u) (closures nodes) }
+{}
+
+/// In a proper project the parents of each model stand at places before it, and have lower ranks. So its closure has theirs
+/// as parents, in the order of their places.
+pub fn parents_stand_before_their_models()
+    ensures earlier { (nodes : List Node) → is_proper nodes ≡ true → (before after : List Node) (n : Node) → before ++ n ∷ after ≡ nodes →
+        All (λ i. (m : Node) × (slice_get before i ≡ Some m) × (m.rank < n.rank)) n.parents }
+    ensures closures { (nodes : List Node) → is_proper nodes ≡ true → (before after : List Node) (n : Node) → before ++ n ∷ after ≡ nodes →
+        (parents : Closures) × (slice_get (closures nodes) (length before) ≡ Some (Model n.own parents))
+        × (each_of parents ≡ flat_map (λ i. option_to_list (slice_get (closures nodes) i)) n.parents) }
 {}

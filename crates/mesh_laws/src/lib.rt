@@ -6,7 +6,7 @@
 mod laws;
 
 pub use laws::{
-    definitions_read_what_they_name, models_respect_bags, proper_projects_find_all,
-    rows_hang_on_read_columns, rows_respect_bags, rows_respect_bags_of_read_columns,
-    well_formed_definitions_find_all,
+    definitions_read_what_they_name, models_respect_bags, parents_stand_before_their_models,
+    proper_projects_find_all, rows_hang_on_read_columns, rows_respect_bags,
+    rows_respect_bags_of_read_columns, well_formed_definitions_find_all,
 };
