@@ -20,6 +20,7 @@ impl Book {
         ensures { result ≡ empty_book }
     {
         Book {
+            version: 2,
             moment: 0,
             snapshots: Register::new(alloc),
             versions: Register::new(alloc),

@@ -40,7 +40,7 @@ returns-in-Some-clause-ok c =
 pub returns-in-Some-clause-err : goal.returns-in-Some-clause-err
 returns-in-Some-clause-err c =
     on_err_weaker c.add-recorded.result
-    (λ e. ap (λ (l : List Version). record { moment = c.args.self.now.moment; snapshots = c.args.self.now.snapshots; versions = l; environments = c.args.self.now.environments })
+    (λ e. ap (λ (l : List Version). record { version = c.args.self.now.version; moment = c.args.self.now.moment; snapshots = c.args.self.now.snapshots; versions = l; environments = c.args.self.now.environments })
     (version_back c.args.self.now.versions c.blank_at.new.versions c.exchange.new.self (new_version c.args.object.now) c.in-Some.version (sym c.in_ok-had.ensures.value ∙ c.in-Some.is) c.in_ok-had.ensures.rest
     (c.exchange.ensures.rest ∙ ap (λ (r : List Bounds). exchanged name_cmp version_object (record { object = c.in-Some.version.object; made = c.in-Some.version.made; ranges = r; marks = c.in-Some.version.marks }) c.blank_at.new.versions) e)))
     c.add-recorded.ensures.err
