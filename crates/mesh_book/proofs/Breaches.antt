@@ -5,7 +5,7 @@ use Rattle.std.specs.declared.option.Option.{Option}
 use Rattle.std.specs.Option.{is_some}
 use Rattle.mesh_values.specs.Names.{name_cmp}
 use Rattle.mesh_book.specs.Changes.{version_object}
-use Rattle.mesh_book.specs.WellFormed.{all_fit, book_fault, breach_from, breach_or, envs_breach, is_above, is_env_fit, is_moment, is_snapshot_fit, is_well_formed_book, moment_breach, snapshots_breach, versions_breach}
+use Rattle.mesh_book.specs.WellFormed.{all_fit, book_fault, breach_from, breach_or, envs_breach, is_above, is_env_fit, is_moment, is_snapshot_fit, is_version, is_well_formed_book, front_breach, snapshots_breach, versions_breach}
 use Rattle.mesh_book.specs.declared.book.Book.{Book}
 use Rattle.mesh_book.specs.declared.fault.BookFault.{BookFault}
 
@@ -20,8 +20,8 @@ each_fits rule before place (x ∷ xs) = at (rule before x) (each_fits rule (Som
     at true more = more
     at false more = refl
 
-in_range : (t : ℤ) → none (moment_breach t) ≡ is_moment t
-in_range t = at (is_moment t)
+in_range : (t : ℤ) (version : ℕ) → none (front_breach t version) ≡ (is_moment t && is_version version)
+in_range t version = at (is_moment t && is_version version)
   where
     at : (b : Bool) → none {A = ℕ} (cond b None (Some 0)) ≡ b
     at true = refl
@@ -43,13 +43,13 @@ all_parts : (b : Book) → none (book_fault b) ≡ is_well_formed_book b
 all_parts b =
     let fourth = breach_or 4 (envs_breach b.snapshots b.environments) None in
     let third = breach_or 3 (versions_breach b.versions) fourth in
-    let second = breach_or 2 (snapshots_breach b.snapshots) third in
+    let second = breach_or 2 (snapshots_breach b.version b.snapshots) third in
     let last : none fourth ≡ all_fit (is_env_fit b.snapshots) None b.environments =
     either 4 (envs_breach b.snapshots b.environments) None ∙ and_true (none (envs_breach b.snapshots b.environments)) ∙ each_fits (is_env_fit b.snapshots) None 0 b.environments in
     let middle : none third ≡ (all_fit (is_above name_cmp version_object) None b.versions && all_fit (is_env_fit b.snapshots) None b.environments) =
     either 3 (versions_breach b.versions) fourth ∙ (λ i. each_fits (is_above name_cmp version_object) None 0 b.versions i && last i) in
-    either 1 (moment_breach b.moment) second
-    ∙ (λ i. in_range b.moment i && (either 2 (snapshots_breach b.snapshots) third ∙ (λ j. each_fits (is_snapshot_fit b.snapshots) None 0 b.snapshots j && middle j)) i)
+    either 1 (front_breach b.moment b.version) second
+    ∙ (λ i. in_range b.moment b.version i && (either 2 (snapshots_breach b.version b.snapshots) third ∙ (λ j. each_fits (is_snapshot_fit b.version b.snapshots) None 0 b.snapshots j && middle j)) i)
 
 pub without_fault : (b : Book) (o : Option BookFault) → o ≡ book_fault b → IsNone o ↔ IsTrue (is_well_formed_book b)
 without_fault b o is =

@@ -7,21 +7,22 @@ use Rattle.mesh_base.specs.declared.definitions.Own.{Own}
 use Rattle.mesh_base.specs.declared.snapshots.Ref.{Ref}
 use Rattle.mesh_base.specs.declared.snapshots.Snapshot.{Snapshot}
 use Rattle.mesh_values.specs.Names.{name_cmp}
-use Rattle.mesh_rules.specs.Proper.{decl_name, defn_names, is_declared, are_its_parents, are_named as are_named_relations, are_known as are_known_relations}
+use Rattle.mesh_rules.specs.Relations.{parent_name, is_declared, is_parent as is_parent_model}
+use Rattle.mesh_rules.specs.Proper.{defn_names, are_its_parents, are_named as are_named_relations, are_known as are_known_relations}
 use Rattle.mesh_base.specs.Keys.{ref_name}
 use Rattle.mesh_book.specs.Named.{is_parent, are_known, is_named, are_named, are_parents}
 use Rattle.mesh_book.specs.WellFormed.{parents_of}
 
 module _ (all : List Snapshot) where
-  declared : (refs : List Ref) (name : Name) → is_parent refs name ≡ is_declared (parents_of all refs) name
+  declared : (refs : List Ref) (name : Name) → is_parent refs name ≡ is_parent_model (parents_of all refs) name
   declared [] name = refl
   declared (r ∷ rs) name = ap (λ (b : Bool). is_eq (name_cmp r.name name) || b) (declared rs name)
 
-  below : (name : Name) (refs : List Ref) → below_first name_cmp ref_name name refs ≡ below_first name_cmp decl_name name (parents_of all refs)
+  below : (name : Name) (refs : List Ref) → below_first name_cmp ref_name name refs ≡ below_first name_cmp parent_name name (parents_of all refs)
   below name [] = refl
   below name (r ∷ rs) = refl
 
-  ascending : (refs : List Ref) → ascends name_cmp ref_name refs ≡ ascends name_cmp decl_name (parents_of all refs)
+  ascending : (refs : List Ref) → ascends name_cmp ref_name refs ≡ ascends name_cmp parent_name (parents_of all refs)
   ascending [] = refl
   ascending (r ∷ rs) = λ i. below r.name rs i && ascending rs i
 

@@ -7,7 +7,8 @@ use Rattle.mesh_values.specs.declared.values.Name.{Name}
 use Rattle.mesh_base.specs.declared.definitions.Own.{Own}
 use Rattle.mesh_base.specs.declared.snapshots.Ref.{Ref}
 use Rattle.mesh_values.specs.Names.{name_cmp}
-use Rattle.mesh_rules.specs.Proper.{is_among, is_declared, defn_names}
+use Rattle.mesh_rules.specs.Relations.{is_declared}
+use Rattle.mesh_rules.specs.Proper.{is_among, defn_names}
 use Rattle.mesh_base.specs.Keys.{ref_name}
 
 -- a name is one of these references'

@@ -1,5 +1,5 @@
 -- When a book is well formed, and where it first isn't.
-use Rattle.std.specs.Prelude.{ℕ, ◌+◌, max, ℤ, pos, Bool, true, ◌&&◌, nat_eq, nat_le, List, [], ◌∷◌, ◌++◌, length, map, Some, None, if◌then◌else◌}
+use Rattle.std.specs.Prelude.{ℕ, ◌+◌, ℤ, pos, Bool, true, ◌&&◌, ◌||◌, not, nat_eq, nat_le, List, [], ◌∷◌, length, map, Some, None, if◌then◌else◌}
 use Rattle.std.specs.declared.option.Option.{Option}
 use Rattle.std.specs.declared.cmp.Ordering.{Ordering}
 use Rattle.std.specs.List.{list_all}
@@ -7,22 +7,34 @@ use Rattle.std.specs.Option.{is_some}
 use Rattle.std.specs.Int.Signed.{le_z}
 use Rattle.std.specs.Ordering.{is_eq, is_lt}
 use Rattle.mesh_list.specs.Keyed.{found, ascends}
+use Rattle.mesh_values.specs.declared.kinds.Kind.{Kind}
 use Rattle.mesh_values.specs.declared.values.Column.{Column}
 use Rattle.mesh_base.specs.declared.queries.FromItem.{FromItem}
 use Rattle.mesh_base.specs.declared.queries.Select.{Select}
-use Rattle.mesh_base.specs.declared.definitions.Decl.{Decl}
 use Rattle.mesh_base.specs.declared.snapshots.Ref.{Ref}
 use Rattle.mesh_base.specs.declared.snapshots.Snapshot.{Snapshot}
 use Rattle.mesh_base.specs.declared.snapshots.Env.{Env}
+use Rattle.mesh_values.specs.Kinds.{lookback_of}
 use Rattle.mesh_values.specs.Names.{text_cmp, name_cmp, has_two_underscores}
 use Rattle.mesh_base.specs.Outputs.{columns_of}
 use Rattle.mesh_rules.specs.Seen.{tables_of}
-use Rattle.mesh_rules.specs.Proper.{is_well_formed}
+use Rattle.mesh_rules.specs.declared.relations.Relation.{Relation}
+use Rattle.mesh_rules.specs.declared.relations.Parent.{Parent}
+use Rattle.mesh_rules.specs.Relations.{read_relations}
+use Rattle.mesh_rules.specs.Proper.{stands_on}
 use Rattle.mesh_base.specs.Keys.{ref_cmp, ref_itself, ref_name, snapshot_ref, env_name}
 use Rattle.mesh_book.specs.Changes.{version_object}
 use Rattle.mesh_book.specs.declared.versions.Version.{Version}
 use Rattle.mesh_book.specs.declared.book.Book.{Book}
 use Rattle.mesh_book.specs.declared.fault.BookFault.{BookFault}
+
+-- the numbers that the version of a book's fingerprints may have
+abbrev pub is_version : ℕ → Bool
+is_version version = nat_eq version 1 || nat_eq version 2
+
+-- in a book of version 1, whose fingerprints know of no lookback, nothing looks back
+abbrev pub suits : ℕ → Kind → Bool
+suits version kind = not (nat_eq version 1) || nat_eq (lookback_of kind) 0
 
 -- a moment from 1970-01-01T00:00:00 to 9999-12-31T23:59:59
 abbrev pub is_moment : ℤ → Bool
@@ -49,35 +61,30 @@ abbrev pub columns_at : Option Snapshot → List Column
 columns_at None = []
 columns_at (Some s) = columns_of s.own
 
--- a parent as a relation that a definition reads
-abbrev pub parent : List Snapshot → Ref → Decl
-parent all r = record { name = r.name; columns = columns_at (snapshot_at all r); time = None }
+-- the rank of a snapshot
+abbrev pub rank_at : Option Snapshot → ℕ
+rank_at None = 0
+rank_at (Some s) = s.rank
 
-abbrev pub parents_of : List Snapshot → List Ref → List Decl
+-- the snapshot that a reference names, as another one stands on it
+abbrev pub parent : List Snapshot → Ref → Parent
+parent all r = record { rank = rank_at (snapshot_at all r); name = r.name; columns = columns_at (snapshot_at all r) }
+
+abbrev pub parents_of : List Snapshot → List Ref → List Parent
 parents_of all refs = map (parent all) refs
 
--- a rank that is also above a parent's
-abbrev pub above : ℕ → Option Snapshot → ℕ
-above rank None = rank
-above rank (Some s) = max rank (s.rank + 1)
-
--- the least number from this one on that is above the rank of each parent
-abbrev pub rank_over : List Snapshot → ℕ → List Ref → ℕ
-rank_over all rank [] = rank
-rank_over all rank (r ∷ rs) = rank_over all (above rank (snapshot_at all r)) rs
-
 -- The snapshot stands above the one before it. Two underscores adjoin in its object's schema. Its definition has its
--- name. Its parents are snapshots of the book, and its rank is 0 without parents, else one more than their greatest, and
--- at most 4,095. Its definition with its parents is well formed; so its name's schema has no two underscores that adjoin.
-abbrev pub is_snapshot_fit : List Snapshot → Option Snapshot → Snapshot → Bool
-is_snapshot_fit all before s =
+-- name, and suits the version. Its parents are snapshots of the book, it stands on them, and its rank is at most 4,095; so
+-- its name's schema has no two underscores that adjoin.
+abbrev pub is_snapshot_fit : ℕ → List Snapshot → Option Snapshot → Snapshot → Bool
+is_snapshot_fit version all before s =
     is_above ref_cmp snapshot_ref before s
     && (has_two_underscores s.object.schema
     && (is_eq (name_cmp s.own.name s.name)
+    && (suits version s.own.kind
     && (are_kept all s.parents
-    && (nat_eq s.rank (rank_over all 0 s.parents)
     && (nat_le s.rank 4095
-    && is_well_formed (parents_of all s.parents) s.own)))))
+    && stands_on (parents_of all s.parents) s.rank s.own)))))
 
 -- a list has this reference
 abbrev pub is_listed : List Ref → Ref → Bool
@@ -112,11 +119,12 @@ breach_from rule before place (x ∷ xs) = if rule before x then breach_from rul
 abbrev pub first_breach : {A : Type 0} → (Option A → A → Bool) → List A → Option ℕ
 first_breach rule items = breach_from rule None 0 items
 
-abbrev pub moment_breach : ℤ → Option ℕ
-moment_breach t = if is_moment t then None else Some 0
+-- the moment and the version, which have one place
+abbrev pub front_breach : ℤ → ℕ → Option ℕ
+front_breach t version = if is_moment t && is_version version then None else Some 0
 
-abbrev pub snapshots_breach : List Snapshot → Option ℕ
-snapshots_breach all = first_breach (is_snapshot_fit all) all
+abbrev pub snapshots_breach : ℕ → List Snapshot → Option ℕ
+snapshots_breach version all = first_breach (is_snapshot_fit version all) all
 
 abbrev pub versions_breach : List Version → Option ℕ
 versions_breach versions = first_breach (is_above name_cmp version_object) versions
@@ -129,11 +137,11 @@ abbrev pub breach_or : ℕ → Option ℕ → Option BookFault → Option BookFa
 breach_or part None later = later
 breach_or part (Some place) later = Some (record { part = part; place = place })
 
--- the first breach: of the moment, of the snapshots, of the versions, of the environments
+-- the first breach: of the moment and the version, of the snapshots, of the versions, of the environments
 abbrev pub book_fault : Book → Option BookFault
 book_fault b =
-    breach_or 1 (moment_breach b.moment)
-    (breach_or 2 (snapshots_breach b.snapshots)
+    breach_or 1 (front_breach b.moment b.version)
+    (breach_or 2 (snapshots_breach b.version b.snapshots)
     (breach_or 3 (versions_breach b.versions)
     (breach_or 4 (envs_breach b.snapshots b.environments) None)))
 
@@ -142,17 +150,17 @@ abbrev pub all_fit : {A : Type 0} → (Option A → A → Bool) → Option A →
 all_fit rule before [] = true
 all_fit rule before (x ∷ xs) = rule before x && all_fit rule (Some x) xs
 
--- the moment is in range, and each snapshot, version and environment keeps its rule
+-- the moment and the version are in range, and each snapshot, version and environment keeps its rule
 abbrev pub is_well_formed_book : Book → Bool
 is_well_formed_book b =
-    is_moment b.moment
-    && (all_fit (is_snapshot_fit b.snapshots) None b.snapshots
+    (is_moment b.moment && is_version b.version)
+    && (all_fit (is_snapshot_fit b.version b.snapshots) None b.snapshots
     && (all_fit (is_above name_cmp version_object) None b.versions
     && all_fit (is_env_fit b.snapshots) None b.environments))
 
 -- what a snapshot's definition may read: the sources that it declares, and the snapshot's parents
-abbrev pub relations_of : List Snapshot → Snapshot → List Decl
-relations_of all s = s.own.sources ++ parents_of all s.parents
+abbrev pub relations_of : List Snapshot → Snapshot → List Relation
+relations_of all s = read_relations s.own.sources (parents_of all s.parents)
 
 -- the columns of each FROM item of one of its SELECTs
 unfoldable pub tables_in : List Snapshot → Snapshot → List (List Select) → List FromItem → List (List Column)

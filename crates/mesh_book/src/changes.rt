@@ -6,7 +6,7 @@ ghost use Rattle.mesh_values.specs.Names.{name_cmp};
 ghost use Rattle.mesh_base.specs.Keys.{ref_cmp, ref_itself, snapshot_ref};
 ghost use Rattle.mesh_book.specs.Changes.{delete_env, delete_snapshot, empty_book, expire, finalize, forget_version, joined, make_table, make_view, new_version, previous_of, put, put_snapshot, raise_moment, record_marks, record_range, set_pending, version_object, with_refs, with_version};
 
-use crate::book::Book;
+use crate::book::{BOOK_VERSION, Book};
 use crate::versions::{Version, Versions};
 use mesh_base::{Env, Marks, Ref, Refs, Snapshot};
 use mesh_list::{Duplicate, Keyed, Memory, Register, Seq, both};
@@ -20,7 +20,7 @@ impl Book {
         ensures { result ≡ empty_book }
     {
         Book {
-            version: 2,
+            version: BOOK_VERSION,
             moment: 0,
             snapshots: Register::new(alloc),
             versions: Register::new(alloc),

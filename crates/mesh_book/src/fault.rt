@@ -1,14 +1,14 @@
 // Where a book first breaks the rules of a well-formed one.
 ghost use Rattle.std.specs.Prelude.{◌≡◌, ◌↔◌, IsNone, IsTrue};
-ghost use Rattle.mesh_book.specs.WellFormed.{book_fault, envs_breach, is_well_formed_book, moment_breach, snapshots_breach, versions_breach};
+ghost use Rattle.mesh_book.specs.WellFormed.{book_fault, envs_breach, is_well_formed_book, front_breach, snapshots_breach, versions_breach};
 
-use crate::book::Book;
+use crate::book::{BOOK_VERSION, Book, OLD_VERSION};
 use crate::fits::{is_above, is_env_fit, is_snapshot_fit};
 use crate::versions::{Version, Versions};
 use mesh_base::{Envs, Snapshots};
 use mesh_values::{FIRST_MOMENT, LAST_MOMENT};
 
-/// The moment, in `BookFault`.
+/// The moment and the version, in `BookFault`.
 pub const MOMENT_PART: u8 = 1;
 
 /// The snapshots, in `BookFault`.
@@ -27,22 +27,23 @@ pub struct BookFault {
     pub place: u64,
 }
 
-fn moment_breach(moment: i64) -> Option<u64>
-    ensures { result ≡ moment_breach moment }
+fn front_breach(moment: i64, version: u32) -> Option<u64>
+    ensures { result ≡ front_breach moment version }
 {
-    if moment >= FIRST_MOMENT && moment <= LAST_MOMENT {
+    let is_moment = moment >= FIRST_MOMENT && moment <= LAST_MOMENT;
+    if is_moment && (version == OLD_VERSION || version == BOOK_VERSION) {
         None
     } else {
         Some(0)
     }
 }
 
-fn snapshots_breach(all: &Snapshots) -> Option<u64>
-    ensures { result ≡ snapshots_breach all.now }
+fn snapshots_breach(version: u32, all: &Snapshots) -> Option<u64>
+    ensures { result ≡ snapshots_breach version all.now }
 {
     let mut before = None;
     for (i, snapshot) in all.as_slice().iter().enumerate() {
-        if !is_snapshot_fit(all, before, snapshot) {
+        if !is_snapshot_fit(version, all, before, snapshot) {
             return Some(i as u64);
         }
         before = Some(snapshot);
@@ -79,13 +80,13 @@ fn envs_breach(all: &Snapshots, envs: &Envs) -> Option<u64>
 fn first_fault(b: &Book) -> Option<BookFault>
     ensures { result ≡ book_fault b.now }
 {
-    if let Some(place) = moment_breach(b.moment) {
+    if let Some(place) = front_breach(b.moment, b.version) {
         return Some(BookFault {
             part: MOMENT_PART,
             place,
         });
     }
-    if let Some(place) = snapshots_breach(&b.snapshots) {
+    if let Some(place) = snapshots_breach(b.version, &b.snapshots) {
         return Some(BookFault {
             part: SNAPSHOTS_PART,
             place,

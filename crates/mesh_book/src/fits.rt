@@ -4,9 +4,10 @@ ghost use Rattle.std.specs.List.{list_all};
 ghost use Rattle.std.specs.Option.{option_copied};
 ghost use Rattle.mesh_list.specs.Keyed.{ascends};
 ghost use Rattle.mesh_values.specs.Names.{name_cmp};
-ghost use Rattle.mesh_rules.specs.Proper.{are_its_parents, is_body_of, is_plain_schema, is_well_formed};
+ghost use Rattle.mesh_rules.specs.Relations.{rank_over};
+ghost use Rattle.mesh_rules.specs.Proper.{are_its_parents, is_body_of, is_plain_schema, is_well_formed, stands_on};
 ghost use Rattle.mesh_base.specs.Keys.{ref_name};
-ghost use Rattle.mesh_book.specs.WellFormed.{above, are_kept, has_parents, have_parents, is_above, is_env_fit, is_listed, is_snapshot_fit, parents_of, rank_over, snapshot_at};
+ghost use Rattle.mesh_book.specs.WellFormed.{are_kept, has_parents, have_parents, is_above, is_env_fit, is_listed, is_snapshot_fit, parents_of, rank_at, snapshot_at, suits};
 
 use crate::named::{are_parents, ascend};
 use crate::outputs::{are_distinct, has_its_time};
@@ -39,23 +40,32 @@ fn are_kept(all: &Snapshots, refs: &[Ref]) -> bool
     each
 }
 
-fn above(all: &Snapshots, rank: u64, parent: &Ref) -> u64
-    ensures { result ≡ above rank (snapshot_at all.now parent.now) }
+fn rank_at(all: &Snapshots, parent: &Ref) -> u32
+    ensures { result ≡ rank_at (snapshot_at all.now parent.now) }
 {
     match all.find(parent) {
-        None => rank,
-        Some(snapshot) => rank.max(snapshot.rank as u64 + 1),
+        None => 0,
+        Some(snapshot) => snapshot.rank,
     }
 }
 
 fn rank_over(all: &Snapshots, parents: &[Ref]) -> u64
-    ensures { result ≡ rank_over all.now 0 parents.now }
+    ensures { result ≡ rank_over 0 (parents_of all.now parents.now) }
 {
-    let mut rank = 0;
+    let mut rank: u64 = 0;
     for parent in parents {
-        rank = above(all, rank, parent);
+        rank = rank.max(rank_at(all, parent) as u64 + 1);
     }
     rank
+}
+
+fn suits(version: u32, kind: &Kind) -> bool
+    ensures { result ≡ suits version kind.now }
+{
+    match kind {
+        Kind::Incremental { lookback, .. } => version != 1 || *lookback == 0,
+        Kind::Full | Kind::View | Kind::Seed => true,
+    }
 }
 
 fn is_plain_schema(schema: &[u8]) -> bool
@@ -89,6 +99,7 @@ fn are_its_parents(all: &Snapshots, s: &Snapshot) -> bool
 fn is_well_formed(all: &Snapshots, s: &Snapshot) -> bool
     ensures { result ≡ is_well_formed (parents_of all.now s.now.parents) s.now.own }
 {
+    s.own.cron.rule();
     is_plain_schema(s.own.name.schema.as_slice())
         && is_body_of(&s.own.kind, &s.own.defn)
         && has_its_time(&s.own)
@@ -97,17 +108,28 @@ fn is_well_formed(all: &Snapshots, s: &Snapshot) -> bool
         && are_its_parents(all, s)
 }
 
-/// Whether a snapshot keeps its rule, after the one before it.
-pub fn is_snapshot_fit(all: &Snapshots, before: Option<&Snapshot>, s: &Snapshot) -> bool
-    ensures { result ≡ is_snapshot_fit all.now (option_copied before.entry) s.now }
+fn stands_on_its_parents(all: &Snapshots, s: &Snapshot) -> bool
+    ensures { result ≡ stands_on (parents_of all.now s.now.parents) s.now.rank s.now.own }
+{
+    s.rank as u64 == rank_over(all, s.parents.as_slice()) && is_well_formed(all, s)
+}
+
+/// Whether a snapshot keeps its rule in a book of this version, after the one before it.
+pub fn is_snapshot_fit(
+    version: u32,
+    all: &Snapshots,
+    before: Option<&Snapshot>,
+    s: &Snapshot,
+) -> bool
+    ensures { result ≡ is_snapshot_fit version all.now (option_copied before.entry) s.now }
 {
     is_above(before, s)
         && has_two_underscores(s.object.schema.as_slice())
         && s.own.name.compare(&s.name).is_eq()
+        && suits(version, &s.own.kind)
         && are_kept(all, s.parents.as_slice())
-        && s.rank as u64 == rank_over(all, s.parents.as_slice())
         && s.rank <= HIGHEST_RANK
-        && is_well_formed(all, s)
+        && stands_on_its_parents(all, s)
 }
 
 // The list ascends by name, so it is halved until the entry of that name is found.

@@ -13,7 +13,7 @@ mod outputs;
 mod seen;
 mod versions;
 
-pub use book::Book;
+pub use book::{BOOK_VERSION, Book, OLD_VERSION};
 pub use fault::{
     BookFault, ENVIRONMENTS_PART, MOMENT_PART, SNAPSHOTS_PART, VERSIONS_PART, book_fault,
 };

@@ -2,7 +2,8 @@
 ghost use Rattle.std.specs.Prelude.{◌≡◌};
 ghost use Rattle.mesh_list.specs.Keyed.{ascends};
 ghost use Rattle.mesh_values.specs.Names.{name_cmp};
-ghost use Rattle.mesh_rules.specs.Proper.{defn_names, from_names, is_among, is_declared, names_of_all, rel_names, selects_names};
+ghost use Rattle.mesh_rules.specs.Relations.{is_declared};
+ghost use Rattle.mesh_rules.specs.Proper.{defn_names, from_names, is_among, names_of_all, rel_names, selects_names};
 ghost use Rattle.mesh_base.specs.Keys.{ref_name};
 ghost use Rattle.mesh_book.specs.Named.{are_known, are_named, are_parents, is_known, is_parent};
 

@@ -6,14 +6,14 @@ ghost use Rattle.mesh_rules.specs.Proper.{has_its_time};
 
 use mesh_base::{Defn, Item, Own, Select};
 use mesh_rules::has_column;
-use mesh_values::{Column, Kind, Str};
+use mesh_values::{Column, Kind, Str, same_text};
 
 fn items_have(items: &[Item], name: &Str) -> bool
     ensures { result ≡ has_column (item_columns items.now) name.now }
 {
     let mut found = false;
     for item in items {
-        found = found || item.name.as_slice().cmp(&name.as_slice()).is_eq();
+        found = found || same_text(item.name.as_slice(), name.as_slice());
     }
     found
 }

@@ -5,7 +5,8 @@ ghost use Rattle.std.specs.List.{list_all};
 ghost use Rattle.std.specs.Option.{is_some, option_copied};
 ghost use Rattle.mesh_list.specs.Keyed.{found};
 ghost use Rattle.mesh_values.specs.Names.{name_cmp};
-ghost use Rattle.mesh_rules.specs.Seen.{are_ctes_seen, are_selects_seen, are_there, column_at, conditions_see, has_column, has_in, is_query_seen, is_select_seen, items_see, keys_see, rel_columns, relation_columns, sees, sees_some, sees_when, select_sees};
+ghost use Rattle.mesh_rules.specs.Seen.{are_ctes_seen, are_selects_seen, are_there, column_at, conditions_see, has_column, has_in, is_query_seen, is_select_seen, items_see, keys_see, rel_columns, sees, sees_some, sees_when, select_sees};
+ghost use Rattle.mesh_rules.specs.Relations.{relation_columns, source_relation};
 ghost use Rattle.mesh_rules.specs.Proper.{is_body_seen};
 ghost use Rattle.mesh_base.specs.Keys.{ref_name};
 ghost use Rattle.mesh_book.specs.WellFormed.{columns_at, relations_of, snapshot_at, tables_in};
@@ -27,7 +28,7 @@ fn snapshot_has(all: &Snapshots, r: &Ref, column: &Str) -> bool
 }
 
 fn source_columns<'a>(sources: &'a [Decl], name: &Name) -> Option<&'a Columns>
-    ensures { option_copied result ≡ relation_columns sources.now name.now }
+    ensures { option_copied result ≡ relation_columns (map source_relation sources.now) name.now }
 {
     for source in sources {
         if source.name.compare(name).is_eq() {

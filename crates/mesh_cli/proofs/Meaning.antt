@@ -23,7 +23,7 @@ use Rattle.mesh_house.specs.declared.world.World.{World}
 use Rattle.mesh_house.specs.declared.world.Change.TheVariants.{PointView}
 use Rattle.mesh_house.specs.World.{body, view, shown_at, shown, rows_of}
 use Rattle.mesh_house.specs.Step.{step, run}
-use Rattle.mesh_house.proofs.Laws.{body-filled, view-pointed}
+use Rattle.mesh_house.proofs.After.{body-filled, view-pointed}
 use Rattle.mesh_house.proofs.Runs.{run-append}
 use Rattle.mesh_cli.specs.Apply.{table_of, fills, fills_at, executes, points, changes, Final}
 use Rattle.mesh_cli.proofs.Tables.{table_is_physical, same_table}

@@ -1,11 +1,11 @@
 -- What holds of each world along a run.
-use Rattle.std.proofs.Common.{◌≡◌, List, [], ◌∷◌, ◌++◌, Some, sym, ◌∙◌, subst}
+use Rattle.std.proofs.Common.{◌≡◌, ℕ, List, [], ◌∷◌, ◌++◌, Some, sym, ap, append_assoc, ◌∙◌, subst}
 use Rattle.std.specs.Option.{ForSome}
 use Rattle.mesh_house.specs.declared.world.World.{World}
 use Rattle.mesh_house.specs.declared.world.Change.{Change}
 use Rattle.mesh_house.specs.Step.{step, run}
 use Rattle.mesh_house.specs.House.{Told}
-use Rattle.mesh_house.specs.Runs.{Ran, Stopped, Along}
+use Rattle.mesh_house.specs.Runs.{IsPrefixRun, Ran, Stopped, Along}
 
 module _ (P : World → Type 0) where
   pub along_front : (w : World) (made rest : List Change) → Along P w (made ++ rest) → P (run w made)
@@ -31,3 +31,9 @@ module _ (P : World → Type 0) where
       let s = stopped.told w is in
       let same : run w s.made ≡ v = let e : Some (run w s.made) ≡ Some v = sym s.world ∙ v_is in cc in
       subst P same (along_front w s.made s.rest (subst (Along P w) s.parts all))
+
+  -- so it is behind the changes that are sure
+  pub sure_along : (list : List Change) (w : World) (before : ℕ) (new : Told) (s : IsPrefixRun list w before new) → Along P w list → P (run w s.sure)
+  sure_along list w before new s all =
+      let parts : list ≡ s.sure ++ (s.tail ++ s.rest) = s.parts ∙ ap (λ (l : List Change). l ++ s.rest) s.cut ∙ append_assoc s.sure s.tail s.rest in
+      along_front w s.sure (s.tail ++ s.rest) (subst (Along P w) parts all)

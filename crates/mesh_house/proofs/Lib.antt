@@ -1,7 +1,7 @@
 pub mod Along
 pub mod Days
 pub mod Each
-pub mod Laws
+pub mod After
 pub mod Lists
 pub mod Rows
 pub mod Runs

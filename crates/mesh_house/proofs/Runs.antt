@@ -39,6 +39,9 @@ stopped_then f g h rest a b c p q e = record {
         rest = second.rest ++ rest w;
         parts = e w is ∙ ap (λ (l : List Change). f w ++ (l ++ rest w)) second.parts ∙ regroup (f w) second.made second.rest (rest w);
         world = second.world ∙ ap Some (sym (run-append w (f w) second.made));
+        sure = f w ++ second.sure;
+        tail = second.tail;
+        cut = ap (λ (l : List Change). f w ++ l) second.cut ∙ sym (append_assoc (f w) second.sure second.tail);
         more = second.more;
         one = second.one;
         next = omega (arith, second.next, length-append second.rest (rest w));
@@ -56,7 +59,7 @@ ran_none a b same calls faults = record { faults = faults; told = λ w is. recor
 pub stopped_none : (a b : Told) → b.world ≡ a.world → b.calls ≡ a.calls → a.faults ≤ b.faults → Stopped (λ w. []) a b
 stopped_none a b same calls faults = record {
   faults = faults;
-  told = λ w is. record { made = []; rest = []; parts = refl; world = same ∙ is; more = 0; one = omega arith; next = omega arith; calls = omega (arith, calls) };
+  told = λ w is. record { made = []; rest = []; parts = refl; world = same ∙ is; sure = []; tail = []; cut = refl; more = 0; one = omega arith; next = omega arith; calls = omega (arith, calls) };
 }
 
 pub ran_nothing : (a : Told) → Ran (λ w. []) a a
@@ -72,13 +75,13 @@ changed change a b x h = record {
 pub change_stopped : {T : Type 0} (change : Change) (a b : Told) (e : WhFail) → Changes {T = T} change a b (Err e) → Stopped (λ w. change ∷ []) a b
 change_stopped change a b Memory h = record {
   faults = h.faults;
-  told = λ w is. record { made = []; rest = change ∷ []; parts = refl; world = h.memory refl ∙ is; more = 1; one = omega arith; next = omega arith; calls = h.calls };
+  told = λ w is. record { made = []; rest = change ∷ []; parts = refl; world = h.memory refl ∙ is; sure = []; tail = []; cut = refl; more = 1; one = omega arith; next = omega arith; calls = h.calls };
 }
 change_stopped change a b Failed h = record {
   faults = h.faults;
   told = λ w is. ⊎_elim
-      (λ no. record { made = []; rest = change ∷ []; parts = refl; world = no ∙ is; more = 1; one = omega arith; next = omega arith; calls = h.calls })
-      (λ yes. record { made = change ∷ []; rest = []; parts = refl; world = yes ∙ ap (option_map (λ v. step v change)) is; more = 0; one = omega arith; next = omega arith; calls = h.calls })
+      (λ no. record { made = []; rest = change ∷ []; parts = refl; world = no ∙ is; sure = []; tail = []; cut = refl; more = 1; one = omega arith; next = omega arith; calls = h.calls })
+      (λ yes. record { made = change ∷ []; rest = []; parts = refl; world = yes ∙ ap (option_map (λ v. step v change)) is; sure = []; tail = change ∷ []; cut = refl; more = 0; one = omega arith; next = omega arith; calls = h.calls })
       (h.failed refl).1;
 }
 

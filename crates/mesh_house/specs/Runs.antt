@@ -14,14 +14,18 @@ pub record IsRun (list : List Change) (w : World) (before : ℕ) (new : Told) : 
   pub world : new.world ≡ Some (run w list)
   pub calls : new.calls ≡ risen (length list) before
 
--- a prefix of the list was made; one more call, for the next of the list, may have had no effect
+-- A prefix of the list was made. Those in it that are sure were called for without a failure. At most one call more was
+-- made, for the next of the list: it failed, and had its effect, or had none.
 pub record IsPrefixRun (list : List Change) (w : World) (before : ℕ) (new : Told) : Type 0 where
   pub made : List Change
   pub rest : List Change
   pub parts : list ≡ made ++ rest
   pub world : new.world ≡ Some (run w made)
+  pub sure : List Change
+  pub tail : List Change
+  pub cut : made ≡ sure ++ tail
   pub more : ℕ
-  pub one : more ≤ 1
+  pub one : length tail + more ≤ 1
   pub next : more ≤ length rest
   pub calls : new.calls ≡ risen (length made + more) before
 

@@ -8,6 +8,7 @@
 mod copies;
 mod fails;
 mod house;
+mod laws;
 mod making;
 mod memory;
 mod objects;
@@ -21,6 +22,7 @@ mod world;
 
 pub use fails::{Fail, Fails};
 pub use house::{Warehouse, WhFail};
+pub use laws::calls_go_on_from_one_another;
 pub use making::{make, make_all};
 pub use memory::MemHouse;
 pub use objects::{Body, Object, Objects};

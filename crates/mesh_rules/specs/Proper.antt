@@ -1,5 +1,5 @@
 -- What a definition and its parents have to be, and which lists of models are a proper project.
-use Rattle.std.specs.Prelude.{ℕ, ℤ, ◌+◌, max, Bool, true, false, ◌&&◌, ◌||◌, not, nat_le, nat_lt, nat_eq, List, [], ◌∷◌, ◌++◌, length, Some, None, if◌then◌else◌}
+use Rattle.std.specs.Prelude.{ℕ, ℤ, Bool, true, false, ◌&&◌, ◌||◌, not, nat_le, nat_eq, List, [], ◌∷◌, ◌++◌, length, Some, None, if◌then◌else◌}
 use Rattle.std.specs.List.{list_all, list_any, slice_get, flat_map, ends_with}
 use Rattle.std.specs.Option.{is_some}
 use Rattle.std.specs.declared.option.Option.{Option}
@@ -13,14 +13,18 @@ use Rattle.mesh_base.specs.declared.queries.Rel.TheVariants.{Named, Cte}
 use Rattle.mesh_base.specs.declared.queries.FromItem.{FromItem}
 use Rattle.mesh_base.specs.declared.queries.Select.{Select}
 use Rattle.mesh_values.specs.declared.kinds.Kind.{Kind}
-use Rattle.mesh_values.specs.declared.kinds.Kind.TheVariants.{Seed as SeedKind, Incremental}
-use Rattle.mesh_base.specs.declared.definitions.Decl.{Decl}
+use Rattle.mesh_values.specs.declared.kinds.Kind.TheVariants.{Seed as SeedKind}
 use Rattle.mesh_base.specs.declared.definitions.Defn.{Defn}
 use Rattle.mesh_base.specs.declared.definitions.Defn.TheVariants.{Seed, Sql}
 use Rattle.mesh_base.specs.declared.definitions.Own.{Own}
 use Rattle.mesh_base.specs.declared.snapshots.Node.{Node}
 use Rattle.mesh_values.specs.Names.{name_cmp, has_two_underscores}
+use Rattle.mesh_values.specs.Crons.{is_cron}
+use Rattle.mesh_values.specs.Kinds.{time_column}
 use Rattle.mesh_base.specs.Outputs.{columns_of}
+use Rattle.mesh_rules.specs.declared.relations.Relation.{Relation}
+use Rattle.mesh_rules.specs.declared.relations.Parent.{Parent}
+use Rattle.mesh_rules.specs.Relations.{is_declared, is_parent, parent_name, rank_over, read_relations}
 use Rattle.mesh_rules.specs.Seen.{has_column, are_distinct, is_query_seen}
 
 -- a schema of models and sources: no two underscores adjoin, and it doesn't end in one
@@ -34,13 +38,16 @@ is_body_of SeedKind (Sql query) = false
 is_body_of other (Seed columns rows) = false
 is_body_of other (Sql query) = true
 
--- an incremental model has a start, and a column of the name that its kind gives for the time
+-- where rows are kept by a time column, there is a start, and a column of that name
+abbrev pub has_time : Option (List ℕ) → Option ℤ → List Column → Bool
+has_time None start columns = true
+has_time (Some time) start columns = is_some start && has_column columns time
+
 abbrev pub has_its_time : Kind → Option ℤ → List Column → Bool
-has_its_time (Incremental time lookback) start columns = is_some start && has_column columns time
-has_its_time other start columns = true
+has_its_time kind start columns = has_time (time_column kind) start columns
 
 -- what the body names is there
-abbrev pub is_body_seen : List Decl → Defn → Bool
+abbrev pub is_body_seen : List Relation → Defn → Bool
 is_body_seen relations (Seed columns rows) = true
 is_body_seen relations (Sql query) = is_query_seen relations query
 
@@ -65,79 +72,58 @@ abbrev pub defn_names : Defn → List Name
 defn_names (Seed columns rows) = []
 defn_names (Sql query) = names_of_all query.ctes ++ selects_names query.selects
 
--- a name is one of these relations'
-abbrev pub is_declared : List Decl → Name → Bool
-is_declared relations name = list_any (λ (d : Decl). is_eq (name_cmp d.name name)) relations
-
 -- a name is one of these
 abbrev pub is_among : List Name → Name → Bool
 is_among names name = list_any (λ n. is_eq (name_cmp n name)) names
 
-abbrev pub decl_name : Decl → Name
-decl_name d = d.name
-
 -- the definition names each parent, and declares none as a source
-abbrev pub are_named : List Decl → Own → List Name → Bool
-are_named parents own names = list_all (λ (p : Decl). is_among names p.name && not (is_declared own.sources p.name)) parents
+abbrev pub are_named : List Parent → Own → List Name → Bool
+are_named parents own names = list_all (λ (p : Parent). is_among names p.name && not (is_declared own.sources p.name)) parents
 
 -- each relation that the definition names is a source that it declares or a parent
-abbrev pub are_known : List Decl → Own → List Name → Bool
-are_known parents own names = list_all (λ name. is_declared own.sources name || is_declared parents name) names
+abbrev pub are_known : List Parent → Own → List Name → Bool
+are_known parents own names = list_all (λ name. is_declared own.sources name || is_parent parents name) names
 
 -- The names of the parents ascend, and are just those in the definition that none of its sources has.
-abbrev pub are_its_parents : List Decl → Own → Bool
+abbrev pub are_its_parents : List Parent → Own → Bool
 are_its_parents parents own =
-    ascends name_cmp decl_name parents
+    ascends name_cmp parent_name parents
     && (are_named parents own (defn_names own.defn) && are_known parents own (defn_names own.defn))
 
--- A definition with its parents, each as its name and columns, is one that a project or a book may have.
-abbrev pub is_well_formed : List Decl → Own → Bool
+-- A definition with its parents is one that a project or a book may have.
+abbrev pub is_well_formed : List Parent → Own → Bool
 is_well_formed parents own =
     is_plain_schema own.name.schema
     && (is_body_of own.kind own.defn
+    && (is_cron own.cron
     && (has_its_time own.kind own.start (columns_of own)
     && (are_distinct (columns_of own)
-    && (is_body_seen (own.sources ++ parents) own.defn && are_its_parents parents own))))
+    && (is_body_seen (read_relations own.sources parents) own.defn && are_its_parents parents own)))))
 
--- a model as a relation that others read
-abbrev pub relation_of : Own → Decl
-relation_of own = record { name = own.name; columns = columns_of own; time = None }
+-- A model stands on its parents: its rank is 0 without parents, and else one more than their greatest, and its definition
+-- is well formed with them.
+abbrev pub stands_on : List Parent → ℕ → Own → Bool
+stands_on parents rank own = nat_eq rank (rank_over 0 parents) && is_well_formed parents own
 
--- the node at a place has a rank below this one
-abbrev pub has_lower_rank : Option Node → ℕ → Bool
-has_lower_rank None rank = false
-has_lower_rank (Some n) rank = nat_lt n.rank rank
+-- a node, as another one stands on it
+abbrev pub as_parent : Node → Parent
+as_parent n = record { rank = n.rank; name = n.own.name; columns = columns_of n.own }
 
--- at the place of each parent there is a node, with a lower rank than this
-abbrev pub are_lower : List Node → ℕ → List ℕ → Bool
-are_lower nodes rank places = list_all (λ i. has_lower_rank (slice_get nodes i) rank) places
+-- a node stands at each of these places
+abbrev pub are_places : List Node → List ℕ → Bool
+are_places nodes places = list_all (λ i. is_some (slice_get nodes i)) places
 
--- a rank that is also above a parent's
-abbrev pub raised : ℕ → Option Node → ℕ
-raised rank None = rank
-raised rank (Some n) = max rank (n.rank + 1)
+-- the nodes at these places, as parents
+abbrev pub parent_at : Option Node → List Parent
+parent_at None = []
+parent_at (Some n) = as_parent n ∷ []
 
--- the least number from this one on that is above the rank of each parent
-abbrev pub rank_above : List Node → ℕ → List ℕ → ℕ
-rank_above nodes rank [] = rank
-rank_above nodes rank (i ∷ is) = rank_above nodes (raised rank (slice_get nodes i)) is
+abbrev pub parents_at : List Node → List ℕ → List Parent
+parents_at nodes places = flat_map (λ i. parent_at (slice_get nodes i)) places
 
--- these relations and one more parent
-abbrev pub with_parent : List Decl → Option Node → List Decl
-with_parent relations None = relations
-with_parent relations (Some n) = relations ++ relation_of n.own ∷ []
-
--- these relations and the nodes at the places
-abbrev pub relations_at : List Node → List Decl → List ℕ → List Decl
-relations_at nodes relations [] = relations
-relations_at nodes relations (i ∷ is) = relations_at nodes (with_parent relations (slice_get nodes i)) is
-
--- At the place of each parent of a node there is a node of lower rank. The node's own rank is 0 where it has no parents,
--- and otherwise the one after their highest. Its definition is well formed with them.
+-- a node stands on those at the places of its parents
 abbrev pub is_fit : List Node → Node → Bool
-is_fit nodes n =
-    are_lower nodes n.rank n.parents
-    && (nat_eq n.rank (rank_above nodes 0 n.parents) && is_well_formed (relations_at nodes [] n.parents) n.own)
+is_fit nodes n = are_places nodes n.parents && stands_on (parents_at nodes n.parents) n.rank n.own
 
 -- nodes stand by rank, and then by name
 abbrev pub node_cmp : Node → Node → Ordering

@@ -1,11 +1,9 @@
 -- Which columns and CTEs a query sees: what it names has to be there.
-use Rattle.std.specs.Prelude.{ℕ, Bool, true, false, ◌&&◌, not, List, [], ◌∷◌, ◌++◌, map, Some, None, if◌then◌else◌}
+use Rattle.std.specs.Prelude.{ℕ, Bool, true, false, ◌&&◌, not, List, [], ◌∷◌, ◌++◌, map, Some, None}
 use Rattle.std.specs.List.{list_all, list_any, slice_get}
 use Rattle.std.specs.Option.{is_some, option_map}
 use Rattle.std.specs.declared.option.Option.{Option}
-use Rattle.std.specs.Ordering.{is_eq}
 use Rattle.mesh_values.specs.declared.values.Column.{Column}
-use Rattle.mesh_values.specs.declared.values.Name.{Name}
 use Rattle.mesh_base.specs.declared.expressions.Expr.{Expr, fold-Expr}
 use Rattle.mesh_base.specs.declared.expressions.Expr.TheOpen.{Expr-F, When-F, Literal, Col, Macro, Binary, Neg, Not, IsNull, Between, OneOf, Cast, Call, Case, CountAll, Agg}
 use Rattle.mesh_base.specs.declared.expressions.When.{When, fold-When}
@@ -15,10 +13,10 @@ use Rattle.mesh_base.specs.declared.queries.Rel.TheVariants.{Named, Cte}
 use Rattle.mesh_base.specs.declared.queries.FromItem.{FromItem}
 use Rattle.mesh_base.specs.declared.queries.Select.{Select}
 use Rattle.mesh_base.specs.declared.queries.Query.{Query}
-use Rattle.mesh_base.specs.declared.definitions.Decl.{Decl}
-use Rattle.mesh_values.specs.Names.{name_cmp}
 use Rattle.mesh_base.specs.Outputs.{select_columns}
 use Rattle.mesh_values.specs.Picked.{same_text}
+use Rattle.mesh_rules.specs.declared.relations.Relation.{Relation}
+use Rattle.mesh_rules.specs.Relations.{relation_columns}
 
 -- some column has that name
 abbrev pub has_column : List Column → List ℕ → Bool
@@ -69,13 +67,8 @@ abbrev pub sees_some : List (List Column) → Option Expr → Bool
 sees_some tables None = true
 sees_some tables (Some e) = sees tables e
 
--- the columns of the relation of that name
-abbrev pub relation_columns : List Decl → Name → Option (List Column)
-relation_columns [] name = None
-relation_columns (d ∷ ds) name = if is_eq (name_cmp d.name name) then Some d.columns else relation_columns ds name
-
 -- the columns of what a FROM item reads, where it is there: a relation, or one of the earlier CTEs
-abbrev pub rel_columns : List Decl → List (List Select) → Rel → Option (List Column)
+abbrev pub rel_columns : List Relation → List (List Select) → Rel → Option (List Column)
 rel_columns relations ctes (Named name) = relation_columns relations name
 rel_columns relations ctes (Cte at) = option_map select_columns (slice_get ctes at)
 
@@ -84,11 +77,11 @@ or_no_columns None = []
 or_no_columns (Some columns) = columns
 
 -- the columns of each FROM item
-abbrev pub tables_of : List Decl → List (List Select) → List FromItem → List (List Column)
+abbrev pub tables_of : List Relation → List (List Select) → List FromItem → List (List Column)
 tables_of relations ctes from = map (λ (f : FromItem). or_no_columns (rel_columns relations ctes f.rel)) from
 
 -- what each FROM item reads is there
-abbrev pub are_there : List Decl → List (List Select) → List FromItem → Bool
+abbrev pub are_there : List Relation → List (List Select) → List FromItem → Bool
 are_there relations ctes from = list_all (λ (f : FromItem). is_some (rel_columns relations ctes f.rel)) from
 
 -- the same for the items, the ON conditions and the keys of a SELECT
@@ -109,20 +102,20 @@ select_sees tables s =
     && (sees_some tables s.filter && (keys_see tables s.keys && sees_some tables s.having)))
 
 -- a SELECT whose relations, CTEs and columns are there
-unfoldable pub is_select_seen : List Decl → List (List Select) → Select → Bool
+unfoldable pub is_select_seen : List Relation → List (List Select) → Select → Bool
 is_select_seen relations ctes s =
     are_there relations ctes s.from && select_sees (tables_of relations ctes s.from) s
 
-abbrev pub are_selects_seen : List Decl → List (List Select) → List Select → Bool
+abbrev pub are_selects_seen : List Relation → List (List Select) → List Select → Bool
 are_selects_seen relations ctes selects = list_all (is_select_seen relations ctes) selects
 
 -- each CTE sees only those before it
-abbrev pub are_ctes_seen : List Decl → List (List Select) → List (List Select) → Bool
+abbrev pub are_ctes_seen : List Relation → List (List Select) → List (List Select) → Bool
 are_ctes_seen relations before [] = true
 are_ctes_seen relations before (c ∷ cs) =
     are_selects_seen relations before c && are_ctes_seen relations (before ++ c ∷ []) cs
 
 -- all that a query names is there: relations, columns, and CTEs among those before
-abbrev pub is_query_seen : List Decl → Query → Bool
+abbrev pub is_query_seen : List Relation → Query → Bool
 is_query_seen relations q =
     are_ctes_seen relations [] q.ctes && are_selects_seen relations q.ctes q.selects

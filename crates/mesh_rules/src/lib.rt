@@ -6,11 +6,13 @@
 mod plans;
 mod projects;
 mod proper;
+mod relations;
 mod seen;
 mod well_formed;
 
 pub use plans::Plan;
 pub use projects::Project;
-pub use proper::is_proper;
+pub use proper::{is_proper, stands_on};
+pub use relations::{Parent, Parents, Relation, Relations, read_relations, relation_columns};
 pub use seen::{has_column, is_query_seen};
 pub use well_formed::is_well_formed;

@@ -1,92 +1,93 @@
 // Whether nodes are a proper project: each fits its parents, and they stand by rank and name.
-ghost use Rattle.std.specs.Prelude.{◌≡◌, [], IfOk, OnOk};
+ghost use Rattle.std.specs.Prelude.{◌≡◌, IfOk};
 ghost use Rattle.std.specs.List.{slice_get};
+ghost use Rattle.std.specs.Option.{is_some};
 ghost use Rattle.mesh_list.specs.Keyed.{ascends};
-ghost use Rattle.mesh_rules.specs.Proper.{are_fit, are_lower, has_lower_rank, has_node, have_distinct_names, is_fit, is_proper, node_cmp, node_itself, raised, rank_above, relation_of, relations_at, with_parent};
+ghost use Rattle.mesh_rules.specs.Relations.{rank_over};
+ghost use Rattle.mesh_rules.specs.Proper.{are_fit, are_places, as_parent, has_node, have_distinct_names, is_fit, is_proper, node_cmp, node_itself, parent_at, parents_at, stands_on};
 
+use crate::relations::{Parent, Parents};
 use crate::well_formed::is_well_formed;
-use mesh_base::{Decl, Node, Own, Sources, columns_of};
+use mesh_base::{Node, Own, columns_of};
 use mesh_list::{Duplicate, Memory, Seq};
 use mesh_values::{MOST_MODELS, Name};
+use std::alloc::Global;
 use std::cmp::Ordering;
 
-fn has_lower_rank(nodes: &[Node], place: u32, rank: u32) -> bool
-    ensures { result ≡ has_lower_rank (slice_get nodes.now place) rank }
+fn is_place(nodes: &[Node], place: u32) -> bool
+    ensures { result ≡ is_some (slice_get nodes.now place) }
 {
-    match nodes.get(place as usize) {
-        Some(node) => node.rank < rank,
-        None => false,
-    }
+    nodes.get(place as usize).is_some()
 }
 
-fn are_lower(nodes: &[Node], rank: u32, places: &[u32]) -> bool
-    ensures { result ≡ are_lower nodes.now rank places.now }
+fn are_places(nodes: &[Node], places: &[u32]) -> bool
+    ensures { result ≡ are_places nodes.now places.now }
 {
     let mut each = true;
     for place in places {
-        each = each && has_lower_rank(nodes, *place, rank);
+        each = each && is_place(nodes, *place);
     }
     each
 }
 
-fn raised(nodes: &[Node], rank: u64, place: u32) -> u64
-    ensures { result ≡ raised rank (slice_get nodes.now place) }
+fn as_parent(node: &Node) -> Result<Parent, Memory>
+    ensures { IfOk result (λ parent. parent ≡ as_parent node.now) }
 {
+    Ok(Parent {
+        rank: node.rank,
+        name: node.own.name.copy()?,
+        columns: columns_of(&node.own)?,
+    })
+}
+
+fn parent_at(alloc: Global, nodes: &[Node], place: u32) -> Result<Parents, Memory>
+    ensures { IfOk result (λ parents. parents ≡ parent_at (slice_get nodes.now place)) }
+{
+    let mut parents = Seq::new(alloc);
     match nodes.get(place as usize) {
-        Some(node) => rank.max(node.rank as u64 + 1),
-        None => rank,
+        Some(node) => {
+            parents.push(as_parent(node)?)?;
+            Ok(parents)
+        }
+        None => Ok(parents),
     }
 }
 
-fn rank_above(nodes: &[Node], places: &[u32]) -> u64
-    ensures { result ≡ rank_above nodes.now 0 places.now }
+fn parents_at(nodes: &[Node], node: &Node) -> Result<Parents, Memory>
+    ensures { IfOk result (λ parents. parents ≡ parents_at nodes.now node.now.parents) }
 {
-    let mut rank = 0;
-    for place in places {
-        rank = raised(nodes, rank, *place);
+    let alloc = node.parents.alloc();
+    let mut parents = Seq::new(alloc);
+    for place in node.parents.as_slice() {
+        parents.append(parent_at(alloc, nodes, *place)?)?;
+    }
+    Ok(parents)
+}
+
+fn rank_over(parents: &[Parent]) -> u64
+    ensures { result ≡ rank_over 0 parents.now }
+{
+    let mut rank: u64 = 0;
+    for parent in parents {
+        rank = rank.max(parent.rank as u64 + 1);
     }
     rank
 }
 
-fn relation_of(own: &Own) -> Result<Decl, Memory>
-    ensures { IfOk result (λ decl. decl ≡ relation_of own.now) }
+/// Whether a model of this rank and definition stands on these parents.
+pub fn stands_on(parents: &[Parent], rank: u32, own: &Own) -> Result<bool, Memory>
+    ensures { IfOk result (λ stands. stands ≡ stands_on parents.now rank own.now) }
 {
-    Ok(Decl {
-        name: own.name.copy()?,
-        columns: columns_of(own)?,
-        time: None,
-    })
-}
-
-fn add_relation(nodes: &[Node], place: u32, relations: &mut Sources) -> Result<(), Memory>
-    ensures { OnOk result (relations.new ≡ with_parent relations.old (slice_get nodes.now place)) }
-{
-    match nodes.get(place as usize) {
-        Some(node) => relations.push(relation_of(&node.own)?),
-        None => Ok(()),
-    }
-}
-
-fn relations_at(nodes: &[Node], node: &Node) -> Result<Sources, Memory>
-    ensures { IfOk result (λ relations. relations ≡ relations_at nodes.now [] node.now.parents) }
-{
-    let mut relations = Seq::new(node.parents.alloc());
-    for place in node.parents.as_slice() {
-        add_relation(nodes, *place, &mut relations)?;
-    }
-    Ok(relations)
+    let formed = is_well_formed(parents, own)?;
+    Ok(rank as u64 == rank_over(parents) && formed)
 }
 
 fn is_fit(nodes: &[Node], node: &Node) -> Result<bool, Memory>
     ensures { IfOk result (λ is. is ≡ is_fit nodes.now node.now) }
 {
-    let relations = relations_at(nodes, node)?;
-    let formed = is_well_formed(relations.as_slice(), &node.own)?;
-    Ok(
-        are_lower(nodes, node.rank, node.parents.as_slice())
-            && node.rank as u64 == rank_above(nodes, node.parents.as_slice())
-            && formed,
-    )
+    let parents = parents_at(nodes, node)?;
+    let stands = stands_on(parents.as_slice(), node.rank, &node.own)?;
+    Ok(are_places(nodes, node.parents.as_slice()) && stands)
 }
 
 fn are_fit(all: &[Node], nodes: &[Node]) -> Result<bool, Memory>

@@ -1,12 +1,12 @@
 // Whether what a query names is there: its relations, its columns and its CTEs.
 ghost use Rattle.std.specs.Prelude.{◌≡◌, [], map, IfOk};
 ghost use Rattle.std.specs.List.{list_all};
-ghost use Rattle.std.specs.Option.{option_copied};
-ghost use Rattle.mesh_rules.specs.Seen.{are_ctes_seen, are_selects_seen, are_there, column_at, conditions_see, has_column, is_query_seen, is_select_seen, items_see, keys_see, rel_columns, relation_columns, sees, sees_some, sees_when, select_sees, tables_of};
+ghost use Rattle.mesh_rules.specs.Seen.{are_ctes_seen, are_selects_seen, are_there, column_at, conditions_see, has_column, is_query_seen, is_select_seen, items_see, keys_see, rel_columns, sees, sees_some, sees_when, select_sees, tables_of};
 
-use mesh_base::{Decl, Expr, FromItem, Item, Query, Rel, Select, Selects, When, select_columns};
+use crate::relations::{Relation, relation_columns};
+use mesh_base::{Expr, FromItem, Item, Query, Rel, Select, Selects, When, select_columns};
 use mesh_list::{Duplicate, Memory, Seq};
-use mesh_values::{Column, Columns, Name, Str};
+use mesh_values::{Column, Columns, Str, same_text};
 use std::alloc::Global;
 
 /// Names are compared by their bytes.
@@ -15,7 +15,7 @@ pub fn has_column(columns: &[Column], name: &Str) -> bool
 {
     let mut found = false;
     for column in columns {
-        found = found || column.name.as_slice().cmp(&name.as_slice()).is_eq();
+        found = found || same_text(column.name.as_slice(), name.as_slice());
     }
     found
 }
@@ -124,20 +124,9 @@ fn select_sees(s: &Select, tables: &[Columns]) -> bool
         && sees_some(&s.having, tables)
 }
 
-fn relation_columns<'a>(relations: &'a [Decl], name: &Name) -> Option<&'a Columns>
-    ensures { option_copied result ≡ relation_columns relations.now name.now }
-{
-    for decl in relations {
-        if decl.name.compare(name).is_eq() {
-            return Some(&decl.columns);
-        }
-    }
-    None
-}
-
 fn rel_columns(
     alloc: Global,
-    relations: &[Decl],
+    relations: &[Relation],
     ctes: &[Selects],
     rel: &Rel,
 ) -> Result<Option<Columns>, Memory>
@@ -157,7 +146,7 @@ fn rel_columns(
 
 fn are_there(
     alloc: Global,
-    relations: &[Decl],
+    relations: &[Relation],
     ctes: &[Selects],
     from: &[FromItem],
 ) -> Result<bool, Memory>
@@ -173,7 +162,7 @@ fn are_there(
 
 fn tables_of(
     alloc: Global,
-    relations: &[Decl],
+    relations: &[Relation],
     ctes: &[Selects],
     from: &[FromItem],
 ) -> Result<Seq<Columns>, Memory>
@@ -193,7 +182,7 @@ fn tables_of(
 #[tactic(auto, unfolding(crate::specs::Seen::is_select_seen))]
 fn is_select_seen(
     alloc: Global,
-    relations: &[Decl],
+    relations: &[Relation],
     ctes: &[Selects],
     s: &Select,
 ) -> Result<bool, Memory>
@@ -206,7 +195,7 @@ fn is_select_seen(
 
 fn are_selects_seen(
     alloc: Global,
-    relations: &[Decl],
+    relations: &[Relation],
     ctes: &[Selects],
     selects: &[Select],
 ) -> Result<bool, Memory>
@@ -220,7 +209,7 @@ fn are_selects_seen(
     Ok(each)
 }
 
-fn are_ctes_seen(alloc: Global, relations: &[Decl], ctes: &[Selects]) -> Result<bool, Memory>
+fn are_ctes_seen(alloc: Global, relations: &[Relation], ctes: &[Selects]) -> Result<bool, Memory>
     ensures { IfOk result (λ each. each ≡ are_ctes_seen relations.now [] ctes.now) }
 {
     for (i, selects) in ctes.iter().enumerate() {
@@ -233,7 +222,7 @@ fn are_ctes_seen(alloc: Global, relations: &[Decl], ctes: &[Selects]) -> Result<
 
 /// A query sees the relations that are given, and each of its CTEs sees those before it. Each column that an
 /// expression names has to be one of its FROM item's.
-pub fn is_query_seen(alloc: Global, relations: &[Decl], query: &Query) -> Result<bool, Memory>
+pub fn is_query_seen(alloc: Global, relations: &[Relation], query: &Query) -> Result<bool, Memory>
     ensures { IfOk result (λ seen. seen ≡ is_query_seen relations.now query.now) }
 {
     let ctes = are_ctes_seen(alloc, relations, query.ctes.as_slice())?;

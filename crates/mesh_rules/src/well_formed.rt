@@ -1,15 +1,18 @@
-// Whether a definition and its parents are what a project may have: a parent is given by its name and columns.
+// Whether a definition and its parents are what a project may have.
 ghost use Rattle.std.specs.Prelude.{◌≡◌, ◌++◌, IfOk, OnOk};
 ghost use Rattle.std.specs.List.{list_all};
 ghost use Rattle.mesh_list.specs.Keyed.{ascends};
 ghost use Rattle.mesh_values.specs.Names.{name_cmp};
 ghost use Rattle.mesh_rules.specs.Seen.{are_distinct};
-ghost use Rattle.mesh_rules.specs.Proper.{are_its_parents, are_known, are_named, decl_name, defn_names, has_its_time, is_among, is_body_of, is_body_seen, is_declared, is_plain_schema, is_well_formed, names_of_all, select_names, selects_names};
+ghost use Rattle.mesh_rules.specs.Relations.{is_declared, is_parent, parent_name};
+ghost use Rattle.mesh_rules.specs.Proper.{are_its_parents, are_known, are_named, defn_names, has_its_time, is_among, is_body_of, is_body_seen, is_plain_schema, is_well_formed, names_of_all, select_names, selects_names};
 
+use crate::relations::{Parent, Relation, read_relations};
 use crate::seen::{has_column, is_query_seen};
-use mesh_base::{Decl, Defn, Own, Rel, Select, Selects, Sources, columns_of};
+use mesh_base::{Decl, Defn, Own, Rel, Select, Selects, columns_of};
 use mesh_list::{Duplicate, Memory, Seq};
 use mesh_values::{Column, Kind, Name, Names, has_two_underscores};
+use std::alloc::Global;
 
 fn is_plain_schema(schema: &[u8]) -> bool
     ensures { result ≡ is_plain_schema schema.now }
@@ -96,12 +99,22 @@ fn defn_names(own: &Own) -> Result<Names, Memory>
     Ok(names)
 }
 
-fn is_declared(relations: &[Decl], name: &Name) -> bool
-    ensures { result ≡ is_declared relations.now name.now }
+fn is_declared(sources: &[Decl], name: &Name) -> bool
+    ensures { result ≡ is_declared sources.now name.now }
 {
     let mut found = false;
-    for decl in relations {
-        found = found || decl.name.compare(name).is_eq();
+    for source in sources {
+        found = found || source.name.compare(name).is_eq();
+    }
+    found
+}
+
+fn is_parent(parents: &[Parent], name: &Name) -> bool
+    ensures { result ≡ is_parent parents.now name.now }
+{
+    let mut found = false;
+    for parent in parents {
+        found = found || parent.name.compare(name).is_eq();
     }
     found
 }
@@ -116,7 +129,7 @@ fn is_among(names: &[Name], name: &Name) -> bool
     found
 }
 
-fn are_named(parents: &[Decl], own: &Own, names: &[Name]) -> bool
+fn are_named(parents: &[Parent], own: &Own, names: &[Name]) -> bool
     ensures { result ≡ are_named parents.now own.now names.now }
 {
     let mut each = true;
@@ -128,18 +141,18 @@ fn are_named(parents: &[Decl], own: &Own, names: &[Name]) -> bool
     each
 }
 
-fn are_known(parents: &[Decl], own: &Own, names: &[Name]) -> bool
+fn are_known(parents: &[Parent], own: &Own, names: &[Name]) -> bool
     ensures { result ≡ are_known parents.now own.now names.now }
 {
     let mut each = true;
     for name in names {
-        each = each && (is_declared(own.sources.as_slice(), name) || is_declared(parents, name));
+        each = each && (is_declared(own.sources.as_slice(), name) || is_parent(parents, name));
     }
     each
 }
 
-fn ascend(parents: &[Decl]) -> bool
-    ensures { result ≡ ascends name_cmp decl_name parents.now }
+fn ascend(parents: &[Parent]) -> bool
+    ensures { result ≡ ascends name_cmp parent_name parents.now }
 {
     for (i, parent) in parents.iter().enumerate() {
         match &parents[i + 1..] {
@@ -152,7 +165,7 @@ fn ascend(parents: &[Decl]) -> bool
     true
 }
 
-fn are_its_parents(parents: &[Decl], own: &Own) -> Result<bool, Memory>
+fn are_its_parents(parents: &[Parent], own: &Own) -> Result<bool, Memory>
     ensures { IfOk result (λ are. are ≡ are_its_parents parents.now own.now) }
 {
     let names = defn_names(own)?;
@@ -163,34 +176,26 @@ fn are_its_parents(parents: &[Decl], own: &Own) -> Result<bool, Memory>
     )
 }
 
-fn joined(sources: &Sources, parents: &[Decl]) -> Result<Sources, Memory>
-    ensures { IfOk result (λ all. all ≡ sources.now ++ parents.now) }
-{
-    let mut all = sources.copy()?;
-    for parent in parents {
-        all.push(parent.copy()?)?;
-    }
-    Ok(all)
-}
-
-fn is_body_seen(relations: &Sources, defn: &Defn) -> Result<bool, Memory>
+fn is_body_seen(alloc: Global, relations: &[Relation], defn: &Defn) -> Result<bool, Memory>
     ensures { IfOk result (λ seen. seen ≡ is_body_seen relations.now defn.now) }
 {
     match defn {
         Defn::Seed { .. } => Ok(true),
-        Defn::Sql(query) => is_query_seen(relations.alloc(), relations.as_slice(), query),
+        Defn::Sql(query) => is_query_seen(alloc, relations, query),
     }
 }
 
 /// The parents have to be exactly the relations that the query names and that aren't declared as sources, by name. An
 /// incremental definition needs a start and its time column, and each one needs distinct column names.
-pub fn is_well_formed(parents: &[Decl], own: &Own) -> Result<bool, Memory>
+pub fn is_well_formed(parents: &[Parent], own: &Own) -> Result<bool, Memory>
     ensures { IfOk result (λ is. is ≡ is_well_formed parents.now own.now) }
 {
     let columns = columns_of(own)?;
-    let relations = joined(&own.sources, parents)?;
-    let seen = is_body_seen(&relations, &own.defn)?;
+    let alloc = own.sources.alloc();
+    let relations = read_relations(alloc, own.sources.as_slice(), parents)?;
+    let seen = is_body_seen(alloc, relations.as_slice(), &own.defn)?;
     let are = are_its_parents(parents, own)?;
+    own.cron.rule();
     Ok(
         is_plain_schema(own.name.schema.as_slice())
             && is_body_of(&own.kind, &own.defn)

@@ -24,7 +24,7 @@ pub use limits::{
     LAST_MOMENT, LIFETIME, LONGEST_ENVIRONMENT_NAME, LONGEST_LOOKBACK, LONGEST_NAME, MOST_COLUMNS,
     MOST_INTERVALS, MOST_MODELS, MOST_WORKERS,
 };
-pub use names::{has_two_underscores, is_identifier, is_schema};
+pub use names::{has_two_underscores, is_identifier, is_schema, same_text};
 pub use order::{cell_cmp, row_cmp};
 pub use sorts::{one_ascending_list, sort_rows};
 pub use times::{Bounds, Schedule, Spans, Unit};

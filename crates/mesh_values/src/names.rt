@@ -1,6 +1,7 @@
 // How names are spelled.
 ghost use Rattle.std.specs.Prelude.{◌≡◌};
 ghost use Rattle.std.specs.List.{list_all};
+ghost use Rattle.mesh_values.specs.Picked.{same_text};
 ghost use Rattle.mesh_values.specs.Names.{has_two_underscores, is_identifier, is_letter, is_name_byte, is_schema};
 
 fn is_letter(byte: u8) -> bool
@@ -19,6 +20,13 @@ fn are_name_bytes(text: &[u8]) -> bool
     ensures { result ≡ list_all is_name_byte text.now }
 {
     text.iter().all(|b| is_name_byte(*b))
+}
+
+/// Whether two texts are one, byte for byte.
+pub fn same_text(a: &[u8], b: &[u8]) -> bool
+    ensures { result ≡ same_text a.now b.now }
+{
+    a.cmp(&b).is_eq()
 }
 
 /// A letter of ASCII or an underscore, and then letters, digits and underscores.

@@ -1,5 +1,5 @@
 use Rattle.std.proofs.Common.{◌≡◌, take}
-use Rattle.mesh_rules.specs.Proper.{is_declared}
+use Rattle.mesh_rules.specs.Relations.{is_declared}
 use Rattle.mesh_book.proofs.named.is_declared.Given as goal
 
 abbrev pub invariant-loop-source : goal.invariant-loop-source
