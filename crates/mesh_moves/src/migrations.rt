@@ -10,7 +10,7 @@ use crate::moves::{Moves, moves_of};
 use crate::orders::{ascend, sorted};
 use crate::renames::{renamed_envs, renamed_snapshots};
 use mesh_base::{Rename, Snapshot};
-use mesh_book::Book;
+use mesh_book::{BOOK_VERSION, Book};
 use mesh_list::{Memory, Register, together};
 
 /// Each snapshot that the map names by its name and fingerprint gets its new fingerprint, also in parents and in the lists
@@ -32,7 +32,7 @@ pub fn migrate(book: &mut Book, renames: &[Rename]) -> Result<(), Memory>
     if !ascend(snapshots.as_slice()) {
         return Ok(());
     }
-    book.version = 2;
+    book.version = BOOK_VERSION;
     book.snapshots = Register::from_vec(snapshots);
     book.environments = Register::from_vec(environments);
     Ok(())
