@@ -8,7 +8,8 @@ use Rattle.std.proofs.lemmas.Fmt.{length-decimal-le}
 use Rattle.std.proofs.lemmas.List.{append-nil, length-append}
 use Rattle.mesh_values.specs.Crons.{CronSets, has, is_cron, is_set, is_single, some_below}
 use Rattle.mesh_canon_text.specs.Text.{behind_commas, commas, cron_text, field_text, fields_text, places}
-use Rattle.mesh_canon.specs.Reading.{after, cron_at, field_at, fields_at, fields_in, number_at, then_at, values_at}
+use Rattle.mesh_canon_words.specs.Words.{after, number_at, then_at}
+use Rattle.mesh_canon.specs.Reading.{cron_at, field_at, fields_at, fields_in, values_at}
 use Rattle.mesh_canon.proofs.Numbers.{Ends, begins, number_again, text_again}
 
 -- the values of a set ascend, from low to most

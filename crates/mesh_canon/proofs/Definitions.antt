@@ -1,10 +1,11 @@
 -- Definitions and lists of texts that were written are read again.
-use Rattle.std.proofs.Common.{◌≡◌, ℕ, ◌-◌, ◌^◌, Bool, true, false, List, [], ◌∷◌, ◌++◌, Option, Some, None, refl, sym, ap, subst, ◌∙◌, append_assoc, arith}
-use Rattle.std.specs.Prelude.{ℤ, codes, IsTrue, ◌↔◌}
+use Rattle.std.proofs.Common.{◌≡◌, ℕ, ◌-◌, ◌^◌, ◌<◌, true, List, [], ◌∷◌, ◌++◌, Option, Some, None, refl, sym, ap, ◌∙◌, append_assoc, arith}
+use Rattle.std.specs.Prelude.{ℤ, codes, nat_lt}
 use Rattle.std.specs.List.{list_all}
-use Rattle.std.proofs.lemmas.Bool.{and_parts}
+use Rattle.std.proofs.lemmas.Bool.{and_parts, ltb-true}
 use Rattle.std.proofs.lemmas.List.{append-nil}
 use Rattle.mesh_values.specs.Crons.{is_cron}
+use Rattle.mesh_values.specs.Kinds.{lookback_of}
 use Rattle.mesh_values.specs.declared.times.Unit.{Unit as TimeUnit}
 use Rattle.mesh_values.specs.declared.times.Unit.TheVariants as units
 use Rattle.mesh_values.specs.declared.kinds.Kind.{Kind}
@@ -13,11 +14,13 @@ use Rattle.mesh_base.specs.declared.definitions.Decl.{Decl}
 use Rattle.mesh_base.specs.declared.definitions.Defn.{Defn}
 use Rattle.mesh_base.specs.declared.definitions.Defn.TheVariants as bodies
 use Rattle.mesh_base.specs.declared.definitions.Own.{Own}
-use Rattle.mesh_canon.specs.declared.fault.CanonFault.{CanonFault}
-use Rattle.mesh_canon_text.specs.Text.{body_text, column_text, cron_text, cte_text, kind_text, list_of, list_text, own_text, query_text, row_text, select_text, source_text, start_text, text_of, time_text, unit_word}
-use Rattle.mesh_canon.specs.Fits.{are_texts, body_fits, column_fits, is_own, kind_fits, name_fits, row_fits, source_fits, start_fits, text_fits, time_fits}
-use Rattle.mesh_canon.specs.Reading.{Refuses, after, body_at, column_at, incremental_at, kind_at, list_at, list_in, own_at, own_in, row_at, seed_at, source_at, start_at, text_at, then_at, time_at, timed_at, titled_at, unit_at, whole}
-use Rattle.mesh_canon.proofs.Numbers.{signed_again, signed_some, text_again, text_some}
+use Rattle.mesh_canon_text.specs.declared.form.Form.{Form}
+use Rattle.mesh_canon_text.specs.declared.form.Form.TheVariants as forms
+use Rattle.mesh_canon_text.specs.Text.{body_text, column_text, cron_text, cte_text, kind_by, list_of, list_text, lookback_by, own_by, query_text, row_text, select_text, source_text, start_text, text_of, time_text, unit_word}
+use Rattle.mesh_canon.specs.Fits.{Said, are_texts, body_fits, column_fits, is_own, kind_fits, name_fits, row_fits, source_fits, start_fits, text_fits, time_fits}
+use Rattle.mesh_canon_words.specs.Words.{after, text_at, then_at, unit_at}
+use Rattle.mesh_canon.specs.Reading.{body_at, column_at, incremental_at, kind_at, list_at, list_in, lookback_at, own_at, own_in, row_at, seed_at, source_at, start_at, time_at, timed_at, titled_at, whole}
+use Rattle.mesh_canon.proofs.Numbers.{number_again, signed_again, signed_some, text_again, text_some}
 use Rattle.mesh_canon.proofs.Lists.{Member, each_of, list_again}
 use Rattle.mesh_canon.proofs.Values.{column_member, name_again, row_member, text_member}
 use Rattle.mesh_canon.proofs.Crons.{cron_again}
@@ -46,12 +49,22 @@ unfolding unit_at after
 unit_again units.Hour rest = refl
 unit_again units.Day rest = refl
 
-kind_again : (k : Kind) (rest : List ℕ) → kind_fits k ≡ true → kind_at (kind_text k ++ rest) ≡ Some (k, rest)
-unfolding kind_at kind_text incremental_at after
-kind_again kinds.Full rest fits = refl
-kind_again kinds.View rest fits = refl
-kind_again kinds.Seed rest fits = refl
-kind_again (kinds.Incremental time) rest fits = rw (append_assoc (text_of time) (41 ∷ []) rest, text_again time (41 ∷ rest) fits) refl
+lookback_again : (form : Form) (n : ℕ) (rest : List ℕ) → nat_lt n (2 ^ 32) ≡ true → Said form n → lookback_at form (lookback_by form n ++ (41 ∷ rest)) ≡ Some (n, 41 ∷ rest)
+unfolding lookback_at lookback_by after
+lookback_again forms.Current n rest fits said =
+    let small : n < 2 ^ 32 = ltb-true n (2 ^ 32) fits in
+    number_again (2 ^ 32 - 1) n (41 ∷ rest) (omega arith) (omega arith) refl
+lookback_again forms.Former n rest fits said = ap (λ m. Some (m, 41 ∷ rest)) (sym said)
+
+kind_again : (form : Form) (k : Kind) (rest : List ℕ) → kind_fits k ≡ true → Said form (lookback_of k) → kind_at form (kind_by form k ++ rest) ≡ Some (k, rest)
+unfolding kind_at kind_by incremental_at after
+kind_again form kinds.Full rest fits said = refl
+kind_again form kinds.View rest fits said = refl
+kind_again form kinds.Seed rest fits said = refl
+kind_again form (kinds.Incremental time lookback) rest fits said =
+    let p = and_parts (text_fits time) (nat_lt lookback (2 ^ 32)) fits in
+    let e : (text_of time ++ (lookback_by form lookback ++ (41 ∷ []))) ++ rest ≡ text_of time ++ (lookback_by form lookback ++ (41 ∷ rest)) = simp append_assoc in
+    rw (e, text_again time (lookback_by form lookback ++ (41 ∷ rest)) p.0, lookback_again form lookback rest p.1 said) refl
 
 source_again : (d : Decl) (rest : List ℕ) → source_fits d ≡ true → source_at (source_text d ++ rest) ≡ Some (d, rest)
 unfolding source_at source_text then_at after
@@ -86,15 +99,15 @@ body_again (bodies.Sql q) rest fits =
     rw (e, query_again q rest fits) refl
 
 -- what a definition keeps, part by part
-record OwnFits (m : Own) : Type 0 where
-  name : name_fits m.name ≡ true
-  kind : kind_fits m.kind ≡ true
-  cron : is_cron m.cron ≡ true
-  start : start_fits m.start ≡ true
-  sources : list_all source_fits m.sources ≡ true
-  body : body_fits m.defn ≡ true
+pub record OwnFits (m : Own) : Type 0 where
+  pub name : name_fits m.name ≡ true
+  pub kind : kind_fits m.kind ≡ true
+  pub cron : is_cron m.cron ≡ true
+  pub start : start_fits m.start ≡ true
+  pub sources : list_all source_fits m.sources ≡ true
+  pub body : body_fits m.defn ≡ true
 
-own_parts : (m : Own) → is_own m ≡ true → OwnFits m
+pub own_parts : (m : Own) → is_own m ≡ true → OwnFits m
 unfolding is_own
 own_parts m fits =
     let a = and_parts (name_fits m.name) _ fits in
@@ -107,20 +120,20 @@ own_parts m fits =
 own_regrouped : (a b c d x y z w rest : List ℕ) → (a ++ (32 ∷ (b ++ (32 ∷ (c ++ (32 ∷ (d ++ (32 ∷ (x ++ (32 ∷ (y ++ (32 ∷ (z ++ (32 ∷ (w ++ (41 ∷ [])))))))))))))))) ++ rest ≡ a ++ (32 ∷ (b ++ (32 ∷ (c ++ (32 ∷ (d ++ (32 ∷ (x ++ (32 ∷ (y ++ (32 ∷ (z ++ (32 ∷ (w ++ (41 ∷ rest)))))))))))))))
 own_regrouped a b c d x y z w rest = simp append_assoc
 
-own_again : (m : Own) (rest : List ℕ) → is_own m ≡ true → own_at (own_text m ++ rest) ≡ Some (m, rest)
-unfolding own_at titled_at timed_at then_at own_text after
-own_again m rest fits =
+own_again : (form : Form) (m : Own) (rest : List ℕ) → is_own m ≡ true → Said form (lookback_of m.kind) → own_at form (own_by form m ++ rest) ≡ Some (m, rest)
+unfolding own_at titled_at timed_at then_at own_by after
+own_again form m rest fits said =
     let p = own_parts m fits in
     let w : List ℕ = body_text m.defn ++ (41 ∷ rest) in
     let z : List ℕ = list_of source_text m.sources ++ (32 ∷ w) in
     let y : List ℕ = start_text m.start ++ (32 ∷ z) in
     let x : List ℕ = unit_word m.unit ++ (32 ∷ y) in
     let d : List ℕ = cron_text m.cron ++ (32 ∷ x) in
-    let c : List ℕ = kind_text m.kind ++ (32 ∷ d) in
+    let c : List ℕ = kind_by form m.kind ++ (32 ∷ d) in
     rw (
-      own_regrouped (text_of m.name.schema) (text_of m.name.model) (kind_text m.kind) (cron_text m.cron) (unit_word m.unit) (start_text m.start) (list_of source_text m.sources) (body_text m.defn) rest,
+      own_regrouped (text_of m.name.schema) (text_of m.name.model) (kind_by form m.kind) (cron_text m.cron) (unit_word m.unit) (start_text m.start) (list_of source_text m.sources) (body_text m.defn) rest,
       name_again m.name (32 ∷ c) p.name,
-      kind_again m.kind (32 ∷ d) p.kind,
+      kind_again form m.kind (32 ∷ d) p.kind said,
       cron_again m.cron (32 ∷ x) p.cron,
       unit_again m.unit y,
       start_again m.start z p.start,
@@ -130,9 +143,9 @@ own_again m rest fits =
     ) refl
 
 -- the text of a definition is read as that definition
-pub own_is_read : (m : Own) → is_own m ≡ true → own_in (own_text m) ≡ Some m
+pub own_is_read : (form : Form) (m : Own) → is_own m ≡ true → Said form (lookback_of m.kind) → own_in form (own_by form m) ≡ Some m
 unfolding own_in
-own_is_read m fits = ap (λ t. whole (own_at t)) (sym (append-nil (own_text m))) ∙ rw (own_again m [] fits) refl
+own_is_read form m fits said = ap (λ t. whole (own_at form t)) (sym (append-nil (own_by form m))) ∙ rw (own_again form m [] fits said) refl
 
 -- a list of texts is read as that list
 pub list_is_read : (parts : List (List ℕ)) → are_texts parts ≡ true → list_in (list_text parts) ≡ Some parts
@@ -140,36 +153,3 @@ unfolding list_in
 list_is_read parts fits =
     ap (λ t. whole (list_at text_at t)) (sym (append-nil (list_text parts)))
     ∙ rw (list_again text_at text_of parts (each_of text_at text_of text_fits text_member parts fits) []) refl
-
-some_is : {A : Type 0} (x y : A) → ◌≡◌ {A = Option A} (Some x) (Some y) → x ≡ y
-some_is x y e = cc
-
--- definitions of one text are one
-pub same_text_same_own : (a b : Own) → is_own a ≡ true → is_own b ≡ true → own_text a ≡ own_text b → a ≡ b
-same_text_same_own a b p q e = some_is a b (sym (own_is_read a p) ∙ ap own_in e ∙ own_is_read b q)
-
-pub same_text_same_list : (a b : List (List ℕ)) → are_texts a ≡ true → are_texts b ≡ true → list_text a ≡ list_text b → a ≡ b
-same_text_same_list a b p q e = some_is a b (sym (list_is_read a p) ∙ ap list_in e ∙ list_is_read b q)
-
--- what reading refuses has no value
-pub refused : {A : Type 0} (fault : CanonFault) (read : Option A) (x : A) → Refuses fault read → read ≡ Some x → Refuses fault (Some x)
-refused fault read x r is = subst (λ (o : Option _). Refuses fault o) is r
-
-own_written : (made m : Own) (text again : List ℕ) → is_own m ≡ true → text ≡ own_text m → own_in text ≡ Some made → again ≡ own_text made → again ≡ text
-own_written made m text again fits is read e =
-    e ∙ ap own_text (some_is made m (sym read ∙ ap own_in is ∙ own_is_read m fits)) ∙ sym is
-
-list_written : (made parts : List (List ℕ)) (text again : List ℕ) → are_texts parts ≡ true → text ≡ list_text parts → list_in text ≡ Some made → again ≡ list_text made → again ≡ text
-list_written made parts text again fits is read e =
-    e ∙ ap list_text (some_is made parts (sym read ∙ ap list_in is ∙ list_is_read parts fits)) ∙ sym is
-
-differ : (same : Bool) (again text : List ℕ) → (IsTrue same ↔ (again ≡ text)) → same ≡ false → again ≡ text → ⊥
-differ true again text iff t e = absurd cc
-differ false again text iff t e = let h = iff.1 e in absurd cc
-
--- a text that is written again the same is no other's
-pub own_differs : (made m : Own) (text again : List ℕ) (same : Bool) → is_own m ≡ true → text ≡ own_text m → own_in text ≡ Some made → again ≡ own_text made → (IsTrue same ↔ (again ≡ text)) → same ≡ false → ⊥
-own_differs made m text again same fits is read e iff t = differ same again text iff t (own_written made m text again fits is read e)
-
-pub list_differs : (made parts : List (List ℕ)) (text again : List ℕ) (same : Bool) → are_texts parts ≡ true → text ≡ list_text parts → list_in text ≡ Some made → again ≡ list_text made → (IsTrue same ↔ (again ≡ text)) → same ≡ false → ⊥
-list_differs made parts text again same fits is read e iff t = differ same again text iff t (list_written made parts text again fits is read e)

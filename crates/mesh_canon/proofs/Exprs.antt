@@ -10,7 +10,8 @@ use Rattle.mesh_base.specs.declared.expressions.Expr.TheOpen.{Expr-F, When-F, Li
 use Rattle.mesh_base.specs.declared.expressions.When.{When, roll-When, map-When, fold-roll-When}
 use Rattle.mesh_canon_text.specs.Text.{agg_word, expr_here, expr_text, func_word, list_of, op_word, option_text, spaced, type_word, when_here, when_text}
 use Rattle.mesh_canon.specs.Fits.{expr_fits, fits_here, option_fits, text_fits, when_fits, when_fits_here}
-use Rattle.mesh_canon.specs.Reading.{after, any_expr_at, expr_at, list_at, option_at, when_at}
+use Rattle.mesh_canon_words.specs.Words.{after}
+use Rattle.mesh_canon.specs.Reading.{any_expr_at, expr_at, list_at, option_at, when_at}
 use Rattle.mesh_canon.proofs.Lists.{Each, Member, list_again, list_long, list_mapped, spaced_one}
 use Rattle.mesh_canon.proofs.Nodes.{Again, AgainAll, AgainWhen, agg_again, between_again, binary_again, call_again, case_again, cast_again, col_again, count_again, in_again, isnull_again, literal_again, macro_again, neg_again, not_again, when_again}
 use Rattle.mesh_canon.proofs.Values.{cell_long, cell_opens, cell_some}

@@ -6,7 +6,8 @@ use Rattle.std.proofs.lemmas.Bool.{and_parts}
 use Rattle.std.proofs.lemmas.List.{length-append}
 use Rattle.std.proofs.lemmas.List.Concat.{flat_map-cons}
 use Rattle.mesh_canon_text.specs.Text.{list_of, members, spaced}
-use Rattle.mesh_canon.specs.Reading.{after, list_at, members_at, more_at}
+use Rattle.mesh_canon_words.specs.Words.{after}
+use Rattle.mesh_canon.specs.Reading.{list_at, members_at, more_at}
 
 -- a member doesn't begin as a list ends, and is read again
 pub record Member {A : Type 0} (read : List ℕ → Option (A × List ℕ)) (text : A → List ℕ) (x : A) : Type 0 where

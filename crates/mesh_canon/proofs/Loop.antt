@@ -2,9 +2,10 @@
 use Rattle.std.proofs.Common.{◌≡◌, ℕ, zero, suc, ◌-◌, ◌+◌, ◌≤◌, ◌<◌, List, [], ◌∷◌, ◌++◌, Option, Some, None, refl, sym, ap, ◌∙◌, append_assoc, arith}
 use Rattle.std.proofs.lemmas.List.{append-nil}
 use Rattle.std.specs.Prelude.{codes}
-use Rattle.mesh_canon.specs.declared.fault.CanonFault.{CanonFault}
-use Rattle.mesh_canon.specs.declared.fault.CanonFault.TheVariants as faults
-use Rattle.mesh_canon.specs.Reading.{◌>>=◌, Refuses, after, more_at, none_or, with_front}
+use Rattle.mesh_canon_words.specs.declared.fault.CanonFault.{CanonFault}
+use Rattle.mesh_canon_words.specs.declared.fault.CanonFault.TheVariants as faults
+use Rattle.mesh_canon_words.specs.Words.{◌>>=◌, Refuses, after}
+use Rattle.mesh_canon.specs.Reading.{more_at, none_or, with_front}
 
 module _ {A : Type 0} (read : List ℕ → Option (A × List ℕ)) where
   -- one member, and then what follows it

@@ -15,12 +15,13 @@ use Rattle.mesh_base.specs.declared.expressions.Var.TheVariants as macros
 use Rattle.mesh_base.specs.declared.expressions.Expr.{Expr}
 use Rattle.mesh_base.specs.declared.expressions.Expr.TheVariants as exprs
 use Rattle.mesh_base.specs.declared.expressions.When.{When}
-use Rattle.mesh_canon.specs.declared.heads.CellHead.{CellHead}
-use Rattle.mesh_canon.specs.declared.heads.Head.{Head}
-use Rattle.mesh_canon.specs.declared.heads.Head.TheVariants as heads
+use Rattle.mesh_canon_words.specs.declared.heads.CellHead.{CellHead}
+use Rattle.mesh_canon_words.specs.declared.heads.Head.{Head}
+use Rattle.mesh_canon_words.specs.declared.heads.Head.TheVariants as heads
 use Rattle.mesh_canon_text.specs.Text.{◌·◌, agg_word, cell_text, func_word, macro_word, op_word, text_of, type_word}
 use Rattle.mesh_canon.specs.Fits.{cell_fits, text_fits}
-use Rattle.mesh_canon.specs.Reading.{◌>>=◌, after, agg_at, agg_parts_at, bare_head_at, between_at, binary_at, call_at, call_head_at, case_at, cast_at, cell_at, cell_head_at, cell_parts_at, col_at, compare_op_at, count_at, end_var_at, equal_op_at, expr_at, func_at, head_at, list_at, literal_at, macro_at, many_func_at, node_head_at, number_op_at, one_func_at, one_of_at, op_head_at, or_else, order_op_at, parts_at, plain_head_at, start_var_at, test_head_at, then_at, truth_op_at, valued_head_at, variable_at, when_at}
+use Rattle.mesh_canon_words.specs.Words.{◌>>=◌, after, agg_at, bare_head_at, call_head_at, cell_head_at, compare_op_at, end_var_at, equal_op_at, func_at, head_at, macro_at, many_func_at, node_head_at, number_op_at, one_func_at, op_head_at, or_else, order_op_at, plain_head_at, start_var_at, test_head_at, then_at, truth_op_at, valued_head_at}
+use Rattle.mesh_canon.specs.Reading.{agg_parts_at, between_at, binary_at, call_at, case_at, cast_at, cell_at, cell_parts_at, col_at, count_at, expr_at, list_at, literal_at, one_of_at, parts_at, variable_at, when_at}
 use Rattle.mesh_canon.proofs.Numbers.{number_again, text_again}
 use Rattle.mesh_canon.proofs.Values.{cell_again, type_again}
 

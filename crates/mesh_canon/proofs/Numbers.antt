@@ -8,7 +8,7 @@ use Rattle.std.proofs.lemmas.Fmt.{decimal_by_steps, decimal_digit}
 use Rattle.std.proofs.lemmas.List.{take_at, drop_at, length-append}
 use Rattle.mesh_canon_text.specs.Text.{text_of}
 use Rattle.mesh_canon.specs.Fits.{signed_fits, text_fits}
-use Rattle.mesh_canon.specs.Reading.{after, digits_at, number_at, signed_at, text_at}
+use Rattle.mesh_canon_words.specs.Words.{after, digits_at, number_at, signed_at, text_at}
 
 -- no digit comes
 abbrev pub Ends : List ℕ → Type 0

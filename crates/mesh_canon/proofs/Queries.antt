@@ -13,7 +13,8 @@ use Rattle.mesh_base.specs.declared.queries.Select.{Select}
 use Rattle.mesh_base.specs.declared.queries.Query.{Query}
 use Rattle.mesh_canon_text.specs.Text.{cte_text, distinct_word, expr_text, from_text, grouped_word, item_text, join_word, list_of, option_text, rel_text, select_text, text_of, type_word}
 use Rattle.mesh_canon.specs.Fits.{cte_fits, expr_fits, from_fits, item_fits, option_fits, query_fits, rel_fits, select_fits, text_fits}
-use Rattle.mesh_canon.specs.Reading.{after, any_expr_at, cte_at, distinct_at, filters_at, from_at, grouped_at, item_at, join_at, modes_at, named_at, place_at, query_at, rel_at, select_at, tables_at, then_at}
+use Rattle.mesh_canon_words.specs.Words.{after, distinct_at, grouped_at, join_at, then_at}
+use Rattle.mesh_canon.specs.Reading.{any_expr_at, cte_at, filters_at, from_at, item_at, modes_at, named_at, place_at, query_at, rel_at, select_at, tables_at}
 use Rattle.mesh_canon.proofs.Numbers.{number_again, text_again}
 use Rattle.mesh_canon.proofs.Lists.{Member, each_of, list_again}
 use Rattle.mesh_canon.proofs.Values.{name_again, type_again}

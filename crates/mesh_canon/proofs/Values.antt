@@ -11,7 +11,8 @@ use Rattle.mesh_values.specs.declared.values.Column.{Column}
 use Rattle.mesh_values.specs.declared.values.Name.{Name}
 use Rattle.mesh_canon_text.specs.Text.{cell_text, column_text, row_text, text_of, type_word}
 use Rattle.mesh_canon.specs.Fits.{cell_fits, column_fits, name_fits, row_fits, text_fits}
-use Rattle.mesh_canon.specs.Reading.{after, bare_head_at, cell_at, cell_head_at, cell_parts_at, column_at, name_at, row_at, text_at, then_at, type_at, valued_head_at}
+use Rattle.mesh_canon_words.specs.Words.{after, bare_head_at, cell_head_at, text_at, then_at, type_at, valued_head_at}
+use Rattle.mesh_canon.specs.Reading.{cell_at, cell_parts_at, column_at, name_at, row_at}
 use Rattle.mesh_canon.proofs.Numbers.{signed_again, text_again, text_opens}
 use Rattle.mesh_canon.proofs.Lists.{Member, each_of, list_again, list_opens}
 

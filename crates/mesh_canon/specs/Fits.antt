@@ -1,6 +1,6 @@
 -- What a definition that a program holds keeps: its numbers are those of their types, its texts are no longer than
 -- memory, and its cron is one.
-use Rattle.std.specs.Prelude.{ℕ, ℤ, pos, negsuc, ◌-◌, ◌^◌, Bool, true, ◌&&◌, nat_le, nat_lt, List, length, Some, None}
+use Rattle.std.specs.Prelude.{◌≡◌, ℕ, ℤ, pos, negsuc, ◌-◌, ◌^◌, Bool, true, ◌&&◌, nat_le, nat_lt, List, length, Some, None}
 use Rattle.std.specs.List.{list_all}
 use Rattle.std.specs.declared.option.Option.{Option}
 use Rattle.mesh_values.specs.Crons.{is_cron}
@@ -23,6 +23,8 @@ use Rattle.mesh_base.specs.declared.definitions.Decl.{Decl}
 use Rattle.mesh_base.specs.declared.definitions.Defn.{Defn}
 use Rattle.mesh_base.specs.declared.definitions.Defn.TheVariants as bodies
 use Rattle.mesh_base.specs.declared.definitions.Own.{Own}
+use Rattle.mesh_canon_text.specs.declared.form.Form.{Form}
+use Rattle.mesh_canon_text.specs.declared.form.Form.TheVariants as forms
 
 abbrev pub text_fits : List ℕ → Bool
 text_fits t = nat_lt (length t) (2 ^ 64)
@@ -114,7 +116,12 @@ abbrev pub kind_fits : Kind → Bool
 kind_fits kinds.Full = true
 kind_fits kinds.View = true
 kind_fits kinds.Seed = true
-kind_fits (kinds.Incremental time) = text_fits time
+kind_fits (kinds.Incremental time lookback) = text_fits time && nat_lt lookback (2 ^ 32)
+
+-- a lookback that a form's text says: the former one says only that there is none
+abbrev pub Said : Form → ℕ → Type 0
+Said forms.Current lookback = Unit {0}
+Said forms.Former lookback = lookback ≡ 0
 
 abbrev pub start_fits : Option ℤ → Bool
 start_fits None = true

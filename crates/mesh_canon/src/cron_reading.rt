@@ -1,10 +1,10 @@
 // Crons, read.
 ghost use Rattle.std.specs.Prelude.{◌≡◌, ◌≤◌, ◌<◌, ◌+◌, ◌^◌, ◌&&◌, codes, nat_lt, IfOk};
 ghost use Rattle.mesh_values.specs.Crons.{count_below, has, has_date, has_day, is_cron, is_set, is_single, longest, some_below};
-ghost use Rattle.mesh_canon.specs.Reading.{Gives, sets_of, checked, cron_at, field_at, fields_at, fields_in, then_at, values_at};
+ghost use Rattle.mesh_canon_words.specs.Words.{Gives, then_at};
+ghost use Rattle.mesh_canon.specs.Reading.{sets_of, checked, cron_at, field_at, fields_at, fields_in, values_at};
 
-use crate::fault::CanonFault;
-use crate::words::{after, expect, number, text};
+use mesh_canon_words::{CanonFault, after, expect, number, text};
 use mesh_values::Cron;
 use std::alloc::Global;
 
@@ -73,7 +73,7 @@ fn read_fields(bytes: &[u8]) -> Result<(Fields, &[u8]), CanonFault>
 }
 
 // A field and a space.
-#[tactic(auto, unfolding(crate::specs::Reading::then_at))]
+#[tactic(auto, unfolding(mesh_canon_words::specs::Words::then_at))]
 fn field_then_space(bytes: &[u8], each: u64, most: u64) -> Result<((u64, bool), &[u8]), CanonFault>
     requires { most < 60 }
     ensures { Gives (λ x. (x.0, x.1.now)) result (then_at (codes " ") (field_at each most) bytes.now) }

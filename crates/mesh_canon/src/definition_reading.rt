@@ -1,22 +1,25 @@
 // Definitions, read, and lists of texts.
-ghost use Rattle.std.specs.Prelude.{◌≡◌, ◌↔◌, ℕ, List, true, IfOk, IsTrue};
+ghost use Rattle.std.specs.Prelude.{◌≡◌, ℕ, List, true, IfOk};
 ghost use Rattle.mesh_base.specs.declared.definitions.Own.{Own};
-ghost use Rattle.mesh_canon.specs.Fits.{are_texts, is_own};
-ghost use Rattle.mesh_canon_text.specs.Text.{list_text, own_text};
-ghost use Rattle.mesh_canon.specs.Reading.{Gives, body_at, incremental_at, kind_at, list_in, own_at, own_in, seed_at, sets_of, source_at, start_at, time_at, timed_at, titled_at};
+ghost use Rattle.mesh_values.specs.Kinds.{lookback_of};
+ghost use Rattle.mesh_canon.specs.Fits.{Said, are_texts, is_own};
+ghost use Rattle.mesh_canon_text.specs.Text.{list_text, own_by, own_text, own_text_old};
+ghost use Rattle.mesh_canon_words.specs.Words.{Gives};
+ghost use Rattle.mesh_canon.specs.Reading.{body_at, incremental_at, kind_at, list_in, lookback_at, own_at, own_in, seed_at, sets_of, source_at, start_at, time_at, timed_at, titled_at};
 
 use crate::cron_reading::{Fields, cron_fields, made};
 use crate::depth::is_too_deep;
-use crate::fault::CanonFault;
-use crate::heads::unit;
 use crate::query_reading::query;
 use crate::read::{Readable, list, list_then};
+use crate::same::is_same;
 use crate::value_reading::{day, name_then_space};
-use crate::words::{after, expect, text};
 use mesh_base::{Decl, Defn, Own};
-use mesh_canon_text::{list_text, own_text};
+use mesh_canon_text::{Form, list_text, own_by};
+use mesh_canon_words::{CanonFault, after, expect, number, text, unit};
 use mesh_values::{Kind, Name, Str, Strs, Unit};
 use std::alloc::Global;
+
+const MOST_LOOKBACK: u64 = 0xffff_ffff;
 
 #[tactic(auto, unfolding(crate::specs::Reading::time_at))]
 fn time(alloc: Global, bytes: &[u8]) -> Result<(Option<Str>, &[u8]), CanonFault>
@@ -82,19 +85,35 @@ fn body(alloc: Global, bytes: &[u8]) -> Result<(Defn, &[u8]), CanonFault>
     Ok((Defn::Sql(query), rest))
 }
 
+// The lookback behind a time column, where it is said.
+#[tactic(auto, unfolding(crate::specs::Reading::lookback_at))]
+fn lookback(form: Form, bytes: &[u8]) -> Result<(u32, &[u8]), CanonFault>
+    ensures { Gives (λ x. (x.0, x.1.now)) result (lookback_at form bytes.now) }
+{
+    match form {
+        Form::Former => Ok((0, bytes)),
+        Form::Current => {
+            let rest = expect(bytes, b" ")?;
+            let (lookback, rest) = number(rest, MOST_LOOKBACK)?;
+            Ok((lookback as u32, rest))
+        }
+    }
+}
+
 #[tactic(auto, unfolding(crate::specs::Reading::incremental_at))]
-fn incremental(alloc: Global, bytes: &[u8]) -> Result<(Kind, &[u8]), CanonFault>
-    ensures { Gives (λ x. (x.0, x.1.now)) result (incremental_at bytes.now) }
+fn incremental(alloc: Global, form: Form, bytes: &[u8]) -> Result<(Kind, &[u8]), CanonFault>
+    ensures { Gives (λ x. (x.0, x.1.now)) result (incremental_at form bytes.now) }
 {
     let rest = expect(bytes, b"(incremental ")?;
     let (time, rest) = text(alloc, rest)?;
+    let (lookback, rest) = lookback(form, rest)?;
     let rest = expect(rest, b")")?;
-    Ok((Kind::Incremental { time }, rest))
+    Ok((Kind::Incremental { time, lookback }, rest))
 }
 
 #[tactic(auto, unfolding(crate::specs::Reading::kind_at))]
-fn kind(alloc: Global, bytes: &[u8]) -> Result<(Kind, &[u8]), CanonFault>
-    ensures { Gives (λ x. (x.0, x.1.now)) result (kind_at bytes.now) }
+fn kind(alloc: Global, form: Form, bytes: &[u8]) -> Result<(Kind, &[u8]), CanonFault>
+    ensures { Gives (λ x. (x.0, x.1.now)) result (kind_at form bytes.now) }
 {
     if let Some(rest) = after(bytes, b"(full)") {
         return Ok((Kind::Full, rest));
@@ -105,17 +124,17 @@ fn kind(alloc: Global, bytes: &[u8]) -> Result<(Kind, &[u8]), CanonFault>
     if let Some(rest) = after(bytes, b"(seed)") {
         return Ok((Kind::Seed, rest));
     }
-    incremental(alloc, bytes)
+    incremental(alloc, form, bytes)
 }
 
 // The name and the kind of a definition, behind its word.
 #[tactic(auto, unfolding(crate::specs::Reading::titled_at))]
-fn titled(alloc: Global, bytes: &[u8]) -> Result<((Name, Kind), &[u8]), CanonFault>
-    ensures { Gives (λ x. (x.0, x.1.now)) result (titled_at bytes.now) }
+fn titled(alloc: Global, form: Form, bytes: &[u8]) -> Result<((Name, Kind), &[u8]), CanonFault>
+    ensures { Gives (λ x. (x.0, x.1.now)) result (titled_at form bytes.now) }
 {
     let rest = expect(bytes, b"(own ")?;
     let (name, rest) = name_then_space(alloc, rest)?;
-    let (kind, rest) = kind(alloc, rest)?;
+    let (kind, rest) = kind(alloc, form, rest)?;
     let rest = expect(rest, b" ")?;
     Ok(((name, kind), rest))
 }
@@ -136,10 +155,10 @@ fn timed(alloc: Global, bytes: &[u8]) -> Result<(((Fields, Unit), Option<i32>), 
 }
 
 #[tactic(auto, unfolding(crate::specs::Reading::own_at))]
-fn own(alloc: Global, bytes: &[u8]) -> Result<(Own, &[u8]), CanonFault>
-    ensures { Gives (λ x. (x.0, x.1.now)) result (own_at bytes.now) }
+fn own(alloc: Global, form: Form, bytes: &[u8]) -> Result<(Own, &[u8]), CanonFault>
+    ensures { Gives (λ x. (x.0, x.1.now)) result (own_at form bytes.now) }
 {
-    let ((name, kind), rest) = titled(alloc, bytes)?;
+    let ((name, kind), rest) = titled(alloc, form, bytes)?;
     let (((fields, unit), start), rest) = timed(alloc, rest)?;
     let cron = made(&fields)?;
     let (sources, rest) = list_then(alloc, rest, b" ")?;
@@ -158,10 +177,10 @@ fn own(alloc: Global, bytes: &[u8]) -> Result<(Own, &[u8]), CanonFault>
 }
 
 #[tactic(auto, unfolding(crate::specs::Reading::own_in))]
-fn whole_own(alloc: Global, bytes: &[u8]) -> Result<Own, CanonFault>
-    ensures { Gives (λ m. m) result (own_in bytes.now) }
+fn whole_own(alloc: Global, form: Form, bytes: &[u8]) -> Result<Own, CanonFault>
+    ensures { Gives (λ m. m) result (own_in form bytes.now) }
 {
-    let (made, rest) = own(alloc, bytes)?;
+    let (made, rest) = own(alloc, form, bytes)?;
     match rest {
         [] => Ok(made),
         [_, ..] => Err(CanonFault::NotCanonical),
@@ -179,10 +198,22 @@ fn whole_list(alloc: Global, bytes: &[u8]) -> Result<Strs, CanonFault>
     }
 }
 
-fn is_same(left: &[u8], right: &[u8]) -> bool
-    ensures { IsTrue result ↔ (left.now ≡ right.now) }
+// The definition that has this text in a form. What is read is written again and compared.
+fn read_by(alloc: Global, form: Form, text: &[u8]) -> Result<Own, CanonFault>
+    ensures found { IfOk result (λ m. text.now ≡ own_by form m) }
+    ensures said { IfOk result (λ m. Said form (lookback_of m.kind)) }
+    ensures only { (m : Own) → is_own m ≡ true → Said form (lookback_of m.kind) → text.now ≡ own_by form m → Gives (λ x. x) result (Some m) }
 {
-    left == right
+    if is_too_deep(text) {
+        return Err(CanonFault::Memory);
+    }
+    let made = whole_own(alloc, form, text)?;
+    let again = own_by(alloc, form, &made)?;
+    if is_same(again.as_slice(), text) {
+        Ok(made)
+    } else {
+        Err(CanonFault::NotCanonical)
+    }
 }
 
 /// The definition that has this canonical text. What is read is written again and compared. Expressions are read by
@@ -194,16 +225,20 @@ pub fn read_own(alloc: Global, text: &[u8]) -> Result<Own, CanonFault>
     // A definition that has this text is read, unless memory runs out.
     ensures only { (m : Own) → is_own m ≡ true → text.now ≡ own_text m → Gives (λ x. x) result (Some m) }
 {
-    if is_too_deep(text) {
-        return Err(CanonFault::Memory);
-    }
-    let made = whole_own(alloc, text)?;
-    let again = own_text(alloc, &made)?;
-    if is_same(again.as_slice(), text) {
-        Ok(made)
-    } else {
-        Err(CanonFault::NotCanonical)
-    }
+    read_by(alloc, Form::Current, text)
+}
+
+/// The definition that has this text as its former one, as stored warehouses have it that were written before kinds said
+/// a lookback. A text that nests too deep is refused as `read_own` refuses it.
+pub fn read_own_old(alloc: Global, text: &[u8]) -> Result<Own, CanonFault>
+    // What is read has this former text.
+    ensures found { IfOk result (λ m. text.now ≡ own_text_old m) }
+    // It has no lookback.
+    ensures none { IfOk result (λ m. lookback_of m.kind ≡ 0) }
+    // A definition without a lookback that has this former text is read, unless memory runs out.
+    ensures only { (m : Own) → is_own m ≡ true → lookback_of m.kind ≡ 0 → text.now ≡ own_text_old m → Gives (λ x. x) result (Some m) }
+{
+    read_by(alloc, Form::Former, text)
 }
 
 /// The texts that have this text as a list.

@@ -1,13 +1,15 @@
 // Expressions, read. The functions call one another, as the types lead to one another.
 ghost use Rattle.std.specs.Prelude.{◌≡◌, length};
-ghost use Rattle.mesh_canon.specs.Reading.{Gives, agg_parts_at, any_expr_at, between_at, binary_at, call_at, case_at, cast_at, col_at, count_at, expr_at, list_at, literal_at, members_at, more_at, one_of_at, option_at, parts_at, then_at, variable_at, when_at, with_front};
+ghost use Rattle.mesh_canon_words.specs.Words.{Gives, then_at};
+ghost use Rattle.mesh_canon.specs.Reading.{agg_parts_at, any_expr_at, between_at, binary_at, call_at, case_at, cast_at, col_at, count_at, expr_at, list_at, literal_at, members_at, more_at, one_of_at, option_at, parts_at, variable_at, when_at, with_front};
 
-use crate::fault::CanonFault;
-use crate::heads::{CellHead, Head, aggregate, any_head, func, macro_var, type_then};
 use crate::read::Readable;
 use crate::value_reading::cell_parts;
-use crate::words::{after, expect, number, text_then};
 use mesh_base::{Expr, Exprs, Op, When, Whens};
+use mesh_canon_words::{
+    CanonFault, CellHead, Head, after, aggregate, any_head, expect, func, macro_var, number,
+    text_then, type_then,
+};
 use mesh_list::{Boxed, Seq};
 use std::alloc::Global;
 
@@ -101,7 +103,7 @@ fn col(alloc: Global, bytes: &[u8]) -> Result<(Expr, &[u8]), CanonFault>
 
 // An expression and the sign behind it.
 #[cycle(read)]
-#[tactic(auto, unfolding(crate::specs::Reading::then_at))]
+#[tactic(auto, unfolding(mesh_canon_words::specs::Words::then_at))]
 fn expr_then<'a>(
     alloc: Global,
     depth: usize,
@@ -304,7 +306,7 @@ impl Readable for Expr {
 }
 
 /// An expression or `none`, and the sign behind it.
-#[tactic(auto, unfolding(crate::specs::Reading::then_at))]
+#[tactic(auto, unfolding(mesh_canon_words::specs::Words::then_at))]
 pub(crate) fn option_then<'a>(
     alloc: Global,
     bytes: &'a [u8],

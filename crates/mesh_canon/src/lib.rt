@@ -1,22 +1,23 @@
 //! The canonical text of a definition, both ways: the bytes that a model's fingerprint is made of and that a stored
 //! warehouse keeps. Its contract: `own_text` and `node_text` are the text that `mesh_canon_text/specs/Text.antt` spells
-//! out, `read_own` answers exactly the definition that a text is the text of, and two definitions of one text are
-//! equal. It stands on `mesh_list`, `mesh_values`, `mesh_base`, `mesh_canon_text` and `thiserror`.
+//! out, `read_own` answers exactly the definition that a text is the text of, `read_own_old` the one that it is the former
+//! text of, and two definitions of one text are equal. It stands on `mesh_list`, `mesh_values`, `mesh_base`,
+//! `mesh_canon_text` and `mesh_canon_words`.
 #![tactic(auto)]
 
 mod cron_reading;
 mod definition_reading;
 mod depth;
 mod expression_reading;
-mod fault;
-mod heads;
 mod laws;
+mod lone_reading;
 mod query_reading;
 mod read;
+mod same;
 mod value_reading;
-mod words;
 
-pub use definition_reading::{read_list, read_own};
-pub use fault::CanonFault;
+pub use definition_reading::{read_list, read_own, read_own_old};
 pub use laws::one_text_one_value;
-pub use mesh_canon_text::{list_text, node_text, own_text};
+pub use lone_reading::{read_cell, read_type};
+pub use mesh_canon_text::{cell_text, list_text, node_text, own_text, own_text_old, type_text};
+pub use mesh_canon_words::CanonFault;

@@ -1,14 +1,15 @@
 // Queries, read.
 ghost use Rattle.std.specs.Prelude.{◌≡◌, codes};
-ghost use Rattle.mesh_canon.specs.Reading.{Gives, cte_at, filters_at, from_at, item_at, modes_at, named_at, place_at, query_at, rel_at, select_at, tables_at, then_at};
+ghost use Rattle.mesh_canon_words.specs.Words.{Gives, then_at};
+ghost use Rattle.mesh_canon.specs.Reading.{cte_at, filters_at, from_at, item_at, modes_at, named_at, place_at, query_at, rel_at, select_at, tables_at};
 
 use crate::expression_reading::option_then;
-use crate::fault::CanonFault;
-use crate::heads::{distinct, grouped, join, type_then};
 use crate::read::{Readable, list, list_then, part};
 use crate::value_reading::name;
-use crate::words::{after, expect, number, text_then};
 use mesh_base::{Expr, Exprs, FromItem, Froms, Item, Items, Query, Rel, Select, Selects};
+use mesh_canon_words::{
+    CanonFault, after, distinct, expect, grouped, join, number, text_then, type_then,
+};
 use std::alloc::Global;
 
 const MOST_PLACE: u64 = 0xffff_ffff;
@@ -55,7 +56,7 @@ fn rel(alloc: Global, bytes: &[u8]) -> Result<(Rel, &[u8]), CanonFault>
     place(rest)
 }
 
-#[tactic(auto, unfolding(crate::specs::Reading::then_at))]
+#[tactic(auto, unfolding(mesh_canon_words::specs::Words::then_at))]
 fn rel_then_space(alloc: Global, bytes: &[u8]) -> Result<(Rel, &[u8]), CanonFault>
     ensures { Gives (λ x. (x.0, x.1.now)) result (then_at (codes " ") rel_at bytes.now) }
 {

@@ -1,9 +1,9 @@
 // What is read, and lists of it.
 ghost use Rattle.std.specs.Prelude.{◌≡◌, ◌-◌, ℕ, List, Option, length};
-ghost use Rattle.mesh_canon.specs.Reading.{Gives, list_at, members_at, more_at, then_at, with_front};
+ghost use Rattle.mesh_canon_words.specs.Words.{Gives, then_at};
+ghost use Rattle.mesh_canon.specs.Reading.{list_at, members_at, more_at, with_front};
 
-use crate::fault::CanonFault;
-use crate::words::{after, expect};
+use mesh_canon_words::{CanonFault, after, expect};
 use mesh_list::Seq;
 use std::alloc::Global;
 
@@ -17,7 +17,7 @@ pub(crate) trait Readable: Drop {
 }
 
 /// A value and the sign behind it.
-#[tactic(auto, unfolding(crate::specs::Reading::then_at))]
+#[tactic(auto, unfolding(mesh_canon_words::specs::Words::then_at))]
 pub(crate) fn part<'a, T: Readable>(
     alloc: Global,
     bytes: &'a [u8],
@@ -31,7 +31,7 @@ pub(crate) fn part<'a, T: Readable>(
 }
 
 /// A list in brackets and the sign behind it.
-#[tactic(auto, unfolding(crate::specs::Reading::then_at))]
+#[tactic(auto, unfolding(mesh_canon_words::specs::Words::then_at))]
 pub(crate) fn list_then<'a, T: Readable>(
     alloc: Global,
     bytes: &'a [u8],

@@ -1,11 +1,12 @@
 // Cells, rows, columns and names, read.
 ghost use Rattle.std.specs.Prelude.{◌≡◌, ◌-◌, ◌^◌, codes};
-ghost use Rattle.mesh_canon.specs.Reading.{Gives, cell_at, cell_parts_at, column_at, date_at, int_at, name_at, row_at, signed_at, text_at, text_cell_at, then_at};
+ghost use Rattle.mesh_canon_words.specs.Words.{Gives, signed_at, text_at, then_at};
+ghost use Rattle.mesh_canon.specs.Reading.{cell_at, cell_parts_at, column_at, date_at, int_at, name_at, row_at, text_cell_at};
 
-use crate::fault::CanonFault;
-use crate::heads::{CellHead, cell_head, type_then};
 use crate::read::{Readable, list};
-use crate::words::{expect, signed, text, text_then};
+use mesh_canon_words::{
+    CanonFault, CellHead, cell_head, expect, signed, text, text_then, type_then,
+};
 use mesh_values::{Cell, Column, Name, Row, Str};
 use std::alloc::Global;
 
@@ -116,7 +117,7 @@ pub(crate) fn name(alloc: Global, bytes: &[u8]) -> Result<(Name, &[u8]), CanonFa
 }
 
 /// A schema, a model and a space.
-#[tactic(auto, unfolding(crate::specs::Reading::then_at))]
+#[tactic(auto, unfolding(mesh_canon_words::specs::Words::then_at))]
 pub(crate) fn name_then_space(alloc: Global, bytes: &[u8]) -> Result<(Name, &[u8]), CanonFault>
     ensures { Gives (λ x. (x.0, x.1.now)) result (then_at (codes " ") name_at bytes.now) }
 {

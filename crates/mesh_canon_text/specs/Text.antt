@@ -1,4 +1,4 @@
--- The canonical text of a definition: one small definition for each kind of thing.
+-- The canonical text of a definition, and its former text: one small definition for each kind of thing.
 use Rattle.std.specs.Prelude.{ℕ, ℤ, zero, suc, ◌+◌, ◌/◌, ◌%◌, ◌==◌, Bool, true, false, if◌then◌else◌, List, [], ◌∷◌, ◌++◌, length, codes, Some, None}
 use Rattle.std.specs.List.{flat_map}
 use Rattle.std.specs.Fmt.{decimal, signed_decimal}
@@ -38,6 +38,8 @@ use Rattle.mesh_base.specs.declared.definitions.Defn.{Defn}
 use Rattle.mesh_base.specs.declared.definitions.Defn.TheVariants as bodies
 use Rattle.mesh_base.specs.declared.definitions.Own.{Own}
 use Rattle.mesh_base.specs.declared.snapshots.Ref.{Ref}
+use Rattle.mesh_canon_text.specs.declared.form.Form.{Form}
+use Rattle.mesh_canon_text.specs.declared.form.Form.TheVariants as forms
 
 -- some bytes and then others
 infixr 30 ◌·◌
@@ -70,12 +72,18 @@ list_of f xs = codes "[" · members f xs · codes "]"
 abbrev pub list_text : List (List ℕ) → List ℕ
 list_text = list_of text_of
 
+-- a lookback behind the time column: the former text has none
+unfoldable pub lookback_by : Form → ℕ → List ℕ
+lookback_by forms.Current lookback = codes " " · decimal lookback
+lookback_by forms.Former lookback = []
+
 -- how a model's rows are kept
-unfoldable pub kind_text : Kind → List ℕ
-kind_text kinds.Full = codes "(full)"
-kind_text kinds.View = codes "(view)"
-kind_text kinds.Seed = codes "(seed)"
-kind_text (kinds.Incremental time) = codes "(incremental " · text_of time · codes ")"
+unfoldable pub kind_by : Form → Kind → List ℕ
+kind_by form kinds.Full = codes "(full)"
+kind_by form kinds.View = codes "(view)"
+kind_by form kinds.Seed = codes "(seed)"
+kind_by form (kinds.Incremental time lookback) =
+    codes "(incremental " · text_of time · lookback_by form lookback · codes ")"
 
 -- the places of the digits that are 1 among the first n binary digits of a number, counted from a place
 unfoldable pub places : ℕ → ℕ → ℕ → List ℕ
@@ -264,12 +272,20 @@ body_text (bodies.Seed columns rows) =
     codes "(seed " · list_of column_text columns · codes " " · list_of row_text rows · codes ")"
 body_text (bodies.Sql query) = query_text query
 
--- a definition
-unfoldable pub own_text : Own → List ℕ
-own_text m =
-    codes "(own " · text_of m.name.schema · codes " " · text_of m.name.model · codes " " · kind_text m.kind
+-- a definition, in one form or the other
+unfoldable pub own_by : Form → Own → List ℕ
+own_by form m =
+    codes "(own " · text_of m.name.schema · codes " " · text_of m.name.model · codes " " · kind_by form m.kind
     · codes " " · cron_text m.cron · codes " " · unit_word m.unit · codes " " · start_text m.start
     · codes " " · list_of source_text m.sources · codes " " · body_text m.defn · codes ")"
+
+-- the canonical text of a definition
+abbrev pub own_text : Own → List ℕ
+own_text = own_by forms.Current
+
+-- its text before kinds had a lookback
+abbrev pub own_text_old : Own → List ℕ
+own_text_old = own_by forms.Former
 
 -- a parent's line
 unfoldable pub parent_text : Ref → List ℕ

@@ -2,10 +2,11 @@
 ghost use Rattle.std.specs.Prelude.{◌≡◌, ◌++◌, codes, IfOk, OnOk};
 ghost use Rattle.std.specs.List.{flat_map};
 ghost use Rattle.hex.specs.Hex.{encode_lower};
-ghost use Rattle.mesh_canon_text.specs.Text.{◌·◌, body_text, cron_text, kind_text, list_of, list_text, node_text, own_text, parent_text, source_text, start_text, text_of, time_text, unit_word};
+ghost use Rattle.mesh_canon_text.specs.Text.{◌·◌, body_text, cron_text, kind_by, list_of, list_text, lookback_by, node_text, own_by, own_text, own_text_old, parent_text, source_text, start_text, text_of, time_text, unit_word};
 
 use crate::cron_text::put_cron;
-use crate::number_text::{put, put_signed, put_text};
+use crate::form::Form;
+use crate::number_text::{put, put_number, put_signed, put_text};
 use crate::query_text::put_query;
 use crate::value_text::put_name;
 use crate::written::{Written, put_list};
@@ -14,21 +15,46 @@ use mesh_list::{Memory, Seq};
 use mesh_values::{Kind, Str, Strs, Unit};
 use std::alloc::Global;
 
-#[tactic(auto, unfolding(crate::specs::Text::kind_text))]
-fn put_kind(out: &mut Vec<u8>, kind: &Kind) -> Result<(), Memory>
-    ensures { OnOk result (out.new.items ≡ out.old.items ++ kind_text kind.now) }
+// The lookback behind a time column, where it is said.
+#[tactic(auto, unfolding(crate::specs::Text::lookback_by))]
+fn put_lookback(out: &mut Vec<u8>, form: Form, lookback: u32) -> Result<(), Memory>
+    ensures { OnOk result (out.new.items ≡ out.old.items ++ lookback_by form lookback) }
 {
-    match kind {
-        Kind::Full => out.extend_from_slice(b"(full)")?,
-        Kind::View => out.extend_from_slice(b"(view)")?,
-        Kind::Seed => out.extend_from_slice(b"(seed)")?,
-        Kind::Incremental { time } => {
-            out.extend_from_slice(b"(incremental ")?;
-            put_text(out, time.as_slice())?;
-            out.push(b')')?;
+    match form {
+        Form::Former => Ok(()),
+        Form::Current => {
+            out.push(b' ')?;
+            put_number(out, u64::from(lookback))
         }
     }
+}
+
+// The node of an incremental kind.
+fn put_incremental(out: &mut Vec<u8>, form: Form, time: &[u8], lookback: u32) -> Result<(), Memory>
+    ensures { OnOk result (out.new.items ≡ out.old.items ++ (codes "(incremental " · text_of time.now · lookback_by form lookback · codes ")")) }
+{
+    put(out, b"(incremental ")?;
+    put_text(out, time)?;
+    put_lookback(out, form, lookback)?;
+    put(out, b")")?;
     Ok(())
+}
+
+#[tactic(auto, unfolding(crate::specs::Text::kind_by))]
+fn put_kind(out: &mut Vec<u8>, form: Form, kind: &Kind) -> Result<(), Memory>
+    ensures { OnOk result (out.new.items ≡ out.old.items ++ kind_by form kind.now) }
+{
+    match kind {
+        Kind::Full => put(out, b"(full)"),
+        Kind::View => put(out, b"(view)"),
+        Kind::Seed => put(out, b"(seed)"),
+        Kind::Incremental { time, lookback } => put_incremental(
+            out,
+            form,
+            time.as_slice(),
+            *lookback,
+        ),
+    }
 }
 
 fn unit_word(unit: Unit) -> &'static [u8]
@@ -101,23 +127,23 @@ fn put_body(out: &mut Vec<u8>, body: &Defn) -> Result<(), Memory>
     }
 }
 
-#[tactic(auto, unfolding(crate::specs::Text::own_text))]
-fn put_own(alloc: Global, out: &mut Vec<u8>, m: &Own) -> Result<(), Memory>
-    ensures { OnOk result (out.new.items ≡ out.old.items ++ own_text m.now) }
+#[tactic(auto, unfolding(crate::specs::Text::own_by))]
+fn put_own(alloc: Global, out: &mut Vec<u8>, form: Form, m: &Own) -> Result<(), Memory>
+    ensures { OnOk result (out.new.items ≡ out.old.items ++ own_by form m.now) }
 {
-    put_head(out, m)?;
+    put_head(out, form, m)?;
     put_times(alloc, out, m)?;
     put_rest(out, m)
 }
 
 // The name and the kind.
-fn put_head(out: &mut Vec<u8>, m: &Own) -> Result<(), Memory>
-    ensures { OnOk result (out.new.items ≡ out.old.items ++ (codes "(own " · text_of m.now.name.schema · codes " " · text_of m.now.name.model · codes " " · kind_text m.now.kind · codes " ")) }
+fn put_head(out: &mut Vec<u8>, form: Form, m: &Own) -> Result<(), Memory>
+    ensures { OnOk result (out.new.items ≡ out.old.items ++ (codes "(own " · text_of m.now.name.schema · codes " " · text_of m.now.name.model · codes " " · kind_by form m.now.kind · codes " ")) }
 {
     put(out, b"(own ")?;
     put_name(out, &m.name)?;
     put(out, b" ")?;
-    put_kind(out, &m.kind)?;
+    put_kind(out, form, &m.kind)?;
     put(out, b" ")
 }
 
@@ -175,13 +201,27 @@ fn put_parents(out: &mut Vec<u8>, parents: &[Ref]) -> Result<(), Memory>
     Ok(())
 }
 
+/// The text of a definition in one form or the other.
+pub fn own_by(alloc: Global, form: Form, m: &Own) -> Result<Str, Memory>
+    ensures { IfOk result (λ text. text ≡ own_by form m.now) }
+{
+    let mut out = Vec::new(alloc);
+    put_own(alloc, &mut out, form, m)?;
+    Ok(Seq::from_vec(out))
+}
+
 /// The canonical text of a definition.
 pub fn own_text(alloc: Global, m: &Own) -> Result<Str, Memory>
     ensures { IfOk result (λ text. text ≡ own_text m.now) }
 {
-    let mut out = Vec::new(alloc);
-    put_own(alloc, &mut out, m)?;
-    Ok(Seq::from_vec(out))
+    own_by(alloc, Form::Current, m)
+}
+
+/// The text that a definition had before its kind said a lookback. Stored warehouses of that time have it.
+pub fn own_text_old(alloc: Global, m: &Own) -> Result<Str, Memory>
+    ensures { IfOk result (λ text. text ≡ own_text_old m.now) }
+{
+    own_by(alloc, Form::Former, m)
 }
 
 /// The text that a model's fingerprint is made of, with the parents in the order given.
@@ -190,7 +230,7 @@ pub fn node_text(alloc: Global, m: &Own, parents: &Refs) -> Result<Str, Memory>
     ensures { IfOk result (λ text. text ≡ node_text m.now parents.now) }
 {
     let mut out = Vec::new(alloc);
-    put_own(alloc, &mut out, m)?;
+    put_own(alloc, &mut out, Form::Current, m)?;
     out.push(b'\n')?;
     put_parents(&mut out, parents.as_slice())?;
     Ok(Seq::from_vec(out))

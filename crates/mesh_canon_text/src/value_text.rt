@@ -1,11 +1,12 @@
 // Cells, rows, columns and names, written.
-ghost use Rattle.std.specs.Prelude.{◌≡◌, ◌++◌, codes, OnOk};
+ghost use Rattle.std.specs.Prelude.{◌≡◌, ◌++◌, codes, IfOk, OnOk};
 ghost use Rattle.mesh_canon_text.specs.Text.{◌·◌, cell_text, column_text, row_text, text_of, type_word};
 
 use crate::number_text::{put, put_signed, put_text};
 use crate::written::{Written, put_list};
-use mesh_list::Memory;
+use mesh_list::{Memory, Seq};
 use mesh_values::{Cell, ColType, Column, Name, Row, Str};
+use std::alloc::Global;
 
 impl Written for Str {
     ghost text = { text_of };
@@ -75,6 +76,24 @@ pub(crate) fn put_cell(out: &mut Vec<u8>, cell: &Cell) -> Result<(), Memory>
         Cell::Bool(false) => out.extend_from_slice(b"false")?,
     }
     Ok(())
+}
+
+/// The text of a cell on its own.
+pub fn cell_text(alloc: Global, cell: &Cell) -> Result<Str, Memory>
+    ensures { IfOk result (λ text. text ≡ cell_text cell.now) }
+{
+    let mut out = Vec::new(alloc);
+    put_cell(&mut out, cell)?;
+    Ok(Seq::from_vec(out))
+}
+
+/// The text of a column type on its own: its word.
+pub fn type_text(alloc: Global, kind: ColType) -> Result<Str, Memory>
+    ensures { IfOk result (λ text. text ≡ type_word kind) }
+{
+    let mut out = Vec::new(alloc);
+    put(&mut out, type_word(kind))?;
+    Ok(Seq::from_vec(out))
 }
 
 impl Written for Row {

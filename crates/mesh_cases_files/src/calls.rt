@@ -1,7 +1,7 @@
 // One call of an object at the outside, and what it answered.
 use crate::answers::put_count;
 use mesh_cases::{Trouble, front_word, number_of, shown};
-use mesh_io::{Clock, Folder, IoFail, Sink, Source};
+use mesh_io::{Clock, Folder, IoFail, Sink, Source, take_all};
 use mesh_list::Duplicate;
 use mesh_values::Str;
 use std::alloc::Global;
@@ -111,6 +111,20 @@ pub fn take<S: Source>(
     }
     match source.take(alloc, most) {
         Ok(piece) => put_bytes(report, piece.as_slice())?,
+        Err(fail) => put_fail(report, fail)?,
+    }
+    put_faults(alloc, report, source.faults())
+}
+
+/// Adds the first bytes that a source has left.
+pub fn take_first<S: Source>(
+    alloc: Global,
+    source: &mut S,
+    most: &[u8],
+    report: &mut Vec<u8>,
+) -> Result<(), Trouble> {
+    match take_all(source, alloc, count_of(most)?) {
+        Ok(bytes) => put_bytes(report, bytes.as_slice())?,
         Err(fail) => put_fail(report, fail)?,
     }
     put_faults(alloc, report, source.faults())

@@ -1,5 +1,5 @@
 // The folder, the clock and the streams of the host.
-use crate::calls::{list, now, put, read, take};
+use crate::calls::{list, now, put, read, take, take_first};
 use mesh_cases::Trouble;
 use mesh_io::{DirFolder, StdSink, StdSource, SystemClock};
 use std::alloc::Global;
@@ -56,6 +56,8 @@ impl<'a> Host<'a> {
             self.now(report)?;
         } else if word == b"host-take".as_slice() {
             take(self.alloc, &mut self.source, text, report)?;
+        } else if word == b"host-take-all".as_slice() {
+            take_first(self.alloc, &mut self.source, text, report)?;
         } else if word == b"host-put".as_slice() {
             put(self.alloc, &mut self.sink, text, report)?;
         } else {

@@ -1,5 +1,5 @@
 // The folder, the clock and the streams in memory.
-use crate::calls::{count_of, list, now, put, put_written, read, take};
+use crate::calls::{count_of, list, now, put, put_written, read, take, take_first};
 use mesh_cases::{Trouble, front_word, number_of, put_number};
 use mesh_io::{File, Files, MemClock, MemFolder, MemSink, MemSource, Numbers, are_distinct};
 use mesh_list::{Duplicate, Same, Seq};
@@ -166,6 +166,8 @@ impl Inside {
             self.now(report)?;
         } else if word == b"take".as_slice() {
             take(self.alloc, &mut self.source, text, report)?;
+        } else if word == b"take-all".as_slice() {
+            take_first(self.alloc, &mut self.source, text, report)?;
         } else if word == b"put".as_slice() {
             put(self.alloc, &mut self.sink, text, report)?;
         } else if word == b"written".as_slice() {

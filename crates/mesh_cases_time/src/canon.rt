@@ -1,7 +1,9 @@
 // Canonical texts: definitions, lists and nodes.
 use crate::near::are_told_apart;
 use mesh_base::{Ref, Refs};
-use mesh_canon::{CanonFault, list_text, node_text, own_text, read_list, read_own};
+use mesh_canon::{
+    CanonFault, list_text, node_text, own_text, own_text_old, read_list, read_own, read_own_old,
+};
 use mesh_cases::{Trouble, front_word, halves, put_number, shown};
 use mesh_list::{Duplicate, Seq};
 use mesh_values::Name;
@@ -25,14 +27,16 @@ fn word_of(answer: Answer) -> &'static [u8] {
     }
 }
 
-fn refusal(fault: CanonFault) -> Answer {
+/// What a refusal says.
+pub fn refusal(fault: CanonFault) -> Answer {
     match fault {
         CanonFault::NotCanonical => Answer::Refused,
         CanonFault::Memory => Answer::Memory,
     }
 }
 
-fn compared(text: &[u8], again: &[u8]) -> Answer {
+/// Whether what was written again is the text.
+pub fn compared(text: &[u8], again: &[u8]) -> Answer {
     if text == again {
         Answer::Kept
     } else {
@@ -44,6 +48,14 @@ fn compared(text: &[u8], again: &[u8]) -> Answer {
 pub fn own_again(alloc: Global, text: &[u8]) -> Result<Answer, Trouble> {
     match read_own(alloc, text) {
         Ok(own) => Ok(compared(text, own_text(alloc, &own)?.as_slice())),
+        Err(fault) => Ok(refusal(fault)),
+    }
+}
+
+/// Reads a definition by its former text and writes it so again.
+fn former_again(alloc: Global, text: &[u8]) -> Result<Answer, Trouble> {
+    match read_own_old(alloc, text) {
+        Ok(own) => Ok(compared(text, own_text_old(alloc, &own)?.as_slice())),
         Err(fault) => Ok(refusal(fault)),
     }
 }
@@ -65,7 +77,8 @@ pub struct Frame {
     parents: Refs,
 }
 
-fn put_answer(
+/// Adds what came of a text.
+pub fn put_answer(
     alloc: Global,
     report: &mut Vec<u8>,
     text: &[u8],
@@ -145,6 +158,20 @@ impl Frame {
         Ok(())
     }
 
+    fn former(&self, text: &[u8], report: &mut Vec<u8>) -> Result<(), Trouble> {
+        let whole = self.whole(text)?;
+        let answer = former_again(self.alloc, whole.as_slice())?;
+        put_answer(self.alloc, report, whole.as_slice(), answer)
+    }
+
+    /// The text that a definition has now, by its former one.
+    fn renewed(&self, text: &[u8], report: &mut Vec<u8>) -> Result<(), Trouble> {
+        let Ok(own) = read_own_old(self.alloc, self.whole(text)?.as_slice()) else {
+            return Err(Trouble::Case);
+        };
+        shown(report, own_text(self.alloc, &own)?.as_slice())
+    }
+
     fn node(&self, text: &[u8], report: &mut Vec<u8>) -> Result<(), Trouble> {
         let Ok(own) = read_own(self.alloc, self.whole(text)?.as_slice()) else {
             return Err(Trouble::Case);
@@ -180,6 +207,10 @@ impl Frame {
             self.own(text, false, report)?;
         } else if word == b"near".as_slice() {
             self.own(text, true, report)?;
+        } else if word == b"former".as_slice() {
+            self.former(text, report)?;
+        } else if word == b"renewed".as_slice() {
+            self.renewed(text, report)?;
         } else if word == b"list".as_slice() {
             put_answer(self.alloc, report, text, list_again(self.alloc, text)?)?;
         } else if word == b"node".as_slice() {

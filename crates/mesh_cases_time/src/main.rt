@@ -10,8 +10,9 @@
 //! - `ranges` begins with no second; `add A B` and `forget A B` change the ranges, and answer their spans; `holds A B` and
 //!   `missing A B UNIT` ask them; `copy` answers the spans of a copy, and whether it is the same as the ranges;
 //! - `around FRONT | BACK` has texts stand between the two from then on; `own TEXT` reads a definition and writes it again;
-//!   `near TEXT` does so too, and then reads each text that has one byte dropped, changed or added; `list TEXT` reads and
-//!   writes a list;
+//!   `near TEXT` does so too, and then reads each text that has one byte dropped, changed or added; `former TEXT` reads and
+//!   writes the former text of a definition, and `renewed TEXT` is the text that it has now; `list TEXT`, `cell TEXT` and
+//!   `type TEXT` read and write a list, a cell and the type of a column;
 //! - `orphan` begins with no parents, `parent SCHEMA MODEL BYTES` adds one with a fingerprint, and `node TEXT` is the text of
 //!   a definition with its parents.
 #![tactic(auto)]
@@ -20,6 +21,7 @@ mod canon;
 mod casts;
 mod crons;
 mod near;
+mod parts;
 mod ranges;
 mod stage;
 mod times;

@@ -1,3 +1,4 @@
 pub mod Edited
 pub mod Listed
 pub mod Moved
+pub mod Taken

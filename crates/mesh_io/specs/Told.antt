@@ -1,6 +1,6 @@
 -- What an object at the outside tells of itself, before a call and after it, and what its calls do. Where it tells
 -- nothing of its content there is none, and its count of faults is known alone.
-use Rattle.std.specs.Prelude.{◌≡◌, ◌↔◌, ℕ, ℤ, pos, ◌≤◌, ◌≤ℤ◌, List, [], ◌++◌, length, take, Result, IfOk, OnOk, OnErr, IfSome, IsErrOf}
+use Rattle.std.specs.Prelude.{◌≡◌, ◌↔◌, ℕ, ℤ, pos, ◌<◌, ◌≤◌, ◌≤ℤ◌, List, [], ◌++◌, length, take, Result, IfOk, OnOk, OnErr, IfSome, IsErrOf}
 use Rattle.std.specs.Option.{option_map}
 use Rattle.std.specs.declared.option.Option.{Option}
 use Rattle.mesh_list.specs.Counts.{Rose}
@@ -57,6 +57,15 @@ pub record SourceTakes (most : ℕ) (old new : SourceTold) (result : Result (Lis
   pub most_bytes : IfOk result (λ piece. length piece ≤ most)
   pub at_end : IfOk result (λ piece. IfSome old.left (λ bytes. (piece ≡ []) ↔ (bytes ≡ [])))
   pub refused : OnErr result (new.left ≡ old.left)
+
+-- The first bytes of a source were moved out, as many as were asked for, or all of them where it had fewer; it is at its
+-- end then. Where the call is refused, some of its first bytes are gone.
+pub record SourceGives (most : ℕ) (old new : SourceTold) (result : Result (List ℕ) IoFail) : Type 0 where
+  pub counts : CountsFaults old.faults new.faults result
+  pub ok : IfOk result (λ all. old.left ≡ option_map (λ rest. all ++ rest) new.left)
+  pub most_bytes : IfOk result (λ all. length all ≤ most)
+  pub whole : IfOk result (λ all. length all < most → IfSome new.left (λ rest. rest ≡ []))
+  pub refused : OnErr result ((gone : List ℕ) × (old.left ≡ option_map (λ rest. gone ++ rest) new.left))
 
 -- A piece was written to a sink, and where the call is refused, none, some or all of it from its first byte on.
 pub record SinkPuts {T : Type 0} (piece : List ℕ) (old new : SinkTold) (result : Result T IoFail) : Type 0 where

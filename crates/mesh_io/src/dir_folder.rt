@@ -19,6 +19,9 @@ const MOST_DEEP: u32 = 64;
 /// The bytes of the longest name that a folder of the host has.
 const LONGEST_NAME: u32 = 255;
 
+/// The bytes of the longest path that the host takes.
+const LONGEST_PATH: usize = 4_095;
+
 /// The host's files. It tells nothing of them. Contracts see it as the count of its faults.
 #[derive(Drop)]
 pub struct DirFolder<'a> {
@@ -162,8 +165,12 @@ fn list_files(rt: &HostRuntime, alloc: Global, dir: &[u8]) -> io::Result<Strs> {
     Ok(Seq::from_vec(found))
 }
 
-/// Whether a file of the host can have the path: none has a NUL byte in it, or a part of more than 255 bytes.
+/// Whether a file of the host can have the path: none has more than 4,095 bytes, a NUL byte in it, or a part of more than
+/// 255 bytes.
 fn names_a_file(path: &[u8]) -> bool {
+    if path.len() > LONGEST_PATH {
+        return false;
+    }
     let mut part = 0_u32;
     for byte in path {
         part = if *byte == b'/' {

@@ -17,6 +17,7 @@ mod outside;
 mod refused;
 mod std_streams;
 mod system_clock;
+mod taking;
 
 pub use calls::Numbers;
 pub use dir_folder::DirFolder;
@@ -29,3 +30,4 @@ pub use mem_source::MemSource;
 pub use outside::{Clock, Folder, Sink, Source};
 pub use std_streams::{StdSink, StdSource};
 pub use system_clock::SystemClock;
+pub use taking::take_all;

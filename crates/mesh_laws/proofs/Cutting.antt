@@ -1,4 +1,4 @@
--- Tables that are cut to what a query reads give it the same rows.
+-- Tables that are cut to what a definition reads give it the same rows.
 use Rattle.std.proofs.Common.{◌≡◌, Bool, true, false, cond, ◌||◌, List, [], ◌∷◌, map, refl, ap, ◌∙◌}
 use Rattle.std.specs.List.{All}
 use Rattle.std.specs.Ordering.{is_eq}
@@ -11,14 +11,17 @@ use Rattle.mesh_values.specs.declared.times.Bounds.{Bounds}
 use Rattle.mesh_values.specs.declared.values.Cell.TheVariants.{Null}
 use Rattle.mesh_values.specs.declared.values.Column.{Column}
 use Rattle.mesh_values.specs.declared.values.Name.{Name}
+use Rattle.mesh_base.specs.declared.definitions.Defn.{Defn}
 use Rattle.mesh_base.specs.declared.jobs.Input.{Input}
-use Rattle.mesh_base.specs.declared.queries.Query.{Query}
-use Rattle.mesh_meaning.specs.Sel.{Sel}
-use Rattle.mesh_laws.specs.Alike.{names, named}
-use Rattle.mesh_laws.specs.Reads.{reads, cut, cut_input, cut_inputs}
+use Rattle.mesh_rules.specs.Proper.{defn_names}
+use Rattle.mesh_scratch.specs.Scratch.{defn_rows}
+use Rattle.mesh_laws.specs.Alike.{named}
+use Rattle.mesh_laws.specs.Reads.{defn_reads}
+use Rattle.mesh_laws.specs.Cuts.{cut, cut_input, cut_inputs}
 use Rattle.mesh_laws.proofs.Lists.{Each}
 use Rattle.mesh_laws.proofs.Amounts.{equal_of}
-use Rattle.mesh_laws.proofs.Reading.{Str, Row, among, text_is, text_self, sel_reads}
+use Rattle.mesh_laws.proofs.ReadColumns.{Str, among, text_is, text_self}
+use Rattle.mesh_laws.proofs.Reading.{Row, rows_read}
 
 pub later : (b m : Bool) → m ≡ true → (b || m) ≡ true
 later true m k = refl
@@ -54,19 +57,19 @@ pub twice : (kinds : Str → ColType) (all : List Str) (cs : List Column) (rows 
 twice kinds all cs [] = refl
 twice kinds all cs (row ∷ rows) = λ i. row_twice kinds all cs row all (each_among all all (λ c h. h)) i ∷ twice kinds all cs rows i
 
-cut_found : (q : Query) (name : Name) (inputs : List Input) → cut (reads q name) (named (cut_inputs q inputs) name) ≡ cut (reads q name) (named inputs name)
-cut_found q name [] = refl
-cut_found q name (x ∷ xs) = go (is_eq (name_cmp x.name name)) refl (cut_found q name xs)
+cut_found : (d : Defn) (name : Name) (inputs : List Input) → cut (defn_reads d name) (named (cut_inputs d inputs) name) ≡ cut (defn_reads d name) (named inputs name)
+cut_found d name [] = refl
+cut_found d name (x ∷ xs) = go (is_eq (name_cmp x.name name)) refl (cut_found d name xs)
   where
-    go : (b : Bool) → is_eq (name_cmp x.name name) ≡ b → cut (reads q name) (named (cut_inputs q xs) name) ≡ cut (reads q name) (named xs name)
-        → cut (reads q name) (cond b (Some (cut_input q x)) (named (cut_inputs q xs) name)) ≡ cut (reads q name) (cond b (Some x) (named xs name))
+    go : (b : Bool) → is_eq (name_cmp x.name name) ≡ b → cut (defn_reads d name) (named (cut_inputs d xs) name) ≡ cut (defn_reads d name) (named xs name)
+        → cut (defn_reads d name) (cond b (Some (cut_input d x)) (named (cut_inputs d xs) name)) ≡ cut (defn_reads d name) (cond b (Some x) (named xs name))
     go true e ih =
         let same : x.name ≡ name = names_exact x.name name (equal_of (name_cmp x.name name) e) in
-        ap (λ all. picked_rows (reads q name) (picked_columns all x.columns) (picked_rows all x.columns x.rows)) (ap (reads q) same) ∙ twice (kind_of x.columns) (reads q name) x.columns x.rows
+        ap (λ all. picked_rows (defn_reads d name) (picked_columns all x.columns) (picked_rows all x.columns x.rows)) (ap (defn_reads d) same) ∙ twice (kind_of x.columns) (defn_reads d name) x.columns x.rows
     go false e ih = ih
 
-pub sel_cut : (q : Query) (inputs : List Input) (u : Bounds) → Sel q (cut_inputs q inputs) u ≡ Sel q inputs u
-sel_cut q inputs u = sel_reads q (cut_inputs q inputs) inputs (each_one (names q)) u
+pub rows_cut : (d : Defn) (inputs : List Input) (u : Bounds) → defn_rows d (cut_inputs d inputs) u ≡ defn_rows d inputs u
+rows_cut d inputs u = rows_read d (cut_inputs d inputs) inputs (each_one (defn_names d)) u
   where
-    each_one : (all : List Name) → All (λ name. cut (reads q name) (named (cut_inputs q inputs) name) ≡ cut (reads q name) (named inputs name)) all
-    each_one all k d l = cut_found q _ inputs
+    each_one : (all : List Name) → All (λ name. cut (defn_reads d name) (named (cut_inputs d inputs) name) ≡ cut (defn_reads d name) (named inputs name)) all
+    each_one all k e l = cut_found d _ inputs

@@ -10,6 +10,10 @@ pub mod Members
 pub mod Bags
 -- Zips: two lists related one by one.
 pub mod Zips
+-- Has: what stands in a list.
+pub mod Has
+-- ReadColumns: what a definition reads is exactly what it names.
+pub mod ReadColumns
 -- Reading: a query's rows hang on the columns that it reads alone.
 pub mod Reading
 -- Cutting: tables that are cut to what a query reads.
@@ -18,3 +22,7 @@ pub mod Cutting
 pub mod ReadBags
 -- Models: a model's rows as bags.
 pub mod Models
+-- Finding: a well-formed definition finds all that it names.
+pub mod Finding
+-- Examples: sources that a model can't tell apart, worked out by hand.
+pub mod Examples

@@ -1,6 +1,6 @@
 -- A query's rows hang on the columns that it reads, and on no other.
 use Rattle.std.proofs.Common.{◌≡◌, ℕ, ◌+◌, suc, zero, Bool, true, false, cond, ◌&&◌, ◌||◌, List, [], ◌∷◌, ◌++◌, map, length, get_or, refl, ap, sym, ◌∙◌, subst, arith, append_assoc, length-append, ◌⊎◌, inl, inr}
-use Rattle.std.specs.List.{AllZip, filter, flat_map, fold, list_all, list_any, slice_get}
+use Rattle.std.specs.List.{All, AllZip, filter, flat_map, fold, list_all, list_any, slice_get}
 use Rattle.std.specs.Option.{option_to_list}
 use Rattle.std.specs.Ordering.{is_eq}
 use Rattle.std.specs.declared.option.Option.{Option}
@@ -10,6 +10,7 @@ use Rattle.std.proofs.lemmas.Cmp.{tied_itself}
 use Rattle.std.proofs.lemmas.Map.Lookups.{exact_bytes}
 use Rattle.std.proofs.lemmas.List.Folds.{list_all-append}
 use Rattle.mesh_values.specs.NameOrder.{texts_total, names_total}
+use Rattle.mesh_values.specs.Kinds.{is_incremental}
 use Rattle.mesh_values.specs.Names.{text_cmp}
 use Rattle.mesh_values.specs.Picked.{same_text, cell_of, picked_row}
 use Rattle.mesh_values.specs.declared.times.Bounds.{Bounds}
@@ -18,6 +19,10 @@ use Rattle.mesh_values.specs.declared.values.Cell.TheVariants.{Null}
 use Rattle.mesh_values.specs.declared.values.Column.{Column}
 use Rattle.mesh_values.specs.declared.values.Name.{Name}
 use Rattle.mesh_base.specs.declared.expressions.Expr.{Expr}
+use Rattle.mesh_base.specs.declared.definitions.Defn.{Defn}
+use Rattle.mesh_base.specs.declared.definitions.Defn.TheVariants.{Seed, Sql}
+use Rattle.mesh_base.specs.declared.definitions.Own.{Own}
+use Rattle.mesh_base.specs.declared.definitions.Reading.{Reading}
 use Rattle.mesh_base.specs.declared.jobs.Input.{Input}
 use Rattle.mesh_base.specs.declared.queries.Item.{Item}
 use Rattle.mesh_base.specs.declared.queries.FromItem.{FromItem}
@@ -35,51 +40,17 @@ use Rattle.mesh_meaning.specs.Named.{Place, columns, masked, Covers}
 use Rattle.mesh_meaning.specs.Tables.{relation, columns_in, rows_in}
 use Rattle.mesh_meaning.specs.Sel.{Joined, same_row, holds, row_scope, row_holds, partners, kept, join_item, from_columns, from_rows, key_list, group_of, groups, group_scope, item_row, group_row, made_rows, select_rows, union_rows, cte_input, cte_inputs, Sel}
 use Rattle.mesh_meaning.proofs.Shown.{Ev_only}
+use Rattle.mesh_scratch.specs.Scratch.{defn_rows, is_of_unit, no_bounds, piece_over, rows_over}
 use Rattle.mesh_laws.specs.Alike.{names, named}
-use Rattle.mesh_laws.specs.Reads.{expressions, on_of, column_of, select_reads, selects_read, reads, cut, AgreeOnReads}
+use Rattle.mesh_laws.specs.Reads.{expressions, on_of, rel_reading, item_reading, reading_at, select_readings, selects_readings, query_readings, defn_reads}
+use Rattle.mesh_laws.specs.Cuts.{cut, AgreeOnReads}
+use Rattle.mesh_laws.proofs.ReadColumns.{Str, among, text_is, text_self, Wanted, each_wanted}
 use Rattle.mesh_laws.proofs.Lists.{Each, each, Each_left, Each_right, Each_map}
 use Rattle.mesh_laws.proofs.Amounts.{equal_of}
 use Rattle.mesh_laws.proofs.Zips.{zip_map, zip_flat, zip_filter, zip_same, zip_of_map, zip_imp, zip_itself}
 
-abbrev pub Str : Type 0
-Str = List ℕ
-
 abbrev pub Row : Type 0
 Row = List Cell
-
--- a name is among some
-abbrev pub among : List Str → Str → Bool
-among all c = list_any (λ n. same_text n c) all
-
-pub text_is : (a b : Str) → same_text a b ≡ true → a ≡ b
-text_is a b e = exact_bytes a b (equal_of (text_cmp a b) e)
-
-pub text_self : (a : Str) → same_text a a ≡ true
-text_self a = ap is_eq (tied_itself texts_total a)
-
-abbrev Within : List Str → List Str → Type 0
-Within xs ys = (c : Str) → among xs c ≡ true → among ys c ≡ true
-
-in_left : (xs ys : List Str) → Within xs (xs ++ ys)
-in_left [] ys c h = absurd (cc)
-in_left (x ∷ xs) ys c h = go (same_text x c) h (in_left xs ys c)
-  where
-    go : (b : Bool) → (b || among xs c) ≡ true → (among xs c ≡ true → among (xs ++ ys) c ≡ true) → (b || among (xs ++ ys) c) ≡ true
-    go true h ih = refl
-    go false h ih = ih h
-
-in_right : (xs ys : List Str) → Within ys (xs ++ ys)
-in_right [] ys c h = h
-in_right (x ∷ xs) ys c h = go (same_text x c) (in_right xs ys c h)
-  where
-    go : (b : Bool) → among (xs ++ ys) c ≡ true → (b || among (xs ++ ys) c) ≡ true
-    go true h = refl
-    go false h = h
-
--- each part of a joined list is within what the list is within
-each_within : {X : Type 0} (f : Name → X → List Str) (all : Name → List Str) (x : X) (xs : List X) → ((n : Name) → Within (flat_map (f n) (x ∷ xs)) (all n))
-    → ((n : Name) → Within (f n x) (all n)) × ((n : Name) → Within (flat_map (f n) xs) (all n))
-each_within f all x xs h = (λ n c k. h n c (in_left (f n x) (flat_map (f n) xs) c k), λ n c k. h n c (in_right (f n x) (flat_map (f n) xs) c k))
 
 null_cell : (cs : List Column) (name : Str) → cell_of cs [] name ≡ Null
 null_cell [] name = refl
@@ -110,19 +81,19 @@ abbrev wanted : (Name → List Str) → List FromItem → ℕ → Str → Bool
 wanted all from item c = item_wanted all (slice_get from item) c
 
 module _ (all : Name → List Str) (from : List FromItem) where
-  place_wanted : (item : ℕ) (c : Str) (o : Option FromItem) → slice_get from item ≡ o → ((n : Name) → Within (column_of n from (item, c)) (all n)) → item_wanted all o c ≡ true
-  place_wanted item c None e h = refl
-  place_wanted item c (Some f) e h = go f.rel refl
+  place_wanted : (c : Str) (o : Option FromItem) → Each (Wanted all) (item_reading c o) → item_wanted all o c ≡ true
+  place_wanted c None h = refl
+  place_wanted c (Some f) h = go f.rel h
     where
-      go : (r : Rel) → f.rel ≡ r → rel_wanted all r c ≡ true
-      go (Cte at) m = refl
-      go (Named n) m = h n c (rw (e, m, ap is_eq (tied_itself names_total n), text_self c) refl)
+      go : (r : Rel) → Each (Wanted all) (rel_reading c r) → rel_wanted all r c ≡ true
+      go (Cte at) h = refl
+      go (Named n) h = h.0
 
-  places_wanted : (places : List Place) → ((n : Name) → Within (flat_map (column_of n from) places) (all n)) → list_all (λ (p : Place). wanted all from p.0 p.1) places ≡ true
+  places_wanted : (places : List Place) → Each (Wanted all) (flat_map (reading_at from) places) → list_all (λ (p : Place). wanted all from p.0 p.1) places ≡ true
   places_wanted [] h = refl
   places_wanted ((item, c) ∷ places) h =
-      λ i. place_wanted item c (slice_get from item) refl (λ n d k. h n d (in_left (column_of n from (item, c)) (flat_map (column_of n from) places) d k)) i
-      && places_wanted places (λ n d k. h n d (in_right (column_of n from (item, c)) (flat_map (column_of n from) places) d k)) i
+      λ i. place_wanted c (slice_get from item) (Each_left (Wanted all) (reading_at from (item, c)) (flat_map (reading_at from) places) h) i
+      && places_wanted places (Each_right (Wanted all) (reading_at from (item, c)) (flat_map (reading_at from) places) h) i
 
   covered : (es : List Expr) → list_all (λ (p : Place). wanted all from p.0 p.1) (flat_map columns es) ≡ true → Each (λ e. Covers (wanted all from) (columns e)) es
   covered [] h = tt
@@ -139,7 +110,7 @@ record AreCovered (w : ℕ → Str → Bool) (s : Select) : Type 0 where
   keys : Each (λ e. Covers w (columns e)) s.keys
   havings : Each (λ e. Covers w (columns e)) (option_to_list s.having)
 
-select_covered : (all : Name → List Str) (s : Select) → ((n : Name) → Within (select_reads n s) (all n)) → AreCovered (wanted all s.from) s
+select_covered : (all : Name → List Str) (s : Select) → Each (Wanted all) (select_readings s) → AreCovered (wanted all s.from) s
 select_covered all s h =
     let P : Expr → Type 0 = λ e. Covers (wanted all s.from) (columns e) in
     let es : Each P (expressions s) = covered all s.from (expressions s) (places_wanted all s.from (flat_map columns (expressions s)) h) in
@@ -356,32 +327,45 @@ module _ (u : Bounds) (a b : List Input) (all : Name → List Str) where
           (join_item u ca a ctes xs f) (join_item u cb b ctes ys f)
           (subst (λ n. AllZip (Alike w u ca cb n) (join_item u ca a ctes xs f) (join_item u cb b ctes ys f)) (sym (length-append before (f ∷ []))) next)
 
-    select_same : (q : Select) → Each Cut_same (select_names q) → ((n : Name) → Within (select_reads n q) (all n)) → select_rows a u ctes q ≡ select_rows b u ctes q
+    select_same : (q : Select) → Each Cut_same (select_names q) → Each (Wanted all) (select_readings q) → select_rows a u ctes q ≡ select_rows b u ctes q
     select_same q h r =
         let covers = select_covered all q r in
         finished_same (w q.from) u (ca q.from) (cb q.from) q covers (from_rows u (ca q.from) a ctes q.from) (from_rows u (cb q.from) b ctes q.from)
         (from_zip q.from [] q.from refl h covers.ons ([] ∷ []) ([] ∷ []) ((refl, refl, nothing_same (w q.from) u (ca q.from) (cb q.from)), tt))
 
-    union_same : (selects : List Select) → Each Cut_same (selects_names selects) → ((n : Name) → Within (selects_read n selects) (all n)) → union_rows a u ctes selects ≡ union_rows b u ctes selects
+    union_same : (selects : List Select) → Each Cut_same (selects_names selects) → Each (Wanted all) (selects_readings selects) → union_rows a u ctes selects ≡ union_rows b u ctes selects
     union_same [] h r = refl
     union_same (q ∷ qs) h r =
-        let parts = each_within select_reads all q qs r in
-        λ i. select_same q (Each_left Cut_same (select_names q) (selects_names qs) h) parts.0 i ++ union_same qs (Each_right Cut_same (select_names q) (selects_names qs) h) parts.1 i
+        λ i. select_same q (Each_left Cut_same (select_names q) (selects_names qs) h) (Each_left (Wanted all) (select_readings q) (selects_readings qs) r) i
+        ++ union_same qs (Each_right Cut_same (select_names q) (selects_names qs) h) (Each_right (Wanted all) (select_readings q) (selects_readings qs) r) i
 
-  ctes_same : (so_far : List Input) (ctes : List (List Select)) → Each Cut_same (names_of_all ctes) → ((n : Name) → Within (flat_map (selects_read n) ctes) (all n))
+  ctes_same : (so_far : List Input) (ctes : List (List Select)) → Each Cut_same (names_of_all ctes) → Each (Wanted all) (flat_map selects_readings ctes)
       → fold (λ so_far selects. so_far ++ cte_input a u so_far selects ∷ []) so_far ctes ≡ fold (λ so_far selects. so_far ++ cte_input b u so_far selects ∷ []) so_far ctes
   ctes_same so_far [] h r = refl
   ctes_same so_far (c ∷ cs) h r =
-      let parts = each_within selects_read all c cs r in
-      ap (λ rows. fold (λ so_far selects. so_far ++ cte_input a u so_far selects ∷ []) (so_far ++ record (cte_input a u so_far c) { rows = rows } ∷ []) cs) (union_same so_far c (Each_left Cut_same (selects_names c) (names_of_all cs) h) parts.0)
-      ∙ ctes_same (so_far ++ cte_input b u so_far c ∷ []) cs (Each_right Cut_same (selects_names c) (names_of_all cs) h) parts.1
+      ap (λ rows. fold (λ so_far selects. so_far ++ cte_input a u so_far selects ∷ []) (so_far ++ record (cte_input a u so_far c) { rows = rows } ∷ []) cs)
+      (union_same so_far c (Each_left Cut_same (selects_names c) (names_of_all cs) h) (Each_left (Wanted all) (selects_readings c) (flat_map selects_readings cs) r))
+      ∙ ctes_same (so_far ++ cte_input b u so_far c ∷ []) cs (Each_right Cut_same (selects_names c) (names_of_all cs) h) (Each_right (Wanted all) (selects_readings c) (flat_map selects_readings cs) r)
 
--- a query's rows, over inputs that agree on what it reads
-pub sel_reads : (q : Query) (a b : List Input) → AgreeOnReads q a b → (u : Bounds) → Sel q a u ≡ Sel q b u
-sel_reads q a b h u =
-    let same = each (λ name. cut (reads q name) (named a name) ≡ cut (reads q name) (named b name)) (names q) h in
-    let P : Name → Type 0 = Cut_same u a b (reads q) in
-    let before : (n : Name) → Within (flat_map (selects_read n) q.ctes) (reads q n) = λ n c k. in_left (flat_map (selects_read n) q.ctes) (selects_read n q.selects) c k in
-    let after : (n : Name) → Within (selects_read n q.selects) (reads q n) = λ n c k. in_right (flat_map (selects_read n) q.ctes) (selects_read n q.selects) c k in
-    ap (λ ctes. union_rows a u ctes q.selects) (ctes_same u a b (reads q) [] q.ctes (Each_left P (names_of_all q.ctes) (selects_names q.selects) same) before)
-    ∙ union_same u a b (reads q) (cte_inputs b u q.ctes) q.selects (Each_right P (names_of_all q.ctes) (selects_names q.selects) same) after
+-- a query's rows, over inputs that agree on columns among which all are that it reads
+pub sel_over : (q : Query) (a b : List Input) (all : Name → List Str) → Each (Wanted all) (query_readings q) → All (λ name. cut (all name) (named a name) ≡ cut (all name) (named b name)) (names q) → (u : Bounds) → Sel q a u ≡ Sel q b u
+sel_over q a b all r h u =
+    let P : Name → Type 0 = Cut_same u a b all in
+    let same = each P (names q) h in
+    ap (λ ctes. union_rows a u ctes q.selects)
+    (ctes_same u a b all [] q.ctes (Each_left P (names_of_all q.ctes) (selects_names q.selects) same) (Each_left (Wanted all) (flat_map selects_readings q.ctes) (selects_readings q.selects) r))
+    ∙ union_same u a b all (cte_inputs b u q.ctes) q.selects (Each_right P (names_of_all q.ctes) (selects_names q.selects) same) (Each_right (Wanted all) (flat_map selects_readings q.ctes) (selects_readings q.selects) r)
+
+-- and over inputs that agree on what it reads
+pub sel_reads : (q : Query) (a b : List Input) → AgreeOnReads (Sql q) a b → (u : Bounds) → Sel q a u ≡ Sel q b u
+sel_reads q a b h u = sel_over q a b (defn_reads (Sql q)) (each_wanted q) h u
+
+pub rows_read : (d : Defn) (a b : List Input) → AgreeOnReads d a b → (u : Bounds) → defn_rows d a u ≡ defn_rows d b u
+rows_read (Seed columns rows) a b h u = refl
+rows_read (Sql q) a b h u = sel_reads q a b h u
+
+pub piece_read : (own : Own) (a b : List Input) → AgreeOnReads own.defn a b → (u : Bounds) → piece_over own a u ≡ piece_over own b u
+piece_read own a b h u = ap (filter (is_of_unit own u)) (rows_read own.defn a b h u)
+
+pub over_read : (own : Own) (a b : List Input) → AgreeOnReads own.defn a b → (units : List Bounds) → rows_over own a units ≡ rows_over own b units
+over_read own a b h units = λ i. cond (is_incremental own.kind) (flat_map (λ u. piece_read own a b h u i) units) (rows_read own.defn a b h no_bounds i)

@@ -1,11 +1,11 @@
 //! Laws of what a query and a model mean, each the contract of a function with an empty body: what rows hang on, and what
-//! not. Its definitions are read in this order: `Alike`, `Reads` and `Loads`. It stands on `mesh_meaning`, `mesh_rules`
+//! not. Its definitions are read in this order: `Alike`, `Reads`, `Cuts`, `Loads` and `Found`. It stands on `mesh_meaning`, `mesh_rules`
 //! and `mesh_scratch`.
 #![tactic(auto)]
 
 mod laws;
 
 pub use laws::{
-    models_respect_bags, rows_hang_on_read_columns, rows_respect_bags,
-    rows_respect_bags_of_read_columns,
+    definitions_read_what_they_name, models_respect_bags, rows_hang_on_read_columns,
+    rows_respect_bags, rows_respect_bags_of_read_columns, well_formed_definitions_find_all,
 };

@@ -1,4 +1,4 @@
--- Each moment has a clock that shows it.
+-- Each cron has a last tick at each moment, and so each moment has a clock that shows it.
 use Rattle.std.proofs.Common.{◌≡◌, ℕ, zero, suc, ◌+◌, ◌*◌, ◌/◌, ◌%◌, ◌-◌, ◌<◌, ◌≤◌, ℤ, pos, neg_ℤ, ◌+ℤ◌, ◌<ℤ◌, ◌⊎◌, inl, inr, Bool, true, false, refl, ap, sym, ◌∙◌, subst, arith, IsTrue, unsigned_abs, rules}
 use Rattle.std.proofs.Math.Dec.{leb}
 use Rattle.std.proofs.lemmas.Bool.Decides.{leb_tells}
@@ -10,12 +10,11 @@ use Rattle.jiff_core.proofs.SignedLemmas.{signed_arith, unsigned_abs-parts, one_
 use Rattle.jiff_core.proofs.CalendarLemmas.{days_in_month_bounds}
 use Rattle.jiff_core.proofs.DateLemmas.{days_from_civil-day, days_from_civil-next_month, days_from_civil-next_year, days_from_civil-min, days_from_civil-max}
 use Rattle.mesh_values.specs.Crons.{CronSets, is_cron}
-use Rattle.mesh_base.specs.declared.definitions.Own.{Own}
 use Rattle.mesh_days.specs.Moments.{moment, day_number, IsMoment}
 use Rattle.mesh_time.specs.Ticks.{date_matches, minute_matches, IsFloor, IsQuiet}
 use Rattle.mesh_time.proofs.TickLaws.{tick_day, is_day_number, quiet_day, quiet_minutes, floor_on, quiet_over, floor_over, next_day, quiet_nowhere, moment_far, moment_le}
 use Rattle.mesh_time.proofs.Meets.{never_quiet}
-use Rattle.mesh_scratch.specs.Horizons.{Clock, Shows, IsLastTick, floored}
+use Rattle.mesh_scratch.specs.Horizons.{Clock, Shows}
 
 -- a day and the day after it
 abbrev Dated : ℤ → Type 0
@@ -88,7 +87,7 @@ last_minute c (suc n) = go (minute_matches c (suc n)) refl (last_minute c n)
         inl (m, omega arith, is, λ k low high. by_lt n k (λ beyond. let z : suc n ≡ k = omega arith in subst (λ k. minute_matches c k ≡ false) z e) (λ within. none k low within))
     go false e (inr none) = inr (λ k high. by_lt n k (λ beyond. let z : suc n ≡ k = omega arith in subst (λ k. minute_matches c k ≡ false) z e) (λ within. none k within))
 
-abbrev HasFloor : CronSets → ℤ → Type 0
+abbrev pub HasFloor : CronSets → ℤ → Type 0
 HasFloor c t = (tick : ℤ) × IsFloor c t tick
 
 -- on one day
@@ -135,14 +134,17 @@ floor_of c h t is =
     let same : moment (n / 86_400 + 719_162) (n % 86_400) ≡ t = omega (arith, signed_arith, e) in
     subst (HasFloor c) same (floor_at c h (n / 86_400 + 719_162) (n % 86_400) (omega arith) (omega arith) (omega (arith, most)))
 
-tick_or : (t : ℤ) → IsMoment t → (own : Own) (b : Bool) → is_cron own.cron ≡ b → ℤ
-tick_or t h own true e = floored own.unit (floor_of own.cron e t h).0
-tick_or t h own false e = pos 0
+tick_or : (t : ℤ) → IsMoment t → (c : CronSets) (b : Bool) → is_cron c ≡ b → ℤ
+tick_or t h c true e = (floor_of c e t h).0
+tick_or t h c false e = pos 0
 
-tick_is : (t : ℤ) (h : IsMoment t) (own : Own) (b : Bool) (e : is_cron own.cron ≡ b) → IsTrue (is_cron own.cron) → IsLastTick t own (tick_or t h own b e)
+tick_is : (t : ℤ) (h : IsMoment t) (c : CronSets) (b : Bool) (e : is_cron c ≡ b) → IsTrue (is_cron c) → IsFloor c t (tick_or t h c b e)
 unfolding tick_or
-tick_is t h own true e k = ((floor_of own.cron e t h).0, (floor_of own.cron e t h).1, refl)
-tick_is t h own false e k = absurd (cc)
+tick_is t h c true e k = (floor_of c e t h).1
+tick_is t h c false e k = absurd (cc)
 
 pub shown : (t : ℤ) → IsMoment t → (clock : Clock) × Shows clock t
-shown t h = (λ own. tick_or t h own (is_cron own.cron) refl, λ own k. tick_is t h own (is_cron own.cron) refl k)
+shown t h = (λ c. tick_or t h c (is_cron c) refl, λ c k. tick_is t h c (is_cron c) refl k)
+
+pub floor_at_moment : (t : ℤ) → IsMoment t → (c : CronSets) → IsTrue (is_cron c) → HasFloor c t
+floor_at_moment t h c k = floor_of c k t h

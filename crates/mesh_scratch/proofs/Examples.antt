@@ -1,8 +1,9 @@
 -- Small models and what they have, worked out by hand.
-use Rattle.std.proofs.Common.{◌≡◌, ℕ, ◌*◌, ℤ, pos, Bool, true, false, cond, List, [], ◌∷◌, map, length, refl, ap, ◌∙◌}
+use Rattle.std.proofs.Common.{◌≡◌, ◌≢◌, ℕ, ◌*◌, ◌^◌, ◌<◌, ◌≤◌, ◌==◌, not, ◌&&◌, IsTrue, arith, ℤ, pos, Bool, true, false, cond, List, [], ◌∷◌, map, length, refl, ap, ◌∙◌}
 use Rattle.std.specs.Prelude.{codes}
 use Rattle.std.specs.declared.option.Option.TheVariants.{None, Some}
 use Rattle.std.specs.List.{position}
+use Rattle.std.proofs.lemmas.Bool.{eqb-true}
 use Rattle.std.specs.Ordering.{is_eq, is_lt}
 use Rattle.mesh_values.specs.declared.values.Cell.{Cell}
 use Rattle.mesh_values.specs.declared.values.Cell.TheVariants as cell
@@ -26,17 +27,26 @@ use Rattle.mesh_base.specs.declared.jobs.Input.{Input}
 use Rattle.mesh_base.specs.declared.queries.Query.{Query}
 use Rattle.mesh_base.specs.declared.queries.Rel.TheVariants as rel
 use Rattle.mesh_base.specs.declared.queries.Join.TheVariants as join
-use Rattle.mesh_values.specs.Crons.{CronSets}
+use Rattle.jiff_core.specs.declared.civil.date.Date.{Date}
+use Rattle.jiff_core.specs.Date.{epoch_day}
+use Rattle.jiff_core.specs.Calendar.{days_from_civil, day_count, days_of_years, days_of_months, weekday_number}
+use Rattle.jiff_core.proofs.SignedLemmas.{signed_arith}
+use Rattle.mesh_values.specs.Crons.{CronSets, count_below, has, has_date, has_day, is_cron, is_set, some_below}
+use Rattle.mesh_days.specs.Moments.{moment, day_number}
+use Rattle.mesh_time.specs.Ticks.{date_matches, minute_matches, weekday, IsFloor, IsTickDay}
+use Rattle.mesh_time.proofs.SetLaws.{some_from}
+use Rattle.mesh_time.proofs.TickLaws.{floor_on, floor_over, is_day_number, moment_far, next_day, quiet_minutes, tick_day}
 use Rattle.mesh_meaning.specs.Cells.{compared, between}
 use Rattle.mesh_meaning.specs.Macros.{macro_value}
 use Rattle.mesh_meaning.specs.Ev.{Ev, Ev_node, Seen, Scope, at_row, key_or, same_expr, over_group, node_value, valued}
 use Rattle.mesh_meaning.proofs.Nodes.{Ev_out, Ev_agg}
 use Rattle.mesh_meaning.specs.Aggregates.{agg_value}
 use Rattle.mesh_scratch.specs.Closures.{Closure, Model, Alone, With}
-use Rattle.mesh_scratch.specs.Horizons.{Clock, horizon, schedule}
+use Rattle.mesh_scratch.specs.Horizons.{Clock, Shows, floored, horizon, last_tick, schedule}
 use Rattle.mesh_scratch.specs.Sources.{declared}
 use Rattle.mesh_seconds.specs.Times.{lies_in}
 use Rattle.mesh_scratch.specs.Scratch.{from_scratch}
+use Rattle.mesh_scratch.proofs.Moments.{one_floor}
 use Rattle.mesh_scratch.proofs.Rows.{full_over_seed, incrementals}
 
 -- a weekly model, and a daily one over it
@@ -64,7 +74,7 @@ daily = Model (model (codes "d") true (pos 19_783)) (With weekly Alone)
 
 -- on 2024-03-05 the last Sunday was 2024-03-03
 abbrev on_tuesday : Clock
-on_tuesday own = pos (cond own.cron.dow_star 19_787 19_785 * 86_400)
+on_tuesday cron = pos (cond cron.dow_star 19_787 19_785 * 86_400)
 
 weekly_horizon : horizon on_tuesday weekly ≡ pos (19_785 * 86_400)
 weekly_horizon = refl
@@ -77,6 +87,62 @@ weekly_units = refl
 
 daily_units : length (schedule on_tuesday daily) ≡ 2
 daily_units = refl
+
+-- 30 6 * * *
+abbrev half_past_six : CronSets
+half_past_six = record { minute = 2 ^ 30; hour = 2 ^ 6; dom = 0xffff_fffe; month = 0x1ffe; dow = 0x7f; dom_star = true; dow_star = true }
+
+its_only_minute : some_below (λ k. minute_matches half_past_six k && not (k == 390)) 1440 ≡ false
+unfolding some_below minute_matches has
+its_only_minute = refl
+
+no_other_minute : (k : ℕ) → k < 1440 → k ≢ 390 → minute_matches half_past_six k ≡ false
+no_other_minute k short other = go (minute_matches half_past_six k) (k == 390) refl refl
+  where
+    go : (b c : Bool) → minute_matches half_past_six k ≡ b → (k == 390) ≡ c → minute_matches half_past_six k ≡ false
+    go false c e f = e
+    go true true e f = absurd (other (eqb-true k 390 f))
+    go true false e f = let found = some_from (λ k. minute_matches half_past_six k && not (k == 390)) 1440 k short (rw (e, f) refl) in let none = its_only_minute in absurd (cc)
+
+-- days are counted from 0001-01-01: 2024-01-03 is day 738,887
+third_of_january : Date
+third_of_january = record { year = pos 2024; month = 1; day = 3; year_in = (omega (arith, signed_arith), omega (arith, signed_arith)); month_in = (omega arith, omega arith); day_in = (omega arith, omega arith) }
+
+its_number : epoch_day third_of_january ≡ pos 19_725
+unfolding third_of_january days_from_civil day_count days_of_years days_of_months
+its_number = refl
+
+it_matches : date_matches half_past_six third_of_january ≡ true
+unfolding date_matches third_of_january has weekday_number
+it_matches = ap (λ day. has 0x1ffe 1 && (has 0xffff_fffe 3 && has 0x7f (weekday day))) its_number
+
+it_has_a_tick : IsTickDay half_past_six (day_number 738_887)
+unfolding day_number
+it_has_a_tick = (tick_day half_past_six (day_number 738_887) third_of_january (is_day_number 738_887 (omega arith)) its_number).0 it_matches
+
+its_minute : IsTrue (minute_matches half_past_six 390)
+unfolding minute_matches has
+its_minute = refl
+
+it_can_be_read : IsTrue (is_cron half_past_six)
+unfolding is_cron is_set some_below has count_below has_date has_day
+it_can_be_read = refl
+
+-- on 2024-01-04 at 05:00 the last tick was on 2024-01-03 at 06:30
+the_day_before : IsFloor half_past_six (moment 738_888 18_000) (moment 738_887 23_400)
+the_day_before =
+    floor_over half_past_six (moment 738_887 86_399) (moment 738_888 0) (moment 738_888 18_000) (moment 738_887 23_400)
+    (floor_on half_past_six 738_887 86_399 390 (omega arith) it_has_a_tick its_minute (omega arith) (λ n above below. no_other_minute n (omega arith) (λ e. omega (arith, e))))
+    (quiet_minutes half_past_six 738_888 18_000 (omega arith) (λ n below. no_other_minute n (omega arith) (λ e. omega (arith, e))))
+    (next_day 738_887 738_888 refl) (moment_far 738_887 738_888 86_399 18_000 (omega arith) (omega arith))
+
+in_seconds : IsFloor half_past_six (pos 1_704_344_400) (pos 1_704_263_400)
+unfolding moment day_number
+in_seconds = the_day_before
+
+-- a model by days has the last tick 2024-01-03T00:00 then, whichever clock it is
+by_days : (clock : Clock) → Shows clock (pos 1_704_344_400) → last_tick clock (record (model (codes "m") true (pos 19_723)) { cron = half_past_six }) ≡ pos 1_704_240_000
+by_days clock shows = ap (floored unit.Day) (one_floor half_past_six (pos 1_704_344_400) (clock half_past_six) (pos 1_704_263_400) (shows half_past_six it_can_be_read) in_seconds)
 
 -- a source with more columns than are declared, in another order
 abbrev orders : List ℕ → Decl
@@ -276,9 +342,9 @@ within_is u row =
     ∙ (λ i. between (column_is 0 day u row i) (macro_is var.StartDate u row i) (macro_is var.EndDate u row i))
 
 -- on 2024-01-03 the third day isn't over, so its order isn't there yet
-on_wednesday : from_scratch dated (λ own. pos (19_725 * 86_400)) (Model by_day Alone) ≡ order 1 19_723 ∷ order 2 19_723 ∷ order 3 19_724 ∷ []
+on_wednesday : from_scratch dated (λ cron. pos (19_725 * 86_400)) (Model by_day Alone) ≡ order 1 19_723 ∷ order 2 19_723 ∷ order 3 19_724 ∷ []
 on_wednesday =
-    incrementals dated (λ own. pos (19_725 * 86_400)) by_day Alone day 0 refl
+    incrementals dated (λ cron. pos (19_725 * 86_400)) by_day Alone day refl
     ∙ simp (within_is, its_id_is, its_day_is) refl
 
 -- a sum of no rows

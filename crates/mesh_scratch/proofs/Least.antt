@@ -5,9 +5,10 @@ use Rattle.std.proofs.lemmas.List.{map-append}
 use Rattle.std.proofs.lemmas.List.Elements.{filter-append}
 use Rattle.std.specs.declared.option.Option.TheVariants.{None, Some}
 use Rattle.mesh_base.specs.declared.definitions.Own.{Own}
+use Rattle.mesh_values.specs.Kinds.{is_incremental}
 use Rattle.mesh_time.specs.Ranges.{units}
 use Rattle.mesh_scratch.specs.Closures.{Closure, Closures, Model, Alone, With, standing, ancestors}
-use Rattle.mesh_scratch.specs.Horizons.{Clock, is_incremental, is_timed, least_of, horizons_from, horizons_of, horizon, schedule, units_from}
+use Rattle.mesh_scratch.specs.Horizons.{Clock, last_tick, is_timed, least_of, horizons_from, horizons_of, horizon, schedule, units_from}
 
 module _ (clock : Clock) where
   one_more : (b : Bool) (c : Closure) (hs : List ℤ) (cs : List Closure) → hs ≡ map (horizon clock) cs → cond b (horizon clock c ∷ hs) hs ≡ map (horizon clock) (cond b (c ∷ cs) cs)
@@ -26,11 +27,11 @@ module _ (clock : Clock) where
         ∙ ap (map (horizon clock)) (sym (filter-append is_timed (standing c) (ancestors cs)))
 
 pub least : (clock : Clock) (own : Own) (parents : Closures) → is_incremental own.kind ≡ true
-    → horizon clock (Model own parents) ≡ least_of (clock own) (map (horizon clock) (filter is_timed (ancestors parents)))
-least clock own parents e = ap (λ b. cond b (least_of (clock own) (horizons_of clock parents)) (clock own)) e ∙ ap (least_of (clock own)) (of_is clock parents)
+    → horizon clock (Model own parents) ≡ least_of (last_tick clock own) (map (horizon clock) (filter is_timed (ancestors parents)))
+least clock own parents e = ap (λ b. cond b (least_of (last_tick clock own) (horizons_of clock parents)) (last_tick clock own)) e ∙ ap (least_of (last_tick clock own)) (of_is clock parents)
 
-pub its_own : (clock : Clock) (own : Own) (parents : Closures) → is_incremental own.kind ≡ false → horizon clock (Model own parents) ≡ clock own
-its_own clock own parents e = ap (λ b. cond b (least_of (clock own) (horizons_of clock parents)) (clock own)) e
+pub its_own : (clock : Clock) (own : Own) (parents : Closures) → is_incremental own.kind ≡ false → horizon clock (Model own parents) ≡ last_tick clock own
+its_own clock own parents e = ap (λ b. cond b (least_of (last_tick clock own) (horizons_of clock parents)) (last_tick clock own)) e
 
 pub from_its_start : (clock : Clock) (own : Own) (parents : Closures) (day : ℤ) → own.start ≡ Some day
     → schedule clock (Model own parents) ≡ units (record { start = day *ℤ pos 86_400; end = horizon clock (Model own parents); unit = own.unit })

@@ -10,5 +10,7 @@ pub mod Listed
 pub mod Examples
 -- Cut: sources as declared, and rows of a unit.
 pub mod Cut
--- Clocks: each moment has a clock that shows it.
+-- Floors: a tick is floored to the start of its unit.
+pub mod Floors
+-- Clocks: each cron has a last tick at each moment, and each moment a clock that shows it.
 pub mod Clocks

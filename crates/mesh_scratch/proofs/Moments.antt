@@ -6,24 +6,22 @@ use Rattle.std.proofs.lemmas.List.Elements.{All-head, All-tail}
 use Rattle.mesh_base.specs.declared.definitions.Own.{Own}
 use Rattle.mesh_base.specs.declared.jobs.Input.{Input}
 use Rattle.mesh_values.specs.Crons.{CronSets, is_cron}
+use Rattle.mesh_values.specs.Kinds.{is_incremental}
 use Rattle.mesh_time.specs.Ticks.{IsFloor}
 use Rattle.mesh_scratch.specs.Closures.{Closure, Closures, Model, Alone, With, own_of, standing, ancestors}
-use Rattle.mesh_scratch.specs.Horizons.{Clock, Shows, HasCrons, IsLastTick, floored, is_incremental, least_of, horizon_under, with_horizon, horizons_from, horizons_of, horizon, schedule, units_from}
-use Rattle.mesh_scratch.specs.Sources.{declared}
+use Rattle.mesh_scratch.specs.Horizons.{Clock, Shows, HasCrons, floored, last_tick, least_of, horizon_under, with_horizon, horizons_from, horizons_of, horizon, schedule, units_from}
+use Rattle.mesh_scratch.specs.Sources.{inputs}
 use Rattle.mesh_scratch.specs.Scratch.{from_scratch, tables, rows_over, table_of}
 
 -- a cron has one last tick at a moment
-one_floor : (c : CronSets) (t x y : ℤ) → IsFloor c t x → IsFloor c t y → x ≡ y
+pub one_floor : (c : CronSets) (t x y : ℤ) → IsFloor c t x → IsFloor c t y → x ≡ y
 unfolding IsFloor
 one_floor c t x y f g =
     by_lt_z x y (λ l. absurd (f.2 y l g.1 g.0)) (λ le. by_lt_z y x (λ l. absurd (g.2 x l f.1 f.0)) (λ ge. omega (arith, ints)))
 
-one_last : (t : ℤ) (own : Own) (x y : ℤ) → IsLastTick t own x → IsLastTick t own y → x ≡ y
-one_last t own x y (a, f, e) (b, g, h) = e ∙ ap (floored own.unit) (one_floor own.cron t a b f g) ∙ sym h
-
 module _ (clock other : Clock) where
   abbrev Same : Own → Type 0
-  Same own = clock own ≡ other own
+  Same own = last_tick clock own ≡ last_tick other own
 
   abbrev Each : List Closure → Type 0
   Each [] = Unit {0}
@@ -59,7 +57,7 @@ module _ (clock other : Clock) where
   mutual
     rows_same : (sources : List Input) (c : Closure) → Each (standing c) → from_scratch sources clock c ≡ from_scratch sources other c
     rows_same sources (Model own parents) h =
-        (λ i. rows_over own.kind own (map (declared sources) own.sources ++ tables_same sources parents h.1 i) (schedule_same (Model own parents) h i))
+        (λ i. rows_over own (inputs sources own (tables_same sources parents h.1 i)) (schedule_same (Model own parents) h i))
 
     tables_same : (sources : List Input) (cs : Closures) → Each (ancestors cs) → tables sources clock cs ≡ tables sources other cs
     tables_same sources Alone h = refl
@@ -70,7 +68,7 @@ each_last : (clock other : Clock) (t : ℤ) → Shows clock t → Shows other t 
 each_last clock other t s o [] h = tt
 each_last clock other t s o (c ∷ cs) h =
     let cron = All-head (λ s. IsTrue (is_cron (own_of s).cron)) c cs h in
-    (one_last t (own_of c) (clock (own_of c)) (other (own_of c)) (s (own_of c) cron) (o (own_of c) cron), each_last clock other t s o cs (All-tail (λ s. IsTrue (is_cron (own_of s).cron)) c cs h))
+    (ap (floored (own_of c).unit) (one_floor (own_of c).cron t (clock (own_of c).cron) (other (own_of c).cron) (s (own_of c).cron cron) (o (own_of c).cron cron)), each_last clock other t s o cs (All-tail (λ s. IsTrue (is_cron (own_of s).cron)) c cs h))
 
 -- two clocks that show one moment
 pub one_horizon : (t : ℤ) (clock other : Clock) → Shows clock t → Shows other t → (c : Closure) → HasCrons c → horizon clock c ≡ horizon other c

@@ -1,15 +1,14 @@
 -- How far a model's rows go at a moment.
-use Rattle.std.specs.Prelude.{◌≡◌, ℤ, pos, ◌*ℤ◌, Bool, true, false, if◌then◌else◌, List, [], ◌∷◌, ◌++◌, IsTrue}
+use Rattle.std.specs.Prelude.{ℤ, pos, ◌*ℤ◌, Bool, if◌then◌else◌, List, [], ◌∷◌, ◌++◌, IsTrue}
 use Rattle.std.specs.List.{All, fold}
 use Rattle.std.specs.Int.{int_min, int_div_euclid}
 use Rattle.std.specs.declared.option.Option.{Option}
 use Rattle.std.specs.declared.option.Option.TheVariants.{None, Some}
 use Rattle.mesh_values.specs.declared.times.Unit.{Unit as TimeUnit}
 use Rattle.mesh_values.specs.declared.times.Bounds.{Bounds}
-use Rattle.mesh_values.specs.declared.kinds.Kind.{Kind}
-use Rattle.mesh_values.specs.declared.kinds.Kind.TheVariants.{Incremental}
 use Rattle.mesh_base.specs.declared.definitions.Own.{Own}
-use Rattle.mesh_values.specs.Crons.{is_cron}
+use Rattle.mesh_values.specs.Crons.{CronSets, is_cron}
+use Rattle.mesh_values.specs.Kinds.{is_incremental}
 use Rattle.mesh_time.specs.Ticks.{IsFloor}
 use Rattle.mesh_time.specs.Ranges.{unit_size, units}
 use Rattle.mesh_scratch.specs.Closures.{Closure, Closures, Model, Alone, With, own_of, standing}
@@ -18,25 +17,21 @@ use Rattle.mesh_scratch.specs.Closures.{Closure, Closures, Model, Alone, With, o
 abbrev pub floored : TimeUnit → ℤ → ℤ
 floored unit t = int_div_euclid t (pos (unit_size unit)) *ℤ pos (unit_size unit)
 
--- a model's last tick at a moment: the greatest tick of its cron that is not above the moment, floored to its unit
-abbrev pub IsLastTick : ℤ → Own → ℤ → Type 0
-IsLastTick t own last = (tick : ℤ) × IsFloor own.cron t tick × (last ≡ floored own.unit tick)
-
--- the last tick of each model
+-- the last tick of each cron
 abbrev pub Clock : Type 0
-Clock = Own → ℤ
+Clock = CronSets → ℤ
 
--- a clock that shows a moment; every cron that reading can give has one last tick there
+-- a clock that shows a moment: of every cron that reading can give, the greatest tick that is not above the moment
 abbrev pub Shows : Clock → ℤ → Type 0
-Shows clock t = (own : Own) → IsTrue (is_cron own.cron) → IsLastTick t own (clock own)
+Shows clock t = (cron : CronSets) → IsTrue (is_cron cron) → IsFloor cron t (clock cron)
+
+-- a model's last tick: the start of the unit that its cron's lies in
+abbrev pub last_tick : Clock → Own → ℤ
+last_tick clock own = floored own.unit (clock own.cron)
 
 -- each model among a closure and its ancestors has a cron that reading can give
 abbrev pub HasCrons : Closure → Type 0
 HasCrons c = All (λ s. IsTrue (is_cron (own_of s).cron)) (standing c)
-
-abbrev pub is_incremental : Kind → Bool
-is_incremental (Incremental time lookback) = true
-is_incremental other = false
 
 abbrev pub is_timed : Closure → Bool
 is_timed c = is_incremental (own_of c).kind
@@ -46,7 +41,7 @@ least_of t ts = fold int_min t ts
 
 -- a model's horizon, where its incremental ancestors have these: an incremental one goes no further than any of them
 abbrev pub horizon_under : Clock → Own → List ℤ → ℤ
-horizon_under clock own horizons = if is_incremental own.kind then least_of (clock own) horizons else clock own
+horizon_under clock own horizons = if is_incremental own.kind then least_of (last_tick clock own) horizons else last_tick clock own
 
 -- one more horizon, of an incremental model
 abbrev pub with_horizon : Clock → Own → List ℤ → List ℤ

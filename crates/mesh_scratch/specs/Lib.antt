@@ -2,7 +2,7 @@
 pub mod Closures
 -- Horizons: how far a model's rows go at a moment, and the units of its schedule.
 pub mod Horizons
--- Sources: a source cut to what a model declares of it.
+-- Sources: a source cut to what a model declares of it, and the tables that a definition reads.
 pub mod Sources
 -- Scratch: the rows of a closure from scratch.
 pub mod Scratch

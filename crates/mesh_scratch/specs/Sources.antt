@@ -1,5 +1,5 @@
--- A source, cut to what a model declares of it.
-use Rattle.std.specs.Prelude.{Bool, true, false, if◌then◌else◌, List, [], map}
+-- A source, cut to what a model declares of it, and the tables that a definition reads.
+use Rattle.std.specs.Prelude.{Bool, true, false, if◌then◌else◌, List, [], ◌++◌, map}
 use Rattle.std.specs.List.{find, list_all}
 use Rattle.std.specs.declared.option.Option.{Option}
 use Rattle.std.specs.declared.option.Option.TheVariants.{None, Some}
@@ -9,6 +9,7 @@ use Rattle.mesh_values.specs.declared.values.ColType.{ColType}
 use Rattle.mesh_values.specs.declared.values.Column.{Column}
 use Rattle.mesh_base.specs.declared.jobs.Input.{Input}
 use Rattle.mesh_base.specs.declared.definitions.Decl.{Decl}
+use Rattle.mesh_base.specs.declared.definitions.Own.{Own}
 use Rattle.mesh_base.specs.Keys.{input_name}
 use Rattle.mesh_values.specs.Names.{name_cmp}
 use Rattle.mesh_values.specs.Picked.{same_text, picked_rows}
@@ -35,3 +36,7 @@ source_named sources d = found name_cmp input_name d.name sources
 -- a declared source as a table that a query reads
 abbrev pub declared : List Input → Decl → Input
 declared sources d = record { name = d.name; columns = d.columns; rows = declared_rows d.columns (source_named sources d) }
+
+-- the tables that a definition reads: the sources that it declares, in its order, and behind them these tables
+abbrev pub inputs : List Input → Own → List Input → List Input
+inputs sources own tables = map (declared sources) own.sources ++ tables

@@ -1,11 +1,14 @@
 // What the definitions give.
-ghost use Rattle.std.specs.Prelude.{◌≡◌, true, false, ℕ, ℤ, pos, ◌*ℤ◌, ◌↔◌, List, [], ◌∷◌, ◌++◌, map, length, nat_lt, Some, None};
+ghost use Rattle.std.specs.Prelude.{◌≡◌, true, false, ℕ, ℤ, pos, ◌+ℤ◌, ◌*ℤ◌, ◌↔◌, IsTrue, List, [], ◌∷◌, ◌++◌, map, length, nat_lt, Some, None};
 ghost use Rattle.std.specs.List.{All, Contains, filter, find, flat_map, list_all, list_any, slice_get};
 ghost use Rattle.std.specs.Option.{option_to_list};
 ghost use Rattle.std.specs.declared.option.Option.{Option};
 ghost use Rattle.mesh_values.specs.Picked.{cell_of, same_text};
 ghost use Rattle.mesh_values.specs.declared.times.Bounds.{Bounds};
 ghost use Rattle.mesh_values.specs.declared.times.Schedule.{Schedule};
+ghost use Rattle.mesh_values.specs.declared.times.Unit.{Unit as TimeUnit};
+ghost use Rattle.mesh_values.specs.Crons.{CronSets, is_cron};
+ghost use Rattle.mesh_values.specs.Kinds.{is_incremental, time_column};
 ghost use Rattle.mesh_base.specs.declared.jobs.Input.{Input};
 ghost use Rattle.mesh_values.specs.declared.values.Cell.{Cell};
 ghost use Rattle.mesh_values.specs.declared.values.Column.{Column};
@@ -16,13 +19,14 @@ ghost use Rattle.mesh_base.specs.declared.queries.Query.{Query};
 ghost use Rattle.mesh_base.specs.declared.snapshots.Node.{Node};
 ghost use Rattle.mesh_base.specs.Outputs.{columns_of};
 ghost use Rattle.mesh_days.specs.Moments.{IsMoment};
-ghost use Rattle.mesh_time.specs.Ranges.{IsWithin, unit_at, units};
+ghost use Rattle.mesh_time.specs.Ranges.{IsWithin, unit_at, unit_size, units};
+ghost use Rattle.mesh_time.specs.Ticks.{IsFloor};
 ghost use Rattle.mesh_meaning.specs.Sel.{Sel};
 ghost use Rattle.mesh_scratch.specs.Closures.{Closure, Closures, Model, Alone, With, own_of, parents_of, each_of, ancestors, closures};
-ghost use Rattle.mesh_scratch.specs.Horizons.{Clock, Shows, HasCrons, is_incremental, is_timed, least_of, horizon, schedule};
+ghost use Rattle.mesh_scratch.specs.Horizons.{Clock, Shows, HasCrons, floored, is_timed, last_tick, least_of, horizon, schedule};
 ghost use Rattle.mesh_scratch.specs.Sources.{declared_rows};
 ghost use Rattle.mesh_seconds.specs.Times.{lies_in, time_of};
-ghost use Rattle.mesh_scratch.specs.Scratch.{from_scratch, inputs_of, no_bounds, piece};
+ghost use Rattle.mesh_scratch.specs.Scratch.{from_scratch, inputs_of, no_bounds, defn_rows, piece};
 
 /// The closures of a project are one for each model, and the parents of each are among them. Where a model's parents
 /// stand before it, its closure has theirs as parents, in the order of their places.
@@ -35,7 +39,8 @@ pub fn projects_are_closed_under_parents()
 {}
 
 /// The rows of a seed are its file's, and those of a view or a FULL model its query's. An incremental model's are taken
-/// unit by unit of its schedule: what its query gives for the unit and lies in it.
+/// unit by unit of its schedule: what its query gives for the unit and lies in it by its time column. A model without a
+/// time column has no rows of a unit.
 pub fn rows_go_by_the_kind()
     ensures seed { (sources : List Input) (clock : Clock) (own : Own) (parents : Closures) (columns : List Column) (rows : List (List Cell)) → own.kind ≡ kind.Seed → own.defn ≡ defn.Seed columns rows →
         from_scratch sources clock (Model own parents) ≡ rows }
@@ -43,8 +48,11 @@ pub fn rows_go_by_the_kind()
         from_scratch sources clock (Model own parents) ≡ Sel q (inputs_of sources clock (Model own parents)) no_bounds }
     ensures full { (sources : List Input) (clock : Clock) (own : Own) (parents : Closures) (q : Query) → own.kind ≡ kind.Full → own.defn ≡ defn.Sql q →
         from_scratch sources clock (Model own parents) ≡ Sel q (inputs_of sources clock (Model own parents)) no_bounds }
-    ensures incremental { (sources : List Input) (clock : Clock) (own : Own) (parents : Closures) (time : List ℕ) (lookback : ℕ) → own.kind ≡ kind.Incremental time lookback →
-        from_scratch sources clock (Model own parents) ≡ flat_map (piece sources clock (Model own parents) time) (schedule clock (Model own parents)) }
+    ensures incremental { (sources : List Input) (clock : Clock) (own : Own) (parents : Closures) (time : List ℕ) → time_column own.kind ≡ Some time →
+        from_scratch sources clock (Model own parents) ≡ flat_map (piece sources clock (Model own parents)) (schedule clock (Model own parents)) }
+    ensures piece { (sources : List Input) (clock : Clock) (c : Closure) (u : Bounds) (time : List ℕ) → time_column (own_of c).kind ≡ Some time →
+        piece sources clock c u ≡ filter (lies_in (columns_of (own_of c)) time u) (defn_rows (own_of c).defn (inputs_of sources clock c) u) }
+    ensures none { (sources : List Input) (clock : Clock) (c : Closure) (u : Bounds) → time_column (own_of c).kind ≡ None → piece sources clock c u ≡ [] }
 {}
 
 /// A FULL model of one seed has the rows of its query over the seed's rows.
@@ -56,7 +64,7 @@ pub fn full_models_read_their_seed()
 
 /// Each row of an incremental model lies in a unit of its schedule.
 pub fn rows_lie_in_the_schedule()
-    ensures { (sources : List Input) (clock : Clock) (own : Own) (parents : Closures) (time : List ℕ) (lookback : ℕ) → own.kind ≡ kind.Incremental time lookback →
+    ensures { (sources : List Input) (clock : Clock) (own : Own) (parents : Closures) (time : List ℕ) → time_column own.kind ≡ Some time →
         All (λ row. list_any (λ u. lies_in (columns_of own) time u row) (schedule clock (Model own parents)) ≡ true) (from_scratch sources clock (Model own parents)) }
 {}
 
@@ -64,8 +72,8 @@ pub fn rows_lie_in_the_schedule()
 /// horizons. Any other model's is its own last tick.
 pub fn horizons_go_by_ancestors()
     ensures incremental { (clock : Clock) (own : Own) (parents : Closures) → is_incremental own.kind ≡ true →
-        horizon clock (Model own parents) ≡ least_of (clock own) (map (horizon clock) (filter is_timed (ancestors parents))) }
-    ensures other { (clock : Clock) (own : Own) (parents : Closures) → is_incremental own.kind ≡ false → horizon clock (Model own parents) ≡ clock own }
+        horizon clock (Model own parents) ≡ least_of (last_tick clock own) (map (horizon clock) (filter is_timed (ancestors parents))) }
+    ensures other { (clock : Clock) (own : Own) (parents : Closures) → is_incremental own.kind ≡ false → horizon clock (Model own parents) ≡ last_tick clock own }
 {}
 
 /// The schedule of a model with a start has the units of its size from the first second of that day on that end by its
@@ -93,9 +101,19 @@ pub fn sources_have_the_declared_shape()
     ensures cells { (columns : List Column) (o : Option Input) → All (λ row. length row ≡ length columns) (declared_rows columns o) }
 {}
 
-/// Each moment has a clock that shows it.
+/// Each cron that reading can give has one last tick at each moment. So each moment has a clock that shows it.
 pub fn moments_have_clocks()
-    ensures { (t : ℤ) → IsMoment t → (clock : Clock) × Shows clock t }
+    ensures ticks { (t : ℤ) → IsMoment t → (cron : CronSets) → IsTrue (is_cron cron) → (tick : ℤ) × IsFloor cron t tick }
+    ensures one { (cron : CronSets) (t a b : ℤ) → IsFloor cron t a → IsFloor cron t b → a ≡ b }
+    ensures clocks { (t : ℤ) → IsMoment t → (clock : Clock) × Shows clock t }
+{}
+
+/// A tick is floored to the start of the unit that it lies in: that start is a multiple of the unit's size, and no other
+/// multiple begins a unit with the tick.
+pub fn ticks_are_floored_to_their_unit()
+    ensures within { (unit : TimeUnit) (t : ℤ) → IsWithin (floored unit t) (floored unit t +ℤ pos (unit_size unit)) t }
+    ensures multiple { (unit : TimeUnit) (t : ℤ) → (k : ℤ) × (floored unit t ≡ k *ℤ pos (unit_size unit)) }
+    ensures one { (unit : TimeUnit) (t k : ℤ) → IsWithin (k *ℤ pos (unit_size unit)) (k *ℤ pos (unit_size unit) +ℤ pos (unit_size unit)) t → floored unit t ≡ k *ℤ pos (unit_size unit) }
 {}
 
 /// A moment decides the horizon and the rows of a closure, whichever clock shows it.

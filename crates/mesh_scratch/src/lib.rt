@@ -10,4 +10,5 @@ pub use laws::{
     moments_have_clocks, projects_are_closed_under_parents, rows_go_by_the_kind,
     rows_lie_in_a_unit_by_their_second, rows_lie_in_the_schedule,
     schedules_go_from_the_start_to_the_horizon, sources_have_the_declared_shape,
+    ticks_are_floored_to_their_unit,
 };

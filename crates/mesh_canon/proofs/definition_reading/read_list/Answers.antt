@@ -1,7 +1,9 @@
 use Rattle.std.proofs.Common.{sym, ap, ◌∙◌}
 use Rattle.std.proofs.lemmas.Result.{err_from_is_err_and}
+use Rattle.mesh_canon_text.specs.Text.{list_text}
 use Rattle.mesh_canon.specs.Reading.{list_in}
-use Rattle.mesh_canon.proofs.Definitions.{list_differs, list_is_read, refused}
+use Rattle.mesh_canon.proofs.Definitions.{list_is_read}
+use Rattle.mesh_canon.proofs.Exact.{differs, refused}
 use Rattle.mesh_canon.proofs.definition_reading.read_list.Goals as goal
 
 pub returns-in_err-made-clause-only : goal.returns-in_err-made-clause-only
@@ -14,4 +16,4 @@ returns-then-is_same-clause-only c = λ m fits is. sym (ap list_in is ∙ list_i
 
 pub returns-else-is_same-clause-only : goal.returns-else-is_same-clause-only
 returns-else-is_same-clause-only c = λ m fits is.
-    absurd (list_differs c.in_ok-made.made m c.args.text.now c.as_slice.result.now c.is_same.result fits is c.in_ok-made.ensures (c.as_slice.ensures ∙ c.in_ok-written.ensures) c.is_same.ensures c.if-is_same.false)
+    absurd (differs list_text list_in c.in_ok-made.made m c.args.text.now c.as_slice.result.now c.is_same.result (list_is_read m fits) is c.in_ok-made.ensures (c.as_slice.ensures ∙ c.in_ok-written.ensures) c.is_same.ensures c.if-is_same.false)

@@ -1,6 +1,6 @@
-use Rattle.mesh_laws.proofs.Reading.{sel_reads}
-use Rattle.mesh_laws.proofs.Cutting.{sel_cut}
+use Rattle.mesh_laws.proofs.Reading.{rows_read, over_read, piece_read}
+use Rattle.mesh_laws.proofs.Cutting.{rows_cut}
 use Rattle.mesh_laws.proofs.laws.rows_hang_on_read_columns.Goals as goal
 
 pub returns : goal.returns
-returns c = record { agree = sel_reads; cut = sel_cut }
+returns c = record { agree = rows_read; cut = rows_cut; rows = over_read; pieces = piece_read }

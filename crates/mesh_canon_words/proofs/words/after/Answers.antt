@@ -1,0 +1,7 @@
+use Rattle.std.proofs.lemmas.Bool.Decides.{Decides-eqb}
+use Rattle.std.proofs.lemmas.Slice.Eq.{strip_prefix_is}
+use Rattle.mesh_canon_words.proofs.Prefix.{stripped}
+use Rattle.mesh_canon_words.proofs.words.after.Goals as goal
+
+pub returns : goal.returns
+returns c = stripped c.args.word.now c.args.bytes.now c.strip_prefix.result (strip_prefix_is Decides-eqb c.args.bytes.now c.args.word.now c.strip_prefix.result c.strip_prefix.ensures.cases)
