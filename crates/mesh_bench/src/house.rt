@@ -8,7 +8,7 @@ use std::alloc::Global;
 
 const HOUR: i64 = 3_600;
 
-fn text(alloc: Global, bytes: &[u8]) -> Result<Str, Memory> {
+pub fn text(alloc: Global, bytes: &[u8]) -> Result<Str, Memory> {
     u8::copy_items(alloc, bytes)
 }
 
@@ -29,7 +29,7 @@ fn name(alloc: Global, schema: &[u8], number: u32) -> Result<Name, Memory> {
     })
 }
 
-fn table(alloc: Global, number: u32) -> Result<Name, Memory> {
+pub fn table(alloc: Global, number: u32) -> Result<Name, Memory> {
     name(alloc, b"sqlmesh__bench", number)
 }
 
@@ -42,7 +42,7 @@ fn columns(alloc: Global) -> Result<Columns, Memory> {
     Ok(columns)
 }
 
-fn own(alloc: Global, name: Name, cron: Cron) -> Own {
+pub fn own(alloc: Global, name: Name, cron: Cron) -> Own {
     Own {
         name,
         kind: Kind::View,
@@ -72,7 +72,7 @@ fn snapshot(alloc: Global, cron: Cron, number: u32) -> Result<Snapshot, Memory> 
 }
 
 /// Puts a model's snapshot.
-fn put(alloc: Global, house: &mut MemHouse, cron: Cron, number: u32) -> Result<(), WhFail> {
+pub fn put(alloc: Global, house: &mut MemHouse, cron: Cron, number: u32) -> Result<(), WhFail> {
     let put = Change::PutSnapshot {
         snapshot: snapshot(alloc, cron, number)?,
     };
@@ -109,7 +109,7 @@ fn record(alloc: Global, house: &mut MemHouse, number: u32, hour: u32) -> Result
     house.change(alloc, &change)
 }
 
-fn spans(house: &MemHouse) -> usize {
+pub fn spans(house: &MemHouse) -> usize {
     let mut count = 0usize;
     for version in house.world().book.versions.as_slice() {
         count = count.saturating_add(version.ranges.spans().len());

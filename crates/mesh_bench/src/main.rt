@@ -5,15 +5,20 @@
 //! that many changes. It prints the count, the sum and the number of spans recorded. Or the words are `write` or `read`, a
 //! number of rows and a number of times: it writes, or reads, the canonical text of a seed of these rows so often, and
 //! prints the bytes of the text. Or they are `deep` and a number: it reads, copies, writes and drops expressions that nest
-//! so deep, one for each kind of node, and prints the bytes of their texts.
+//! so deep, one for each kind of node, and prints the bytes of their texts. Or they are `forget`, a number of hours and how
+//! far apart they are: it forgets so many of one version, and prints how many spans are left. Or `migrate`, a number of
+//! snapshots, of models and of times: it gives them other fingerprints so often, and prints how many stand in front of one
+//! that is above them.
 #![tactic(auto)]
 
 mod canon;
 mod house;
+mod moves;
 
 use crate::house::recorded as recorded_by_changes;
 use mesh_args::{letter_at, number_at};
 use mesh_canon::CanonFault;
+use mesh_house::WhFail;
 use mesh_list::Memory;
 use mesh_time::{END_OF_SECONDS, Ranges, floor, read_cron};
 use mesh_values::{Schedule, Unit};
@@ -113,7 +118,29 @@ fn timed_text(rt: HostRuntime) -> ExitCode {
     }
 }
 
+/// What the words `forget` and `migrate` ask for.
+fn move_count<R: Env>(rt: &R, alloc: Global) -> Result<usize, WhFail> {
+    let count = number_at(rt, 2);
+    if begins_with(rt, b'f') {
+        return moves::forgotten(alloc, count, number_at(rt, 3));
+    }
+    moves::migrated(alloc, count, number_at(rt, 3), number_at(rt, 4))
+}
+
+fn timed_move(rt: HostRuntime) -> ExitCode {
+    let Ok(count) = move_count(&rt, rt.alloc()) else {
+        return ExitCode::from(4);
+    };
+    match println!(rt; "{count} are left") {
+        Ok(()) => ExitCode::from(0),
+        Err(_) => ExitCode::from(6),
+    }
+}
+
 fn main(rt: HostRuntime) -> ExitCode {
+    if begins_with(&rt, b'f') || begins_with(&rt, b'm') {
+        return timed_move(rt);
+    }
     if begins_with(&rt, b'w') || begins_with(&rt, b'r') || begins_with(&rt, b'd') {
         return timed_text(rt);
     }

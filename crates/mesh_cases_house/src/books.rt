@@ -2,17 +2,18 @@
 use crate::changes::snapshot;
 use crate::line::{Line, Named, Owns, pair, parted};
 use crate::owns::{add_own, put_columns_of, put_sorted};
-use mesh_base::{Decl, Env, Indexes, Node, Nodes, Snapshot, columns_of};
-use mesh_book::{Book, Version, book_fault};
+use mesh_base::{Env, Indexes, Node, Nodes, Snapshot, columns_of};
+use mesh_book::{BOOK_VERSION, Book, Version, book_fault};
 use mesh_cases::{Trouble, cases_of};
 use mesh_list::{Duplicate, Register, Same, Seq};
-use mesh_rules::{Project, is_well_formed};
+use mesh_rules::{Parent, Project, is_well_formed};
 use mesh_time::Ranges;
 use std::alloc::Global;
 
 /// The parts of a book.
 #[derive(Drop)]
 struct Parts {
+    version: u32,
     moment: i64,
     snapshots: Vec<Snapshot>,
     versions: Vec<Version>,
@@ -39,9 +40,17 @@ fn environment(line: &Line) -> Result<Env, Trouble> {
 }
 
 impl Parts {
+    fn set_moment(&mut self, line: &Line) -> Result<(), Trouble> {
+        self.moment = line.number(1)?;
+        if line.len() > 2 {
+            self.version = line.rank(2)?;
+        }
+        Ok(())
+    }
+
     fn add(&mut self, line: &Line, owns: &[Named]) -> Result<(), Trouble> {
         if line.is(0, b"moment") {
-            self.moment = line.number(1)?;
+            self.set_moment(line)?;
         } else if line.is(0, b"snapshot") {
             self.snapshots.push(snapshot(line, owns)?)?;
         } else if line.is(0, b"version") {
@@ -57,6 +66,7 @@ impl Parts {
 
 fn book(alloc: Global, lines: &[&[u8]], owns: &[Named]) -> Result<Book, Trouble> {
     let mut parts = Parts {
+        version: BOOK_VERSION,
         moment: 0,
         snapshots: Vec::new(alloc),
         versions: Vec::new(alloc),
@@ -66,12 +76,14 @@ fn book(alloc: Global, lines: &[&[u8]], owns: &[Named]) -> Result<Book, Trouble>
         parts.add(&Line::of(alloc, text)?, owns)?;
     }
     let Parts {
+        version,
         moment,
         snapshots,
         versions,
         environments,
     } = parts;
     Ok(Book {
+        version,
         moment,
         snapshots: Register::from_vec(snapshots),
         versions: Register::from_vec(versions),
@@ -101,12 +113,12 @@ fn put_unless(report: &mut Vec<u8>, copied: bool) -> Result<(), Trouble> {
     Ok(())
 }
 
-fn decl(named: &Line, owns: &[Named], at: usize) -> Result<Decl, Trouble> {
+fn parent(named: &Line, owns: &[Named], at: usize) -> Result<Parent, Trouble> {
     let own = named.own(owns, at)?;
-    Ok(Decl {
+    Ok(Parent {
+        rank: 0,
         name: own.name.copy()?,
         columns: columns_of(own)?,
-        time: None,
     })
 }
 
@@ -114,7 +126,7 @@ fn decl(named: &Line, owns: &[Named], at: usize) -> Result<Decl, Trouble> {
 fn is_fit(line: &Line, owns: &[Named]) -> Result<bool, Trouble> {
     let mut parents = Vec::new(line.alloc());
     for at in 2..line.len() {
-        parents.push(decl(line, owns, at)?)?;
+        parents.push(parent(line, owns, at)?)?;
     }
     Ok(is_well_formed(parents.as_slice(), line.own(owns, 1)?)?)
 }

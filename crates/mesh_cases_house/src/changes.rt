@@ -141,6 +141,18 @@ fn book_change(line: &Line, owns: &[Named]) -> Result<Change, Trouble> {
     } else if line.is(0, b"delete_snapshot") {
         delete_snapshot(line)
     } else {
+        change_of_many(line)
+    }
+}
+
+fn change_of_many(line: &Line) -> Result<Change, Trouble> {
+    if line.is(0, b"forget_units") {
+        let list = line.forgets(1)?;
+        Ok(Change::ForgetUnits { list })
+    } else if line.is(0, b"migrate") {
+        let map = line.renames(1)?;
+        Ok(Change::Migrate { map })
+    } else {
         change_of_env(line)
     }
 }

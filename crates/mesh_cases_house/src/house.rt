@@ -2,7 +2,9 @@
 use crate::changes::change;
 use crate::line::{Line, Named, Owns, parted};
 use crate::owns::add_own;
-use crate::written::{put, put_body, put_book, put_columns, put_name, put_world};
+use crate::written::{
+    put, put_body, put_book, put_columns, put_fingerprints, put_name, put_world,
+};
 use mesh_book::Book;
 use mesh_cases::{Trouble, cases_of, put_number};
 use mesh_house::{Change, Changes, Fail, MemHouse, Warehouse, WhFail, World, make, make_all};
@@ -30,6 +32,20 @@ fn is_same(twin: World, world: &World) -> bool {
 
 fn is_copied(list: &Changes) -> Result<bool, Trouble> {
     Ok(list.copy()?.same(list))
+}
+
+fn are_alike(list: &[Change]) -> bool {
+    match list {
+        [] => true,
+        [first, rest @ ..] => {
+            for other in rest {
+                if !first.same(other) {
+                    return false;
+                }
+            }
+            true
+        }
+    }
 }
 
 impl Stage {
@@ -67,6 +83,29 @@ impl Stage {
         self.put_unless(copied, b"unlike its copy")
     }
 
+    /// Tells whether the changes that are kept are all the first.
+    fn alike(&mut self, alloc: Global) -> Result<(), Trouble> {
+        let alike = are_alike(self.list.as_slice());
+        self.list = Seq::new(alloc);
+        Ok(
+            self.report
+                .extend_from_slice(if alike { b"alike" } else { b"other" })?,
+        )
+    }
+
+    /// Goes on with a book of this version.
+    fn set_version(&mut self, line: &Line) -> Result<(), Trouble> {
+        let mut world = self.house.world().copy()?;
+        world.book.version = line.rank(1)?;
+        self.house = MemHouse::with(world, Seq::new(line.alloc()));
+        Ok(())
+    }
+
+    fn fingerprints(&mut self, alloc: Global) -> Result<(), Trouble> {
+        self.report.extend_from_slice(b"version")?;
+        put_fingerprints(alloc, &mut self.report, &self.house.world().book)
+    }
+
     fn fail(&mut self, line: &Line) -> Result<(), Trouble> {
         let mut fails = Seq::new(line.alloc());
         fails.push(Fail {
@@ -74,7 +113,7 @@ impl Stage {
             call: u64::from(line.rank(2)?),
             after: line.is(3, b"after"),
         })?;
-        self.house.set_fails(fails);
+        self.house.set_fails(fails.copy()?);
         Ok(())
     }
 
@@ -167,6 +206,10 @@ impl Stage {
     fn shown(&mut self, line: &Line, owns: &[Named]) -> Result<(), Trouble> {
         if line.is(0, b"make_all") {
             self.change_all(line.alloc())?;
+        } else if line.is(0, b"alike") {
+            self.alike(line.alloc())?;
+        } else if line.is(0, b"fingerprints") {
+            self.fingerprints(line.alloc())?;
         } else if Stage::is_read(line) {
             self.read(line)?;
         } else {
@@ -194,6 +237,8 @@ impl Stage {
             Ok(self.list.push(change)?)
         } else if word == b"fail".as_slice() {
             self.fail(&Line::of(alloc, text)?)
+        } else if word == b"version".as_slice() {
+            self.set_version(&Line::of(alloc, text)?)
         } else {
             self.shown(&Line::of(alloc, text)?, owns)
         }

@@ -1,5 +1,5 @@
 // A line of a case, in words, and what its words say.
-use mesh_base::{Own, Ref, Refs};
+use mesh_base::{Forget, Forgets, Own, Ref, Refs, Rename, Renames};
 use mesh_cases::Trouble;
 use mesh_list::{Duplicate, Seq, together};
 use mesh_values::{Cell, ColType, Column, Columns, Name, Pair, Pairs, Row, Rows, Str};
@@ -44,6 +44,30 @@ fn reference_of(alloc: Global, name: &[u8], mark: &[u8]) -> Result<Ref, Trouble>
     Ok(Ref {
         name: name_of(alloc, name)?,
         fingerprint: [byte; 32],
+    })
+}
+
+/// The marks of an object, or a range of it behind a colon, whose end stands behind another one.
+fn forget_of(alloc: Global, word: &[u8]) -> Result<Forget, Trouble> {
+    let (name, range) = parted(word, b':');
+    let object = name_of(alloc, name)?;
+    if range.is_empty() {
+        return Ok(Forget::Marks { object });
+    }
+    let (start, end) = parted(range, b':');
+    let (start, end) = pair(number_of(start), number_of(end))?;
+    Ok(Forget::Range { object, start, end })
+}
+
+/// A reference, and behind an equals sign the number that its fingerprint gets.
+fn rename_of(alloc: Global, word: &[u8]) -> Result<Rename, Trouble> {
+    let (old, new) = parted(word, b'=');
+    let (name, mark) = parted(old, b'/');
+    let old = reference_of(alloc, name, mark)?;
+    let byte = u8::try_from(number_of(new)?).map_err(|_| Trouble::Case)?;
+    Ok(Rename {
+        old,
+        new: [byte; 32],
     })
 }
 
@@ -184,6 +208,24 @@ impl<'a> Line<'a> {
             pairs.push(Pair { first, second })?;
         }
         Ok(pairs)
+    }
+
+    /// What is to be forgotten, from a place on.
+    pub fn forgets(&self, from: usize) -> Result<Forgets, Trouble> {
+        let mut forgets = Seq::new(self.alloc);
+        for word in self.words.iter().skip(from) {
+            forgets.push(forget_of(self.alloc, word)?)?;
+        }
+        Ok(forgets)
+    }
+
+    /// The renames of a map, from a place on.
+    pub fn renames(&self, from: usize) -> Result<Renames, Trouble> {
+        let mut renames = Seq::new(self.alloc);
+        for word in self.words.iter().skip(from) {
+            renames.push(rename_of(self.alloc, word)?)?;
+        }
+        Ok(renames)
     }
 
     /// The definition that a word calls.

@@ -20,18 +20,23 @@
 //!   `record_marks OBJECT MARK..`,
 //!   `set_pending ENV EXPIRES|none list REF..`,
 //!   `point_view VIEW OBJECT`,
+//!   `forget_units` with items that are an OBJECT, for its marks, or `OBJECT:START:END`,
+//!   `migrate REF=N..`, where the fingerprint gets the bytes N,
 //!   and `drop_view`, `finalize`, `expire`, `forget_version`, `drop_object`, `delete_snapshot` and `delete_env` with what
 //!   they are of. The world is printed as the house has it after the change. Where the world's own step makes another one
 //!   of it, a complaint follows;
 //! - `also CHANGE` keeps a change for `make_all`, which makes those kept, one after another, and prints the world. Where
 //!   a copy of them isn't equal to them, a complaint follows;
+//! - `alike` prints whether the changes kept are all the same, and makes none of them;
+//! - `version N` has the book go on with that version, and `fingerprints` prints its version, and the fingerprints of its
+//!   snapshots, of their parents and in the lists of its environments;
 //! - `fail change N before`, `fail change N after` and `fail read N` have one call of the next ones fail, counted from 0;
 //! - `head NAME`, `body NAME`, `view NAME` and `book` print what the house answers, and `counts` how many changes it was
 //!   given and how many calls failed.
 //!
 //! The steps of `books.txt`:
-//! - `line LINE` adds a line to the good book: `moment T`, `snapshot ..` with the words of `put_snapshot`,
-//!   `version OBJECT`, or `environment ENV list REF.. previous REF..`;
+//! - `line LINE` adds a line to the good book: `moment T VERSION`, where the new version may be left out, `snapshot ..`
+//!   with the words of `put_snapshot`, `version OBJECT`, or `environment ENV list REF.. previous REF..`;
 //! - `with N LINE` has a line, counted from 1, stand in place of the good book's;
 //! - `fault TITLE` prints the first breach of the book with these lines, by its part and place, and goes back to the good
 //!   one. Where a copy of the book isn't equal to it, a complaint follows;

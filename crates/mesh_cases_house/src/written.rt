@@ -1,5 +1,5 @@
 // How a world and a book are written: a word or a number for each thing in it.
-use mesh_base::{Env, Refs};
+use mesh_base::{Env, Ref, Refs};
 use mesh_book::{Book, Version};
 use mesh_cases::{Trouble, put_number};
 use mesh_house::{Body, World};
@@ -113,6 +113,47 @@ fn put_env(alloc: Global, line: &mut Vec<u8>, env: &Env) -> Result<(), Trouble> 
     put_refs(line, b"previous", &env.previous)?;
     if let Some(expires) = env.expires {
         put_next(alloc, line, expires)?;
+    }
+    Ok(())
+}
+
+fn put_reference(
+    alloc: Global,
+    line: &mut Vec<u8>,
+    name: &Name,
+    fingerprint: &[u8; 32],
+) -> Result<(), Trouble> {
+    put_name(line, name)?;
+    line.push(b'/')?;
+    put_number(alloc, line, i64::from(fingerprint[0]))
+}
+
+fn put_references(
+    alloc: Global,
+    line: &mut Vec<u8>,
+    word: &[u8],
+    refs: &[Ref],
+) -> Result<(), Trouble> {
+    put(line, word)?;
+    for r in refs {
+        put_reference(alloc, line, &r.name, &r.fingerprint)?;
+    }
+    Ok(())
+}
+
+/// The version of a book, and each reference in it with its fingerprint.
+pub fn put_fingerprints(alloc: Global, line: &mut Vec<u8>, book: &Book) -> Result<(), Trouble> {
+    put_next(alloc, line, i64::from(book.version))?;
+    for snapshot in book.snapshots.as_slice() {
+        line.extend_from_slice(b"; snapshot")?;
+        put_reference(alloc, line, &snapshot.name, &snapshot.fingerprint)?;
+        put_references(alloc, line, b"parents", snapshot.parents.as_slice())?;
+    }
+    for env in book.environments.as_slice() {
+        line.extend_from_slice(b"; environment")?;
+        put(line, env.name.as_slice())?;
+        put_references(alloc, line, b"list", env.list.as_slice())?;
+        put_references(alloc, line, b"previous", env.previous.as_slice())?;
     }
     Ok(())
 }

@@ -10,6 +10,8 @@ use Rattle.mesh_base.specs.declared.definitions.Own.{Own}
 use Rattle.mesh_values.specs.Names.{name_cmp}
 use Rattle.mesh_book.specs.declared.book.Book.{Book}
 use Rattle.mesh_book.specs.Changes.{raise_moment, put_snapshot, make_table as table_made, make_view as view_made, record_range, record_marks, set_pending, finalize, expire, forget_version, delete_snapshot, delete_env}
+use Rattle.mesh_moves.specs.Forgets.{forget_units}
+use Rattle.mesh_moves.specs.Renames.{migrate}
 use Rattle.mesh_house.specs.declared.objects.Body.{Body}
 use Rattle.mesh_house.specs.declared.objects.Body.TheVariants.{Rows, Stored}
 use Rattle.mesh_house.specs.declared.objects.Object.{Object}
@@ -18,7 +20,7 @@ use Rattle.mesh_base.specs.declared.jobs.Input.{Input}
 use Rattle.mesh_base.specs.Keys.{input_name}
 use Rattle.mesh_house.specs.declared.world.World.{World}
 use Rattle.mesh_house.specs.declared.world.Change.{Change}
-use Rattle.mesh_house.specs.declared.world.Change.TheVariants.{Moment, Load, PutSnapshot, MakeTable, MakeView, ReplaceRows, WriteRange, RecordRange, RecordMarks, SetPending, PointView, DropView, Finalize, Expire, ForgetVersion, DropObject, DeleteSnapshot, DeleteEnv}
+use Rattle.mesh_house.specs.declared.world.Change.TheVariants.{Moment, Load, PutSnapshot, MakeTable, MakeView, ReplaceRows, WriteRange, RecordRange, RecordMarks, SetPending, PointView, DropView, Finalize, Expire, ForgetVersion, DropObject, DeleteSnapshot, DeleteEnv, ForgetUnits, Migrate}
 use Rattle.mesh_house.specs.World.{view_name, object_at, source_at}
 use Rattle.mesh_house.specs.Times.{rewritten}
 
@@ -116,6 +118,8 @@ step w (ForgetVersion object) = with_book w (forget_version w.book object)
 step w (DropObject object) = drop_object w object
 step w (DeleteSnapshot name fingerprint) = with_book w (delete_snapshot w.book (record { name = name; fingerprint = fingerprint }))
 step w (DeleteEnv env) = with_book w (delete_env w.book env)
+step w (ForgetUnits list) = with_book w (forget_units w.book list)
+step w (Migrate renames) = with_book w (migrate w.book renames)
 
 -- the steps of a list of changes, one after another
 abbrev pub run : World → List Change → World

@@ -144,6 +144,8 @@ impl Duplicate for Change {
                 fingerprint: *fingerprint,
             }),
             Change::DeleteEnv { env } => Ok(Change::DeleteEnv { env: env.copy()? }),
+            Change::ForgetUnits { list } => Ok(Change::ForgetUnits { list: list.copy()? }),
+            Change::Migrate { map } => Ok(Change::Migrate { map: map.copy()? }),
         }
     }
 }

@@ -2,7 +2,7 @@
 ghost use Rattle.std.specs.Prelude.{◌≡◌};
 ghost use Rattle.mesh_house.specs.Fails.{change_fails, read_fails};
 
-use mesh_list::Seq;
+use mesh_list::{Duplicate, Memory, Seq};
 
 /// A call that is to fail. Calls of `change` are counted from 0, and so are, apart from them, the calls that only read.
 /// A change fails before or after it has taken effect.
@@ -15,6 +15,12 @@ pub struct Fail {
 
 /// Calls that are to fail. Where one is listed twice, the first says how.
 pub type Fails = Seq<Fail>;
+
+impl Duplicate for Fail {
+    fn copy(&self) -> Result<Fail, Memory> {
+        Ok(*self)
+    }
+}
 
 pub(crate) fn change_fails(fails: &[Fail], number: u64) -> Option<bool>
     ensures { result ≡ change_fails fails.now number }

@@ -148,6 +148,14 @@ impl Same for Change {
                 Change::DeleteEnv { env: other_env } => env.same(other_env),
                 _ => false,
             },
+            Change::ForgetUnits { list } => match other {
+                Change::ForgetUnits { list: other_list } => list.same(other_list),
+                _ => false,
+            },
+            Change::Migrate { map } => match other {
+                Change::Migrate { map: other_map } => map.same(other_map),
+                _ => false,
+            },
         }
     }
 }

@@ -13,6 +13,7 @@ use crate::world::{Change, ViewOf, World};
 use mesh_base::{Input, Own, Ref};
 use mesh_book::{Book, Version};
 use mesh_list::{Duplicate, Memory, Seq, Sorted, both};
+use mesh_moves::{forget_units, migrate};
 use mesh_values::{Columns, Name, Pairs, Rows, Str, has_two_underscores};
 use std::alloc::Global;
 
@@ -327,6 +328,8 @@ impl World {
                 self.book.delete_env(env);
                 Ok(())
             }
+            Change::ForgetUnits { list } => forget_units(&mut self.book, list.as_slice()),
+            Change::Migrate { map } => migrate(&mut self.book, map.as_slice()),
         }
     }
 }

@@ -4,7 +4,7 @@ ghost use Rattle.mesh_values.specs.NameOrder.{names_exact, names_total};
 
 use crate::objects::Objects;
 use crate::sources::SourceTables;
-use mesh_base::{Marks, Own, Refs, Snapshot};
+use mesh_base::{Forgets, Marks, Own, Refs, Renames, Snapshot};
 use mesh_book::Book;
 use mesh_list::{Keyed, Seq, Sorted};
 use mesh_values::{Columns, Name, Pairs, Rows, Str};
@@ -123,6 +123,15 @@ pub enum Change {
     /// The environment goes.
     DeleteEnv {
         env: Str,
+    },
+    /// What is recorded of units and marks goes, so that their rows are computed again.
+    ForgetUnits {
+        list: Forgets,
+    },
+    /// The snapshots that the map names have their new fingerprints from now on, wherever the book speaks of them, and the
+    /// book is of the new version. Nothing else in the world changes.
+    Migrate {
+        map: Renames,
     },
 }
 
