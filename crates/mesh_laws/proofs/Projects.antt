@@ -189,7 +189,7 @@ module _ (nodes : List Node) (up : ascends node_cmp node_itself nodes ≡ true) 
 
 -- the parents of each node stand before it
 module _ (nodes : List Node) (h : is_proper nodes ≡ true) (before after : List Node) (n : Node) (all : before ++ n ∷ after ≡ nodes) where
-  before_it : (i : ℕ) → Has i n.parents → IsBefore before n i
+  pub before_it : (i : ℕ) → Has i n.parents → IsBefore before n i
   before_it =
       let a = and_parts (nat_le (length nodes) 4096) _ h in
       let b = and_parts (ascends node_cmp node_itself nodes) _ a.1 in
