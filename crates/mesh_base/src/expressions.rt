@@ -1,5 +1,5 @@
 // Expressions of resolved queries: a column is named by its FROM item's place, and no alias is left.
-use mesh_list::{Boxed, Seq};
+use mesh_list::{Boxed, Duplicate, Memory, Seq};
 use mesh_values::{Cell, ColType, Str};
 
 pub type Exprs = Seq<Expr>;
@@ -110,4 +110,28 @@ pub enum Expr {
         kind: AggKind,
         value: Boxed<Expr>,
     },
+}
+
+impl Duplicate for Op {
+    fn copy(&self) -> Result<Op, Memory> {
+        Ok(*self)
+    }
+}
+
+impl Duplicate for Func {
+    fn copy(&self) -> Result<Func, Memory> {
+        Ok(*self)
+    }
+}
+
+impl Duplicate for AggKind {
+    fn copy(&self) -> Result<AggKind, Memory> {
+        Ok(*self)
+    }
+}
+
+impl Duplicate for Var {
+    fn copy(&self) -> Result<Var, Memory> {
+        Ok(*self)
+    }
 }

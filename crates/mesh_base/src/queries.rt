@@ -62,6 +62,12 @@ pub struct Query {
     pub selects: Selects,
 }
 
+impl Duplicate for Join {
+    fn copy(&self) -> Result<Join, Memory> {
+        Ok(*self)
+    }
+}
+
 impl Duplicate for Item {
     fn copy(&self) -> Result<Item, Memory> {
         let (name, expr) = both(&self.name, &self.expr)?;
