@@ -10,3 +10,5 @@ pub mod Closings
 pub mod Entries
 -- Projects: the project of a list, and its closures.
 pub mod Projects
+-- Examples: a small book, its closures and the project of its list, worked out by hand.
+pub mod Examples

@@ -26,7 +26,7 @@ use Rattle.mesh_scratch.specs.Closures as closure
 use Rattle.mesh_laws.proofs.Finding.{get_map, one_passes}
 use Rattle.mesh_laws.proofs.Has.{Has, Has_flat, Has_map_from, Has_right, Has_some}
 use Rattle.mesh_laws.proofs.Projects.{before_it}
-use Rattle.mesh_listed.specs.Closing.{closing, parents_by}
+use Rattle.mesh_listed.specs.Closing.{closing, closure_at, parents_by}
 use Rattle.mesh_listed.specs.Listed.{as_node, entries, is_list_fit, listed, named, places_among, rank_cmp, snapshot_itself}
 use Rattle.mesh_listed.proofs.Books.{fits, its_ref}
 use Rattle.mesh_listed.proofs.Depths.{closing_is}
@@ -195,3 +195,12 @@ module _ (b : Book) (list : List Ref) (well : is_well_formed_book b ≡ true) (f
 
   pub closures_are : closures nodes ≡ map (closing all) es
   closures_are = closures_from [] es refl
+
+  own_closures : (ss : List Snapshot) → ((x : Snapshot) → Has x ss → Has x es) → map Some (map (closing all) ss) ≡ map (closure_at all) (map snapshot_ref ss)
+  own_closures [] sub = refl
+  own_closures (s ∷ ss) sub =
+      let (its, own) = is_entry all list fit s (sub s (inl refl)) in
+      λ k. option_map (closing all) (sym own k) ∷ own_closures ss (λ x h. sub x (inr h)) k
+
+  pub closures_by_reference : map Some (closures nodes) ≡ map (closure_at all) (map snapshot_ref es)
+  closures_by_reference = ap (map Some) closures_are ∙ own_closures es (λ x h. h)

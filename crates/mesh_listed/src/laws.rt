@@ -44,7 +44,9 @@ pub fn lists_are_projects()
     ensures proper { (b : Book) (list : List Ref) → is_well_formed_book b ≡ true → is_list_fit b.snapshots list ≡ true → is_proper (listed b.snapshots list) ≡ true }
 {}
 
-/// The closures of that project are those that the book has of its snapshots.
+/// The closures of that project are those that the book has of its entries.
 pub fn projects_of_lists_have_the_closures_of_the_book()
-    ensures { (b : Book) (list : List Ref) → is_well_formed_book b ≡ true → is_list_fit b.snapshots list ≡ true → closures (listed b.snapshots list) ≡ map (closing b.snapshots) (entries b.snapshots list) }
+    ensures snapshots { (b : Book) (list : List Ref) → is_well_formed_book b ≡ true → is_list_fit b.snapshots list ≡ true → closures (listed b.snapshots list) ≡ map (closing b.snapshots) (entries b.snapshots list) }
+    ensures references { (b : Book) (list : List Ref) → is_well_formed_book b ≡ true → is_list_fit b.snapshots list ≡ true →
+        map Some (closures (listed b.snapshots list)) ≡ map (closure_at b.snapshots) (map snapshot_ref (entries b.snapshots list)) }
 {}
