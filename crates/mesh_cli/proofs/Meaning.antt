@@ -5,6 +5,7 @@ use Rattle.std.specs.declared.option.Option.{Option}
 use Rattle.std.specs.Ordering.{is_eq}
 use Rattle.std.specs.Cmp.{Equal-is}
 use Rattle.std.specs.List.{AllByRecursion}
+use Rattle.std.proofs.lemmas.List.Elements.{All-from_recursion}
 use Rattle.mesh_list.specs.Keyed.{ascends, found}
 use Rattle.mesh_list.proofs.Ascends.{and_right}
 use Rattle.mesh_list.proofs.Each.{each_found, found-behind}
@@ -152,4 +153,4 @@ module _ (models : List Model) (w : World) (up : ascends name_cmp model_name mod
 
   -- after all changes each view shows its model's value
   pub final : Final models last
-  final = each_shows models (each_found name_cmp names_total model_name models up)
+  final = All-from_recursion _ models (each_shows models (each_found name_cmp names_total model_name models up))

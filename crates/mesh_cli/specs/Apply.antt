@@ -1,6 +1,6 @@
 -- The one list of changes that `apply` makes, and the world that it leaves.
 use Rattle.std.specs.Prelude.{ℕ, ◌==◌, List, [], ◌∷◌, ◌++◌, codes, IsSomeAnd, if◌then◌else◌}
-use Rattle.std.specs.List.{AllByRecursion, flat_map}
+use Rattle.std.specs.List.{All, flat_map}
 use Rattle.mesh_values.specs.declared.values.Name.{Name}
 use Rattle.mesh_project.specs.declared.models.Model.{Model}
 use Rattle.mesh_values.specs.Bag.{IsSameBag}
@@ -44,4 +44,4 @@ changes models = executes models 0 models ++ (executes models 1 models ++ points
 
 -- the view of each model shows the model's value, as a bag
 abbrev pub Final : List Model → World → Type 0
-Final models w = AllByRecursion (λ (m : Model). IsSomeAnd (view_rows w m.name) (λ rows. IsSameBag rows (value models m.picking))) models
+Final models w = All (λ (m : Model). IsSomeAnd (view_rows w m.name) (λ rows. IsSameBag rows (value models m.picking))) models

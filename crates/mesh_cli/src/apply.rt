@@ -6,9 +6,9 @@ ghost use Rattle.mesh_house.specs.Runs.{Makes};
 ghost use Rattle.mesh_cli.specs.Apply.{table_of, fills, fills_at, executes, pointed, points, changes};
 
 use crate::pick::{columns_of, value};
-use mesh_project::{Model, Picking};
 use mesh_house::{Change, Warehouse, WhFail, make, make_all};
 use mesh_list::{Duplicate, Memory, Seq, Sorted};
+use mesh_project::{Model, Picking};
 use mesh_values::{Name, Str};
 use std::alloc::Global;
 

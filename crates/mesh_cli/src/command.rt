@@ -10,12 +10,11 @@ ghost use Rattle.mesh_cli.specs.Apply.{changes};
 ghost use Rattle.mesh_cli.specs.Mesh.{is_apply, Applied, Halted, Printed, IsRefused, IsCut};
 
 use crate::apply::apply;
-use mesh_project::Model;
 use mesh_fault_text::fault_line;
 use mesh_house::{Warehouse, WhFail};
 use mesh_io::{Clock, Folder, IoFail, Sink, Source};
 use mesh_list::Sorted;
-use mesh_project::{LoadFault, load};
+use mesh_project::{LoadFault, Model, load};
 use mesh_tokens::FaultKind;
 use mesh_values::Str;
 use std::alloc::Global;

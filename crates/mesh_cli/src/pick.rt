@@ -4,8 +4,8 @@ ghost use Rattle.mesh_values.specs.Picked.{same_text, cell_of, kind_of, picked_r
 ghost use Rattle.mesh_project.specs.Value.{model_of, parent_columns, parent_rows, columns_of, value};
 ghost use Rattle.mesh_cli.specs.Places.{place_of, places_of, cell_at, row_at};
 
-use mesh_project::{Model, Picking};
 use mesh_list::{Duplicate, Memory, Seq, Sorted};
+use mesh_project::{Model, Picking};
 use mesh_values::{Cell, ColType, Column, Columns, Name, Row, Rows, Str, Strs};
 use std::alloc::Global;
 
