@@ -62,5 +62,10 @@ module _ (b : Book) (well : is_well_formed_book b ≡ true) where
       ∙ ap (Model s.own) (below (closed all s.rank) (closing all) s known (λ p its less. one_closure s.rank p.rank p its (omega (arith, less)) (omega arith)))
 
   -- of which none is missing
-  pub closing_has : (s : Snapshot) → IsSnapshot all s → (parents : Closures) × (closing all s ≡ Model s.own parents) × (map Some (each_of parents) ≡ map (closure_at all) s.parents)
-  closing_has s known = (parents_by (closing all) all s.parents, closing_is s known, each_there all (closing all) s.rank s.parents ((fits b s well known).parents))
+  pub closure_has : (r : Ref) (s : Snapshot) → snapshot_at all r ≡ Some s → (parents : Closures) × (closure_at all r ≡ Some (Model s.own parents)) × (map Some (each_of parents) ≡ map (closure_at all) s.parents)
+  closure_has r s e =
+      let known = is_its_own all r s e in (
+        parents_by (closing all) all s.parents,
+        ap (option_map (closing all)) e ∙ ap Some (closing_is s known),
+        each_there all (closing all) s.rank s.parents (fits b s well known).parents,
+      )

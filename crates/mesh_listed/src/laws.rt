@@ -1,7 +1,6 @@
 // Closures of snapshots, and projects of lists.
 ghost use Rattle.std.specs.Prelude.{◌≡◌, ◌↔◌, true, List, map, length, Some};
 ghost use Rattle.std.specs.List.{All, Contains};
-ghost use Rattle.std.specs.Option.{option_map};
 ghost use Rattle.mesh_list.specs.Keyed.{ascends};
 ghost use Rattle.mesh_base.specs.Keys.{snapshot_ref};
 ghost use Rattle.mesh_base.specs.declared.snapshots.Env.{Env};
@@ -18,8 +17,8 @@ ghost use Rattle.mesh_listed.specs.Listed.{entries, is_list_fit, listed, rank_cm
 /// missing.
 pub fn snapshots_stand_on_their_parents_closures()
     ensures closure { (b : Book) → is_well_formed_book b ≡ true → (s : Snapshot) → IsSnapshot b.snapshots s → closing b.snapshots s ≡ Model s.own (parents_by (closing b.snapshots) b.snapshots s.parents) }
-    ensures parents { (b : Book) → is_well_formed_book b ≡ true → (s : Snapshot) → IsSnapshot b.snapshots s →
-        (parents : Closures) × (closing b.snapshots s ≡ Model s.own parents) × (map Some (each_of parents) ≡ map (closure_at b.snapshots) s.parents) }
+    ensures reference { (b : Book) → is_well_formed_book b ≡ true → (r : Ref) (s : Snapshot) → snapshot_at b.snapshots r ≡ Some s →
+        (parents : Closures) × (closure_at b.snapshots r ≡ Some (Model s.own parents)) × (map Some (each_of parents) ≡ map (closure_at b.snapshots) s.parents) }
 {}
 
 /// A snapshot has one closure in two lists of snapshots where each of the first is in the second, with its definition, its
