@@ -2,9 +2,7 @@
 use crate::changes::change;
 use crate::line::{Line, Named, Owns, parted};
 use crate::owns::add_own;
-use crate::written::{
-    put, put_body, put_book, put_columns, put_fingerprints, put_name, put_world,
-};
+use crate::written::{put, put_body, put_book, put_columns, put_fingerprints, put_name, put_world};
 use mesh_book::Book;
 use mesh_cases::{Trouble, cases_of, put_number};
 use mesh_house::{Change, Changes, Fail, MemHouse, Warehouse, WhFail, World, make, make_all};
