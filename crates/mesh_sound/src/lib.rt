@@ -1,0 +1,10 @@
+//! The promise of a warehouse: worlds that are kept well, what moves as time goes on and sources change, when an
+//! environment is final, and what holds after any list of commands. Its definitions are read in this order: `Sound`,
+//! `Moved`, `Current`, `Final` and `Histories`. It stands on `mesh_changes`.
+#![tactic(auto)]
+
+mod laws;
+
+pub use laws::{
+    more_doubt_keeps_the_world_sound, the_empty_world_is_sound, what_is_taken_leaves_doubt,
+};
