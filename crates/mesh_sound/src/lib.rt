@@ -6,5 +6,7 @@
 mod laws;
 
 pub use laws::{
-    more_doubt_keeps_the_world_sound, the_empty_world_is_sound, what_is_taken_leaves_doubt,
+    finalized_environments_are_final, more_doubt_keeps_the_world_sound,
+    objects_up_to_date_show_rows_from_scratch, the_empty_world_is_sound,
+    what_is_taken_leaves_doubt,
 };
