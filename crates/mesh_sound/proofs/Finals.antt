@@ -21,8 +21,7 @@ use Rattle.mesh_sound.specs.Final.{Final}
 use Rattle.mesh_due.specs.Parts.{Parts, same_name}
 use Rattle.mesh_due.specs.Plans.{Planned}
 use Rattle.mesh_sound.specs.Sound.{Sound}
-use Rattle.mesh_listed.proofs.Books.{fits, is_its_own, its_ref}
-use Rattle.mesh_sound.proofs.Fits.{its_schema}
+use Rattle.mesh_sound.proofs.Fits.{plain_ref}
 use Rattle.mesh_sound.proofs.Ends.{placed_each, models_shown}
 use Rattle.mesh_sound.proofs.Views.{each_holds}
 use Rattle.mesh_sound.proofs.ViewNames.{view_names}
@@ -62,10 +61,7 @@ environment_final x w clock sound now e known final models list done listed = re
     others : (m target : Name) → IsTrue (is_plain_schema m.schema) → view w (view_in e.name m) ≡ Some target → IsTrue (is_listed models m)
     others m target plain at =
         let i = sound.views.views (view_in e.name m) target at in
-        let own = is_its_own w.book.snapshots i.entry i.snapshot i.is in
-        let fit = fits w.book i.snapshot sound.book.well_formed own in
-        let its_name : i.snapshot.own.name ≡ i.entry.name = fit.name ∙ ap (λ (k : Ref). k.name) (its_ref w.book.snapshots i.entry i.snapshot i.is) in
-        let plain_i : is_plain_schema i.entry.name.schema ≡ true = ap (λ (n : Name). is_plain_schema n.schema) (sym its_name) ∙ its_schema w.book i.snapshot sound.book.well_formed own in
+        let plain_i = plain_ref w.book i.entry i.snapshot sound.book.well_formed i.is in
         let names = view_names e.name i.env.name m i.entry.name plain plain_i i.view in
         let same : e ≡ i.env = let both : Some e ≡ Some i.env = sym known ∙ ap (env_at w.book) names.0 ∙ i.known in cc in
         let here : is_listed models i.entry.name ≡ true =

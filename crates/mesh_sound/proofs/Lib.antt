@@ -18,3 +18,11 @@ pub mod ViewNames
 pub mod Ends
 -- Finals: a finalized environment whose models are up to date is final.
 pub mod Finals
+-- Filled: what a model is filled with is its rows from scratch.
+pub mod Filled
+-- Found: what is found after an item is exchanged for another of its key.
+pub mod Found
+-- Staying: a model that is done stays so while another object's version changes.
+pub mod Staying
+-- Pointed: a view is pointed at the object of an entry.
+pub mod Pointed
