@@ -125,7 +125,6 @@ module _ (x : Parts) (w : World) (sound : Sound x w) (t : ℤ) (later : w.book.m
   abbrev pub after : World
   after = record w { sources = ss; book = record w.book { moment = t } }
 
-
   crons : (s : Snapshot) → IsSnapshot w.book.snapshots s → Each HasCron (standing (closing w.book.snapshots s))
   crons s known = closed_crons w.book.snapshots sound.typed.crons s.rank s known
 
@@ -140,9 +139,9 @@ module _ (x : Parts) (w : World) (sound : Sound x w) (t : ℤ) (later : w.book.m
       let c = closing w.book.snapshots s in
       let none : moved w before then_ ss (unit_of s.object u) ≡ false = or_right (x (unit_of s.object u)) _ free in
       let of_s : (same_name s.object s.object && unit_moves w before then_ ss s u s.own.kind) ≡ false =
-        none_of (λ (q : Snapshot). same_name q.object s.object && unit_moves w before then_ ss q u q.own.kind) w.book.snapshots none s (found_contained ref_cmp snapshot_ref (snapshot_ref s) s w.book.snapshots known) in
+      none_of (λ (q : Snapshot). same_name q.object s.object && unit_moves w before then_ ss q u q.own.kind) w.book.snapshots none s (found_contained ref_cmp snapshot_ref (snapshot_ref s) s w.book.snapshots known) in
       let moves : unit_moves w before then_ ss s u (Incremental time lookback) ≡ false =
-        subst (λ (k : Kind). unit_moves w before then_ ss s u k ≡ false) timed (and_fails (same_name s.object s.object) _ (name_itself s.object) of_s) in
+      subst (λ (k : Kind). unit_moves w before then_ ss s u k ≡ false) timed (and_fails (same_name s.object s.object) _ (name_itself s.object) of_s) in
       let held_there : holds w.book s.object u ≡ true = ap (λ (o : Option Version). is_held (ranges_of o) u.start u.end) at ∙ held in
       bag_is_same (piece w.sources before c u) (piece ss then_ c u)
       (last_fails (is_unit_of (schedule before c) u) (holds w.book s.object u) _ (any_of (λ (b : Bounds). same_second b.start u.start && same_second b.end u.end) (schedule before c) u listed (unit_itself u)) held_there moves)
@@ -154,11 +153,11 @@ module _ (x : Parts) (w : World) (sound : Sound x w) (t : ℤ) (later : w.book.m
       let c = closing w.book.snapshots s in
       let none : moved w before then_ ss (Marks s.object) ≡ false = or_right (x (Marks s.object)) _ free in
       let of_s : (same_name s.object s.object && whole_moves w before then_ ss s s.own.kind) ≡ false =
-        none_of (λ (q : Snapshot). same_name q.object s.object && whole_moves w before then_ ss q q.own.kind) w.book.snapshots none s (found_contained ref_cmp snapshot_ref (snapshot_ref s) s w.book.snapshots known) in
+      none_of (λ (q : Snapshot). same_name q.object s.object && whole_moves w before then_ ss q q.own.kind) w.book.snapshots none s (found_contained ref_cmp snapshot_ref (snapshot_ref s) s w.book.snapshots known) in
       let moves : whole_moves w before then_ ss s Full ≡ false =
-        subst (λ (k : Kind). whole_moves w before then_ ss s k ≡ false) full (and_fails (same_name s.object s.object) _ (name_itself s.object) of_s) in
+      subst (λ (k : Kind). whole_moves w before then_ ss s k ≡ false) full (and_fails (same_name s.object s.object) _ (name_itself s.object) of_s) in
       let first : are_marks (marks_of (version_of w.book s.object)) (marks before c) ≡ true =
-        ap (λ (o : Option Version). are_marks (marks_of o) (marks before c)) at ∙ ap (λ o. are_marks o (marks before c)) equal ∙ marks_itself (marks before c) in
+      ap (λ (o : Option Version). are_marks (marks_of o) (marks before c)) at ∙ ap (λ o. are_marks o (marks before c)) equal ∙ marks_itself (marks before c) in
       let second : same_marks (marks before c) (marks then_ c) ≡ true = ap (λ (ms : List ℤ). same_marks (marks before c) ms) (sym same) ∙ marks_itself (marks before c) in
       bag_is_same (from_scratch w.sources before c) (from_scratch ss then_ c) (last_fails _ _ _ first second moves)
 
@@ -177,28 +176,28 @@ module _ (x : Parts) (w : World) (sound : Sound x w) (t : ℤ) (later : w.book.m
       units = λ τ has. let (d, kd, held, within) = h.units τ has in (d, more d kd, held, within);
       within = λ m rows at_rows. λ k d l. any_grows (λ u. is_of_unit s.own u (slice_index_or rows k d)) (schedule before c) (schedule clock c) more (h.within m rows at_rows k d l);
       pieces = λ m u k held free rows at_rows.
-        let proper = scheduled_proper clock c u k in
-        let begins : IsWithin u.start u.end u.start = (omega (arith, ints), proper) in
-        let has : Has v.ranges u.start = has_if_held v.ranges u.start u.end held u.start begins.0 begins.1 in
-        let (d, kd, held_d, within_d) = h.units u.start has in
-        let same : d ≡ u = scheduled_once clock c d u (more d kd) k u.start within_d begins in
-        let listed : Contains (schedule before c) u = subst (Contains (schedule before c)) same kd in
-        let stays = unit_stays s known time lookback is v at u listed held free in
-        let one : piece ss then_ c u ≡ piece ss clock c u = one_piece t then_ clock shows_then shows ss c (crons s known) u in
-        subst (λ (l : List (List Cell)). IsSameBag (filter (is_of_unit s.own u) rows) l) one
-        (λ row. h.pieces m u listed held (or_left (x (unit_of s.object u)) _ free) rows at_rows row ∙ stays row);
+          let proper = scheduled_proper clock c u k in
+          let begins : IsWithin u.start u.end u.start = (omega (arith, ints), proper) in
+          let has : Has v.ranges u.start = has_if_held v.ranges u.start u.end held u.start begins.0 begins.1 in
+          let (d, kd, held_d, within_d) = h.units u.start has in
+          let same : d ≡ u = scheduled_once clock c d u (more d kd) k u.start within_d begins in
+          let listed : Contains (schedule before c) u = subst (Contains (schedule before c)) same kd in
+          let stays = unit_stays s known time lookback is v at u listed held free in
+          let one : piece ss then_ c u ≡ piece ss clock c u = one_piece t then_ clock shows_then shows ss c (crons s known) u in
+          subst (λ (l : List (List Cell)). IsSameBag (filter (is_of_unit s.own u) rows) l) one
+          (λ row. h.pieces m u listed held (or_left (x (unit_of s.object u)) _ free) rows at_rows row ∙ stays row);
     }
     table_then Full is h = record {
       no_later = λ old at_old. through old (marks before c) (marks clock c) (h.no_later old at_old) (marks_grow before clock c grown);
       rows = λ equal free rows at_rows.
-        let same : marks before c ≡ marks clock c = between (marks before c) (marks clock c) (marks_grow before clock c grown) (h.no_later (marks clock c) equal) in
-        let back : Each (Earlier clock then_) (standing c) = earlier t t clock then_ (omega (arith, ints)) shows shows_then (standing c) (crons s known) in
-        let forth : Each (Earlier then_ clock) (standing c) = earlier t t then_ clock (omega (arith, ints)) shows_then shows (standing c) (crons s known) in
-        let alike : marks clock c ≡ marks then_ c = between (marks clock c) (marks then_ c) (marks_grow clock then_ c back) (marks_grow then_ clock c forth) in
-        let equal_before : v.marks ≡ Some (marks before c) = equal ∙ ap (λ ms. Some ms) (sym same) in
-        let stays = whole_stays s known is v at equal_before (same ∙ alike) free in
-        let one : from_scratch ss then_ c ≡ from_scratch ss clock c = one_list t then_ clock shows_then shows ss c (crons s known) in
-        subst (λ (l : List (List Cell)). IsSameBag rows l) one (λ row. h.rows equal_before (or_left (x (Marks s.object)) _ free) rows at_rows row ∙ stays row);
+          let same : marks before c ≡ marks clock c = between (marks before c) (marks clock c) (marks_grow before clock c grown) (h.no_later (marks clock c) equal) in
+          let back : Each (Earlier clock then_) (standing c) = earlier t t clock then_ (omega (arith, ints)) shows shows_then (standing c) (crons s known) in
+          let forth : Each (Earlier then_ clock) (standing c) = earlier t t then_ clock (omega (arith, ints)) shows_then shows (standing c) (crons s known) in
+          let alike : marks clock c ≡ marks then_ c = between (marks clock c) (marks then_ c) (marks_grow clock then_ c back) (marks_grow then_ clock c forth) in
+          let equal_before : v.marks ≡ Some (marks before c) = equal ∙ ap (λ ms. Some ms) (sym same) in
+          let stays = whole_stays s known is v at equal_before (same ∙ alike) free in
+          let one : from_scratch ss then_ c ≡ from_scratch ss clock c = one_list t then_ clock shows_then shows ss c (crons s known) in
+          subst (λ (l : List (List Cell)). IsSameBag rows l) one (λ row. h.rows equal_before (or_left (x (Marks s.object)) _ free) rows at_rows row ∙ stays row);
     }
     table_then Seed is h = h
     table_then View is h = tt
@@ -214,8 +213,8 @@ module _ (x : Parts) (w : World) (sound : Sound x w) (t : ℤ) (later : w.book.m
       let b = sound.book in
       record {
         well_formed = and_both _ _
-          (and_both _ _ real (and_right (is_moment w.book.moment) (is_version w.book.version) (and_left (is_moment w.book.moment && is_version w.book.version) _ b.well_formed)))
-          (and_right (is_moment w.book.moment && is_version w.book.version) _ b.well_formed);
+            (and_both _ _ real (and_right (is_moment w.book.moment) (is_version w.book.version) (and_left (is_moment w.book.moment && is_version w.book.version) _ b.well_formed)))
+            (and_right (is_moment w.book.moment && is_version w.book.version) _ b.well_formed);
         names = b.names;
         versions = λ name v at. uses_after name (b.versions name v at);
         ranges = b.ranges;

@@ -1,24 +1,22 @@
 -- Units of one schedule that share a second are one unit.
-use Rattle.std.proofs.Common.{◌≡◌, ℕ, zero, suc, ◌+◌, ◌*◌, ◌<ℤ◌, ℤ, pos, ◌+ℤ◌, ◌*ℤ◌, Bool, true, false, cond, ◌||◌, List, [], ◌∷◌, map, Some, refl, sym, ◌∙◌, ap, subst, arith}
+use Rattle.std.proofs.Common.{◌≡◌, ℕ, zero, suc, ◌+◌, ◌*◌, ◌<ℤ◌, ℤ, pos, ◌+ℤ◌, ◌*ℤ◌, Bool, true, false, ◌||◌, List, [], ◌∷◌, map, Some, refl, sym, ◌∙◌, ap, subst, arith}
 use Rattle.std.proofs.lemmas.Int.{ints}
-use Rattle.std.specs.List.{Contains, filter, list_any, range_with_len}
+use Rattle.std.specs.List.{Contains, list_any, range_with_len}
 use Rattle.std.specs.declared.option.Option.{Option}
 use Rattle.std.specs.declared.option.Option.TheVariants.{None}
 use Rattle.mesh_values.specs.declared.times.Bounds.{Bounds}
 use Rattle.mesh_values.specs.declared.times.Schedule.{Schedule}
 use Rattle.mesh_values.specs.declared.times.Unit.{Unit as TimeUnit}
 use Rattle.mesh_values.specs.declared.times.Unit.TheVariants.{Hour, Day}
-use Rattle.mesh_values.specs.declared.values.Cell.{Cell}
 use Rattle.mesh_values.specs.declared.values.Cell.TheVariants as cell
 use Rattle.mesh_values.specs.declared.values.ColType.TheVariants as type
 use Rattle.mesh_values.specs.declared.values.Column.{Column}
-use Rattle.mesh_time.specs.Ranges.{Has, IsWithin, is_held, unit_at, unit_count, unit_size, units}
+use Rattle.mesh_time.specs.Ranges.{IsWithin, unit_at, unit_count, unit_size, units}
 use Rattle.mesh_time.proofs.Apart.{le_true, lt_true, and_true}
-use Rattle.mesh_time.proofs.Held.{has_if_held}
 use Rattle.mesh_scratch.specs.Closures.{Closure, own_of}
 use Rattle.mesh_scratch.specs.Horizons.{Clock, horizon, schedule, units_from}
 use Rattle.mesh_seconds.specs.Times.{lies_in}
-use Rattle.mesh_scratch.proofs.Cut.{by_second, in_one}
+use Rattle.mesh_scratch.proofs.Cut.{in_one}
 
 contained_map : {X Y : Type 0} (f : X → Y) (xs : List X) (y : Y) → Contains (map f xs) y → (x : X) × (y ≡ f x)
 contained_map f [] y (k, l, e) = absurd (omega (arith, l))
