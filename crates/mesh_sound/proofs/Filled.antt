@@ -1,5 +1,5 @@
 -- What a model is filled with is its rows from scratch, where its parents and all that they stand on are up to date.
-use Rattle.std.proofs.Common.{◌≡◌, ℕ, Bool, true, false, cond, List, [], ◌∷◌, ◌++◌, map, Some, refl, sym, ◌∙◌, ap, subst}
+use Rattle.std.proofs.Common.{◌≡◌, Bool, true, false, cond, List, [], ◌∷◌, ◌++◌, map, Some, refl, sym, ◌∙◌, ap, subst}
 use Rattle.std.specs.declared.option.Option.{Option}
 use Rattle.std.specs.List.{AllByRecursion, AllZip, flat_map, slice_index_or}
 use Rattle.std.specs.Option.{option_map, option_and_then}
@@ -68,9 +68,9 @@ module _ (x : Parts) (w : World) (clock : Clock) (sound : Sound x w) (now : Show
       let table : parent_table w q ≡ Some t = ap (λ (n : Name). option_map (table_of q.node.own) (object_rows w n)) (sym h.done.object) ∙ ap (option_map (table_of q.node.own)) shown.1 in
       let all : each_there (map (parent_table w) (q ∷ qs)) ≡ Some (t ∷ ts) = (λ i. option_and_then (λ u. option_map (λ us. u ∷ us) (there i)) (table i)) in
       let parents : scratch_tables (q ∷ qs) ≡ table_of (own_of c) (from_scratch w.sources clock c) ∷ scratch_tables qs =
-        ap (λ (o : Option Snapshot). tables w.sources clock (with_parent (option_map (closing w.book.snapshots) o) (parents_by (closing w.book.snapshots) w.book.snapshots (map planned_ref qs)))) h.done.known in
+      ap (λ (o : Option Snapshot). tables w.sources clock (with_parent (option_map (closing w.book.snapshots) o) (parents_by (closing w.book.snapshots) w.book.snapshots (map planned_ref qs)))) h.done.known in
       let one : IsOne t (table_of (own_of c) (from_scratch w.sources clock c)) =
-        record { name = ap (λ (o : Own). o.name) (sym own_is); columns = ap columns_of (sym own_is); rows = shown.2 } in
+      record { name = ap (λ (o : Own). o.name) (sym own_is); columns = ap columns_of (sym own_is); rows = shown.2 } in
       (t ∷ ts, all, subst (λ (us : List Input). AllZip IsOne (t ∷ ts) us) (sym parents) (one, z))
 
   pub read : (qs : List Planned) → AllByRecursion (IsReadable clock x w.book) qs → Read qs
@@ -97,7 +97,7 @@ module _ (x : Parts) (w : World) (clock : Clock) (sound : Sound x w) (now : Show
 
     alike : AreSameTables (defn_names p.node.own.defn) inputs (own_sources ++ scratch_tables (parents_in models p))
     alike = λ k d l. found_one (slice_index_or (defn_names p.node.own.defn) k d) inputs (own_sources ++ scratch_tables (parents_in models p))
-      (zip_append IsOne own_sources own_sources (read (parents_in models p) readable).0 (scratch_tables (parents_in models p)) (zip_itself IsOne itself own_sources) (read (parents_in models p) readable).2)
+        (zip_append IsOne own_sources own_sources (read (parents_in models p) readable).0 (scratch_tables (parents_in models p)) (zip_itself IsOne itself own_sources) (read (parents_in models p) readable).2)
 
     -- one unit
     unit_filled : (u : Bounds) → IsSameBag (ascending (piece_over p.node.own inputs u)) (piece w.sources clock (closing w.book.snapshots s) u)

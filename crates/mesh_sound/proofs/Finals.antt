@@ -65,8 +65,8 @@ environment_final x w clock sound now e known final models list done listed = re
         let names = view_names e.name i.env.name m i.entry.name plain plain_i i.view in
         let same : e ≡ i.env = let both : Some e ≡ Some i.env = sym known ∙ ap (env_at w.book) names.0 ∙ i.known in cc in
         let here : is_listed models i.entry.name ≡ true =
-          ⊎_elim (λ k. in_list i.entry (subst (λ (f : Env). Contains f.list i.entry) (sym same) k))
-          (λ k. let none : e.previous ≡ [] = sound.views.previous e known final in
-          let k' : Contains [] i.entry = subst (λ (l : List Ref). Contains l i.entry) none (subst (λ (f : Env). Contains f.previous i.entry) (sym same) k) in
-          absurd (omega (arith, k'.1))) i.of in
+        ⊎_elim (λ k. in_list i.entry (subst (λ (f : Env). Contains f.list i.entry) (sym same) k))
+        (λ k. let none : e.previous ≡ [] = sound.views.previous e known final in
+        let k' : Contains [] i.entry = subst (λ (l : List Ref). Contains l i.entry) none (subst (λ (f : Env). Contains f.previous i.entry) (sym same) k) in
+        absurd (omega (arith, k'.1))) i.of in
         subst (λ (n : Name). is_listed models n ≡ true) (sym names.1) here

@@ -26,3 +26,11 @@ pub mod Found
 pub mod Staying
 -- Pointed: a view is pointed at the object of an entry.
 pub mod Pointed
+-- Crons: the crons among a snapshot's ancestors are the book's, and a moment decides the rows of a unit.
+pub mod Crons
+-- Bags: the test of two lists of rows tells whether they are one bag.
+pub mod Bags
+-- Seconds: units of one schedule that share a second are one unit.
+pub mod Seconds
+-- Moments: the moment is raised, or a source is loaded.
+pub mod Moments

@@ -87,13 +87,13 @@ module _ (x : Parts) (w : World) (sound : Sound x w) (e : Env) (known : IsEnv w.
       let v = sound.views in
       record {
         views = λ name target at. by_view name target at
-          (λ named object. record { env = e; known = known; entry = r; of = entry; snapshot = s; is = is; view = sym named; object = sym object })
-          (λ before. let i = v.views name target before in record { env = i.env; known = i.known; entry = i.entry; of = i.of; snapshot = i.snapshot; is = i.is; view = i.view; object = i.object });
+            (λ named object. record { env = e; known = known; entry = r; of = entry; snapshot = s; is = is; view = sym named; object = sym object })
+            (λ before. let i = v.views name target before in record { env = i.env; known = i.known; entry = i.entry; of = i.of; snapshot = i.snapshot; is = i.is; view = i.view; object = i.object });
         entries = v.entries;
         parents = v.parents;
         previous = v.previous;
         final = λ f kf final q k t at.
-          others_stay f kf final q (plain_ref w.book q t sound.book.well_formed at) t.object (v.final f kf final q k t at);
+            others_stay f kf final q (plain_ref w.book q t sound.book.well_formed at) t.object (v.final f kf final q k t at);
       }
 
   pub view_pointed : Sound x after

@@ -1,5 +1,5 @@
 -- A table that is up to date holds its model's rows from scratch.
-use Rattle.std.proofs.Common.{◌≡◌, ℕ, zero, suc, Bool, true, false, List, [], ◌∷◌, Some, None, refl, sym, ap, subst, arith}
+use Rattle.std.proofs.Common.{◌≡◌, ℕ, zero, suc, true, false, List, [], ◌∷◌, Some, None, refl, sym, ap, subst, arith}
 use Rattle.std.specs.List.{All, Contains, filter, flat_map}
 use Rattle.std.specs.Option.{option_and_then}
 use Rattle.std.specs.declared.option.Option.{Option}
@@ -71,7 +71,7 @@ module _ (sources : List Input) (clock : Clock) (own : Own) (parents : Closures)
   units_joined within same =
       let front : Perm rows (flat_map (λ u. filter (is_of_unit own u) rows) (schedule clock c)) = joined (is_of_unit own) (schedule clock c) rows apart (each (lies_among own (schedule clock c)) rows within) in
       let back = flat_those (λ u. filter (is_of_unit own u) rows) (piece sources clock c) (schedule clock c)
-        (each_member _ (schedule clock c) (λ u k. bag_is_perm (filter (is_of_unit own u) rows) (piece sources clock c u) (same u k))) in
+      (each_member _ (schedule clock c) (λ u k. bag_is_perm (filter (is_of_unit own u) rows) (piece sources clock c u) (same u k))) in
       counts_same (trans front (trans back (is _ _ (sym (incrementals sources clock own parents time timed)))))
 
 module _ (clock : Clock) (x : Parts) (w : World) (s : Snapshot) (v : Version) (made : v.made ≡ true) (rows : List (List Cell)) (at : table_rows w s.object ≡ Some rows) where
@@ -96,7 +96,7 @@ module _ (clock : Clock) (x : Parts) (w : World) (s : Snapshot) (v : Version) (m
   table_held (Incremental time lookback) is_it other body sound recorded =
       let known = closed_own w.book.snapshots s.rank s in
       let P : Closure → Type 0 = λ c. All (lies_among s.own (schedule clock c)) rows
-          → ((u : Bounds) → Contains (schedule clock c) u → IsSameBag (filter (is_of_unit s.own u) rows) (piece w.sources clock c u))
-          → IsSameBag rows (from_scratch w.sources clock c) in
+      → ((u : Bounds) → Contains (schedule clock c) u → IsSameBag (filter (is_of_unit s.own u) rows) (piece w.sources clock c u))
+      → IsSameBag rows (from_scratch w.sources clock c) in
       subst P (sym known.1) (units_joined w.sources clock s.own known.0 time (ap time_column is_it) rows) (sound.within made rows at)
       (λ u k. sound.pieces made u k (recorded u k).0 (recorded u k).1 rows at)

@@ -50,11 +50,11 @@ plain_says : (s : List ℕ) → has_two_underscores s ≡ false → ends_with na
 plain_says [] h e = tt
 plain_says (x ∷ []) h e = λ is. let f : ends_with nat_eq (x ∷ []) (95 ∷ []) ≡ true = ap (λ (n : ℕ). ends_with nat_eq (n ∷ []) (95 ∷ [])) is in let g : true ≡ false = sym f ∙ e in cc
 plain_says (x ∷ y ∷ ys) h e = (
-    λ a b. let parts = or_none ((x == 95) && begins_with 95 (y ∷ ys)) (has_two_underscores (y ∷ ys)) h in
-    let f : ((x == 95) && (y == 95)) ≡ true = (λ i. (a i == 95) && (b i == 95)) in
-    let g : true ≡ false = sym f ∙ parts.0 in cc,
-    plain_says (y ∷ ys) (or_none ((x == 95) && begins_with 95 (y ∷ ys)) (has_two_underscores (y ∷ ys)) h).1 (sym (ap (λ (l : List ℕ). pointwise nat_eq (95 ∷ []) l) cut) ∙ e),
-  )
+  λ a b. let parts = or_none ((x == 95) && begins_with 95 (y ∷ ys)) (has_two_underscores (y ∷ ys)) h in
+      let f : ((x == 95) && (y == 95)) ≡ true = (λ i. (a i == 95) && (b i == 95)) in
+      let g : true ≡ false = sym f ∙ parts.0 in cc,
+  plain_says (y ∷ ys) (or_none ((x == 95) && begins_with 95 (y ∷ ys)) (has_two_underscores (y ∷ ys)) h).1 (sym (ap (λ (l : List ℕ). pointwise nat_eq (95 ∷ []) l) cut) ∙ e),
+)
   where
     cut : drop (length (x ∷ y ∷ ys) - 1) (x ∷ y ∷ ys) ≡ drop (length (y ∷ ys) - 1) (y ∷ ys)
     cut = let n : length (x ∷ y ∷ ys) - 1 ≡ suc (length (y ∷ ys) - 1) = omega arith in ap (λ (k : ℕ). drop k (x ∷ y ∷ ys)) n

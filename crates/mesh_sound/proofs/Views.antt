@@ -44,7 +44,7 @@ use Rattle.mesh_sound.specs.Current.{IsRecorded, IsCurrent, AllCurrent, current}
 use Rattle.mesh_due.specs.Parts.{Parts}
 use Rattle.mesh_shown.specs.Shown.{each_there, target_table, stored_relations, stored_rows, body_rows, rows_through, object_rows, target_relation, is_query_there}
 use Rattle.mesh_sound.specs.Sound.{Sound, IsMade, IsBodyOf, IsTableSound, table_rows, parent_objects}
-use Rattle.mesh_laws.proofs.Has.{Has, Has_from}
+use Rattle.mesh_laws.proofs.Has.{Has_from}
 use Rattle.mesh_rules.specs.declared.relations.Relation.{Relation}
 use Rattle.mesh_listed.proofs.Books.{fits, its_ref}
 use Rattle.mesh_sound.proofs.Fits.{its_body, its_names, its_rank}
@@ -97,17 +97,17 @@ module _ (w : World) (clock : Clock) (below : Name → Option (List (List Cell))
       let own_is : own_of c ≡ p.own = ap own_of (closed_own w.book.snapshots p.rank p).1 in
       let t : Input = record { name = r.name; columns = columns_of p.own; rows = h.rows } in
       let target : target_table below w (record { first = r.name; second = p.object }) ≡ Some t =
-        (λ i. option_map (λ rows. record { name = r.name; columns = h.columns i; rows = rows }) (h.shown i)) in
+      (λ i. option_map (λ rows. record { name = r.name; columns = h.columns i; rows = rows }) (h.shown i)) in
       let first : each_there (map (target_table below w) (parent_objects w.book.snapshots (r ∷ rs)))
-          ≡ each_there (target_table below w (record { first = r.name; second = p.object }) ∷ map (target_table below w) (parent_objects w.book.snapshots rs)) =
-        ap (λ (o : Option Snapshot). each_there (map (target_table below w) (map (λ (s : Snapshot). record { first = r.name; second = s.object }) (option_to_list o) ++ parent_objects w.book.snapshots rs))) h.known in
+      ≡ each_there (target_table below w (record { first = r.name; second = p.object }) ∷ map (target_table below w) (parent_objects w.book.snapshots rs)) =
+      ap (λ (o : Option Snapshot). each_there (map (target_table below w) (map (λ (s : Snapshot). record { first = r.name; second = s.object }) (option_to_list o) ++ parent_objects w.book.snapshots rs))) h.known in
       let all : each_there (map (target_table below w) (parent_objects w.book.snapshots (r ∷ rs))) ≡ Some (t ∷ ts) =
-        first ∙ (λ i. option_and_then (λ x. option_map (λ xs. x ∷ xs) (there i)) (target i)) in
+      first ∙ (λ i. option_and_then (λ x. option_map (λ xs. x ∷ xs) (there i)) (target i)) in
       let parents : tables w.sources clock (parents_by (closing w.book.snapshots) w.book.snapshots (r ∷ rs))
-          ≡ table_of (own_of c) (from_scratch w.sources clock c) ∷ tables w.sources clock (parents_by (closing w.book.snapshots) w.book.snapshots rs) =
-        ap (λ (o : Option Snapshot). tables w.sources clock (with_parent (option_map (closing w.book.snapshots) o) (parents_by (closing w.book.snapshots) w.book.snapshots rs))) h.known in
+      ≡ table_of (own_of c) (from_scratch w.sources clock c) ∷ tables w.sources clock (parents_by (closing w.book.snapshots) w.book.snapshots rs) =
+      ap (λ (o : Option Snapshot). tables w.sources clock (with_parent (option_map (closing w.book.snapshots) o) (parents_by (closing w.book.snapshots) w.book.snapshots rs))) h.known in
       let one : IsOne t (table_of (own_of c) (from_scratch w.sources clock c)) =
-        record { name = sym h.name ∙ ap (λ (o : Own). o.name) (sym own_is); columns = ap columns_of (sym own_is); rows = h.same } in
+      record { name = sym h.name ∙ ap (λ (o : Own). o.name) (sym own_is); columns = ap columns_of (sym own_is); rows = h.same } in
       (t ∷ ts, all, subst (λ (us : List Input). AllZip IsOne (t ∷ ts) us) (sym parents) (one, z))
 
   tables_shown : (refs : List Ref) → Each (Shows w clock below) refs → Tables refs
@@ -160,12 +160,14 @@ module _ (x : Parts) (w : World) (clock : Clock) (sound : Sound x w) (now : Show
       let made = made_of s known c in
       let P : Kind → Type 0 = λ k. IsBodyOf w.book.snapshots s k made.object.body in
       let table = tabular w.book.snapshots s kind other made.object.body (subst P e (body_is s known c)) in
-      let at : table_rows w s.object ≡ Some table.0 = ap (λ (o : Option Object). rows_of (body_of o)) made.stands ∙ ap (λ (b : Body). rows_of (Some b)) table.1 in
-      (table.0, table_shown depth w s.object table.0 at,
+      let at : table_rows w s.object ≡ Some table.0 = ap (λ (o : Option Object). rows_of (body_of o)) made.stands ∙ ap (λ (b : Body). rows_of (Some b)) table.1 in (
+        table.0,
+        table_shown depth w s.object table.0 at,
         table_held clock x w s c.version c.made table.0 at kind e other
-        (subst (λ (k : Kind). is_body_of k s.own.defn ≡ true) e (its_body w.book s sound.book.well_formed known))
-        (subst (λ (k : Kind). IsTableSound clock x w s c.version k) e (sound.tables clock now s known c.version c.known))
-        (subst (λ (k : Kind). IsRecorded clock x s (closing w.book.snapshots s) c.version k) e c.recorded))
+            (subst (λ (k : Kind). is_body_of k s.own.defn ≡ true) e (its_body w.book s sound.book.well_formed known))
+            (subst (λ (k : Kind). IsTableSound clock x w s c.version k) e (sound.tables clock now s known c.version c.known))
+            (subst (λ (k : Kind). IsRecorded clock x s (closing w.book.snapshots s) c.version k) e c.recorded),
+      )
 
   -- the rows of a view, by what its parents show
   module _ (depth : ℕ) (s : Snapshot) (known : IsSnapshot w.book.snapshots s) (c : IsCurrent clock x w.book s) (e : s.own.kind ≡ View) (shows : Each (Shows w clock (rows_through depth w)) s.parents) where
@@ -191,9 +193,9 @@ module _ (x : Parts) (w : World) (clock : Clock) (sound : Sound x w) (now : Show
     there q is =
         let declared_names : List Relation = map source_relation s.own.sources in
         let names : map relation_name (declared_names ++ parent_names) ≡ map relation_name (declared_names ++ map target_relation objects) =
-          map-append relation_name declared_names parent_names
-          ∙ ap (λ (l : List Name). map relation_name declared_names ++ l) (targets_named w clock below s.parents shows)
-          ∙ sym (map-append relation_name declared_names (map target_relation objects)) in
+        map-append relation_name declared_names parent_names
+        ∙ ap (λ (l : List Name). map relation_name declared_names ++ l) (targets_named w clock below s.parents shows)
+        ∙ sym (map-append relation_name declared_names (map target_relation objects)) in
         seen_there (declared_names ++ parent_names) (declared_names ++ map target_relation objects) names q
         (subst (λ (d : Defn). is_body_seen (read_relations s.own.sources (parents_of w.book.snapshots s.parents)) d ≡ true) is (its_names w.book s sound.book.well_formed known))
 
@@ -220,9 +222,9 @@ module _ (x : Parts) (w : World) (clock : Clock) (sound : Sound x w) (now : Show
     scratched q is =
         let parents = parents_by (closing w.book.snapshots) w.book.snapshots s.parents in
         let z : AllZip IsOne (own_sources ++ read) (own_sources ++ scratch_tables) =
-          zip_append IsOne own_sources own_sources read scratch_tables (zip_itself IsOne itself own_sources) (tables_shown w clock below s.parents shows).2 in
+        zip_append IsOne own_sources own_sources read scratch_tables (zip_itself IsOne itself own_sources) (tables_shown w clock below s.parents shows).2 in
         let same : IsSameBag (Sel q (own_sources ++ read) no_bounds) (Sel q (own_sources ++ scratch_tables) no_bounds) =
-          sel_bag q (own_sources ++ read) (own_sources ++ scratch_tables) (λ k d l. found_one (slice_index_or (names q) k d) (own_sources ++ read) (own_sources ++ scratch_tables) z) no_bounds in
+        sel_bag q (own_sources ++ read) (own_sources ++ scratch_tables) (λ k d l. found_one (slice_index_or (names q) k d) (own_sources ++ read) (own_sources ++ scratch_tables) z) no_bounds in
         subst (λ (rows : List (List Cell)). IsSameBag (Sel q (own_sources ++ read) no_bounds) rows)
         (sym (ap (from_scratch w.sources clock) (closing_is w.book sound.book.well_formed s known) ∙ views w.sources clock s.own parents q e is)) same
 

@@ -1,8 +1,10 @@
 // What the definitions give.
-ghost use Rattle.std.specs.Prelude.{◌≡◌, List, map, Some, true, false};
+ghost use Rattle.std.specs.Prelude.{◌≡◌, ◌≤ℤ◌, ℤ, Bool, List, map, Some, true, false};
 ghost use Rattle.std.specs.List.{AllByRecursion, Contains};
 ghost use Rattle.mesh_values.specs.Bag.{IsSameBag};
 ghost use Rattle.mesh_values.specs.declared.values.Cell.{Cell};
+ghost use Rattle.mesh_values.specs.declared.values.Column.{Column};
+ghost use Rattle.mesh_values.specs.declared.values.Name.{Name};
 ghost use Rattle.mesh_list.specs.Keyed.{exchanged};
 ghost use Rattle.mesh_values.specs.Names.{name_cmp};
 ghost use Rattle.mesh_values.specs.declared.kinds.Kind.TheVariants as kind;
@@ -20,17 +22,19 @@ ghost use Rattle.mesh_changes.specs.Changes.{ascending, parents_in, planned_ref,
 ghost use Rattle.mesh_changes.specs.Environments.{IsEnv, view_in};
 ghost use Rattle.mesh_sound.specs.Current.{AllCurrent, AreDone, IsReadable};
 ghost use Rattle.mesh_sound.specs.Final.{Final};
+ghost use Rattle.mesh_sound.specs.Moved.{moved};
 ghost use Rattle.mesh_base.specs.declared.forgets.Forget.{Forget};
 ghost use Rattle.mesh_book.specs.Changes.{version_object};
-ghost use Rattle.mesh_book.specs.WellFormed.{snapshot_at};
+ghost use Rattle.mesh_book.specs.WellFormed.{is_moment, snapshot_at};
 ghost use Rattle.mesh_book.specs.declared.book.Book.{Book};
 ghost use Rattle.mesh_book.specs.declared.versions.Version.{Version};
 ghost use Rattle.mesh_house.specs.declared.world.Change.{Change};
-ghost use Rattle.mesh_house.specs.declared.world.Change.TheVariants.{PointView};
+ghost use Rattle.mesh_house.specs.declared.world.Change.TheVariants.{Load, Moment, PointView};
+ghost use Rattle.mesh_house.specs.Objects.{is_physical};
 ghost use Rattle.mesh_house.specs.Step.{step};
 ghost use Rattle.mesh_house.specs.declared.world.World.{World};
 ghost use Rattle.mesh_house.specs.World.{empty_world, version_of};
-ghost use Rattle.mesh_due.specs.Parts.{Parts, no_parts, object_of};
+ghost use Rattle.mesh_due.specs.Parts.{Parts, either, no_parts, object_of};
 ghost use Rattle.mesh_sound.specs.Histories.{left, taken_by};
 ghost use Rattle.mesh_sound.specs.Sound.{IsEntry, Sound};
 
@@ -85,4 +89,16 @@ pub fn models_that_are_done_stay_so()
 pub fn pointing_a_view_keeps_the_world_sound()
     ensures { (x : Parts) (w : World) → Sound x w → (e : Env) → IsEnv w.book e → e.pending ≡ true → (r : Ref) → IsEntry e r → (s : Snapshot) → snapshot_at w.book.snapshots r ≡ Some s →
         Sound x (step w (PointView (view_in e.name r.name) s.object)) }
+{}
+
+/// The moment may be raised. The parts whose rows from scratch change by it are then in doubt.
+pub fn raising_the_moment_keeps_the_world_sound()
+    ensures { (x : Parts) (w : World) → Sound x w → (t : ℤ) → w.book.moment ≤ℤ t → is_moment t ≡ true → (before after : Clock) → Shows before w.book.moment → Shows after t →
+        Sound (either x (moved w before after w.sources)) (step w (Moment t)) }
+{}
+
+/// A source may be loaded. The parts whose rows from scratch change by it are then in doubt.
+pub fn loading_a_source_keeps_the_world_sound()
+    ensures { (x : Parts) (w : World) → Sound x w → (clock : Clock) → Shows clock w.book.moment → (name : Name) → is_physical name ≡ false → (columns : List Column) (rows : List (List Cell)) (keep : Bool) →
+        Sound (either x (moved w clock clock (step w (Load name columns rows keep)).sources)) (step w (Load name columns rows keep)) }
 {}
