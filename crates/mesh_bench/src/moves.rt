@@ -65,7 +65,7 @@ fn fingerprint(number: u32) -> [u8; 32] {
     let mut mixed = u64::from(number).wrapping_add(88_172_645_463_325_252);
     for byte in bytes.iter_mut() {
         mixed = next(mixed);
-        *byte = (mixed >> 24) as u8;
+        *byte = (mixed / 16_777_216 % 256) as u8;
     }
     bytes
 }
