@@ -2,8 +2,8 @@
 use crate::pen::Pen;
 use crate::query::put_query;
 use crate::tokens::put_each;
+use mesh_model::ModelText;
 use mesh_statement::Parts;
-use mesh_text::ModelText;
 use mesh_tokens::Tokens;
 use mesh_values::{ColType, Columns, Cron, Kind, Name, Str, Unit};
 

@@ -13,7 +13,7 @@ use Rattle.mesh_io.specs.declared.files.File.{File}
 use Rattle.mesh_io.specs.Files.{bytes_at}
 use Rattle.mesh_surface.specs.declared.queries.Surface.{Surface}
 use Rattle.mesh_tokens.specs.declared.faults.ReadFault.{ReadFault}
-use Rattle.mesh_text.specs.declared.model.ModelText.{ModelText}
+use Rattle.mesh_model.specs.declared.model.ModelText.{ModelText}
 use Rattle.mesh_text.specs.Lexed.{file_tokens, file_fault}
 use Rattle.mesh_text.specs.ModelTexts.{query_at, model_of}
 use Rattle.mesh_text.specs.Reads.{IsQueryRead}

@@ -12,7 +12,8 @@ use crate::plain::{Picked, picked_in};
 use mesh_csv::read_seed;
 use mesh_io::Folder;
 use mesh_list::{Duplicate, Memory, Seq};
-use mesh_text::{ModelText, read_model};
+use mesh_model::ModelText;
+use mesh_text::read_model;
 use mesh_values::{Columns, Kind, LARGEST_FILE, LARGEST_SEED, Seed, Str};
 use std::alloc::Global;
 

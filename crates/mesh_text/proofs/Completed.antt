@@ -20,7 +20,7 @@ use Rattle.mesh_statement.specs.Lookbacks.{is_short}
 use Rattle.mesh_statement.specs.Statement.{Read, statement}
 use Rattle.mesh_statement.proofs.Kept.{bound}
 use Rattle.mesh_statement.proofs.Lookbacks.{lookback_short}
-use Rattle.mesh_text.specs.declared.model.ModelText.{ModelText}
+use Rattle.mesh_model.specs.declared.model.ModelText.{ModelText}
 use Rattle.mesh_text.specs.declared.model.Whole.{Whole as Text}
 use Rattle.mesh_text.specs.Complete.{is_model_name, is_complete}
 use Rattle.mesh_text.specs.Lexed.{file_tokens, file_fault}

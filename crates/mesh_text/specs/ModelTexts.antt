@@ -22,7 +22,7 @@ use Rattle.mesh_statement.specs.Faults.{bad, broken, provided}
 use Rattle.mesh_statement.specs.Kinds.{plain, is_empty}
 use Rattle.mesh_statement.specs.Statement.{Read, end_of, statement}
 use Rattle.mesh_statement.specs.Values.{quoted}
-use Rattle.mesh_text.specs.declared.model.ModelText.{ModelText}
+use Rattle.mesh_model.specs.declared.model.ModelText.{ModelText}
 use Rattle.mesh_text.specs.declared.model.Whole.{Whole}
 
 -- a model is a VIEW where its kind is absent

@@ -9,7 +9,7 @@ use Rattle.mesh_tokens.specs.Gives.{Gives}
 use Rattle.mesh_tokens.specs.declared.faults.ReadFault.{ReadFault}
 use Rattle.mesh_tokens.specs.declared.tokens.Token.{Token}
 use Rattle.mesh_words.specs.Places.{deepest}
-use Rattle.mesh_text.specs.declared.model.ModelText.{ModelText}
+use Rattle.mesh_model.specs.declared.model.ModelText.{ModelText}
 use Rattle.mesh_text.specs.Lexed.{file_tokens, file_fault}
 use Rattle.mesh_text.specs.ModelTexts.{query_at, model_of}
 

@@ -6,8 +6,9 @@ ghost use Rattle.mesh_statement.specs.Faults.{bad};
 ghost use Rattle.mesh_tokens.specs.Gives.{Gives};
 ghost use Rattle.mesh_text.specs.ModelTexts.{kind_of, is_timed, started, cron_or_daily, unit_of, finished};
 
-use crate::model::{ModelText, Whole};
+use crate::model::Whole;
 use mesh_list::{Duplicate, Memory};
+use mesh_model::ModelText;
 use mesh_statement::{KindText, Parts};
 use mesh_time::read_cron;
 use mesh_tokens::{FaultKind, ReadFault};

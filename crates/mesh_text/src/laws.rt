@@ -2,7 +2,7 @@
 ghost use Rattle.std.specs.Prelude.{◌≡◌, ℕ, List, true, Result, Ok};
 ghost use Rattle.mesh_surface.specs.declared.queries.Surface.{Surface};
 ghost use Rattle.mesh_tokens.specs.declared.faults.ReadFault.{ReadFault};
-ghost use Rattle.mesh_text.specs.declared.model.ModelText.{ModelText};
+ghost use Rattle.mesh_model.specs.declared.model.ModelText.{ModelText};
 ghost use Rattle.mesh_text.specs.Complete.{is_complete};
 ghost use Rattle.mesh_text.specs.Lexed.{file_tokens, file_fault};
 ghost use Rattle.mesh_text.specs.ModelTexts.{model_of};

@@ -1,6 +1,6 @@
 //! The files of models. Its contract: `read_model` gives what the definition `model_of` says of a file's tokens: the
 //! MODEL statement, the query behind it and what follows from absent properties, or the first fault of the text. The
-//! query is read as `mesh_query` promises. It stands on `mesh_list`, `mesh_values`, `mesh_time`, `mesh_tokens`,
+//! query is read as `mesh_query` promises. It stands on `mesh_list`, `mesh_values`, `mesh_time`, `mesh_tokens`, `mesh_model`,
 //! `mesh_query` and `mesh_statement`.
 #![tactic(auto)]
 
@@ -12,5 +12,4 @@ mod model;
 mod read;
 
 pub use laws::models_are_complete;
-pub use model::ModelText;
 pub use read::read_model;

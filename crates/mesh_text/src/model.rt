@@ -1,51 +1,6 @@
-// What a model's file says.
-use mesh_list::{Duplicate, Memory, both, together};
+// A model's file, read but for what follows from absent properties.
 use mesh_statement::Parts;
 use mesh_surface::Surface;
-use mesh_tokens::Tokens;
-use mesh_values::{Columns, Cron, Kind, Name, Str, Unit};
-
-/// A model as it is written. `start` is a day counted from 1970-01-01. Without the property, `columns` is empty.
-/// `path` is that of a SEED's file in the project, and `path_at` the byte at which its text begins, 0 where there is none.
-/// `audits` are the tokens of that property's value as they stand in the file, none without it. A SEED has no query.
-#[derive(Drop)]
-pub struct ModelText {
-    pub file: Str,
-    pub name: Name,
-    pub kind: Kind,
-    pub cron: Cron,
-    pub unit: Unit,
-    pub start: Option<i32>,
-    pub columns: Columns,
-    pub path: Option<Str>,
-    pub path_at: u64,
-    pub audits: Tokens,
-    pub query: Option<Surface>,
-}
-
-impl Duplicate for ModelText {
-    fn copy(&self) -> Result<ModelText, Memory> {
-        let head = together(
-            both(&self.file, &self.name),
-            both(&self.kind, &self.columns),
-        );
-        let rest = together(both(&self.path, &self.audits), self.query.copy());
-        let (((file, name), (kind, columns)), ((path, audits), query)) = together(head, rest)?;
-        Ok(ModelText {
-            file,
-            name,
-            kind,
-            cron: self.cron,
-            unit: self.unit,
-            start: self.start,
-            columns,
-            path,
-            path_at: self.path_at,
-            audits,
-            query,
-        })
-    }
-}
 
 /// The properties of a statement, and the query behind it.
 #[derive(Drop)]
