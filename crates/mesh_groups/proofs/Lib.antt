@@ -1,0 +1,4 @@
+-- Placed: the equations of `placed`.
+pub mod Placed
+-- Broken: the first place where the rule is broken, from the end backwards.
+pub mod Broken

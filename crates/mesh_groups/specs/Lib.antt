@@ -1,0 +1,2 @@
+-- Grouping: the rule on groups.
+pub mod Grouping

@@ -1,0 +1,273 @@
+// Operators over one operand and over two.
+ghost use Rattle.std.specs.Prelude.{◌≡◌, IfOk};
+ghost use Rattle.mesh_tokens.specs.Gives.{Gives};
+ghost use Rattle.mesh_types.specs.Forms.{over_two, uniform, multiplied, sum_kind, sum_op, added, negated, denied, null_test, turned, compare_op, compared_as_they_are, compared, cast};
+
+use crate::dates::as_date;
+use crate::faults::mismatch;
+use crate::kinds::{are_alike, is_date, may_be, may_cast};
+use crate::lists::with_marks;
+use crate::typed::{Typed, with_parts};
+use mesh_base::{Expr, Op};
+use mesh_list::Memory;
+use mesh_surface::{AddSign, Cmp, MulSign};
+use mesh_tokens::ReadFault;
+use mesh_values::ColType;
+use std::alloc::Global;
+
+fn over_two(
+    alloc: Global,
+    at: u64,
+    kind: ColType,
+    op: Op,
+    left: Typed,
+    right: Typed,
+) -> Result<Typed, Memory>
+    ensures { IfOk result (λ made. made ≡ over_two at kind op left right) }
+{
+    let Typed {
+        expr: left,
+        marks: before,
+        ..
+    } = left;
+    let Typed {
+        expr: right,
+        marks: behind,
+        ..
+    } = right;
+    let marks = with_marks(before, &behind)?;
+    with_parts(
+        alloc,
+        at,
+        Some(kind),
+        Expr::Binary { op, left, right },
+        marks,
+    )
+}
+
+/// An operator whose operands are of one type, which is also that of the whole: AND, OR and `||`.
+#[tactic(auto, unfolding(crate::specs::Forms::uniform))]
+pub fn uniform(
+    alloc: Global,
+    kind: ColType,
+    op: Op,
+    at: u64,
+    left: Typed,
+    right: Typed,
+) -> Result<Typed, ReadFault>
+    ensures { Gives result (uniform kind op at left right) }
+{
+    if may_be(kind, left.kind) && may_be(kind, right.kind) {
+        Ok(over_two(alloc, at, kind, op, left, right)?)
+    } else {
+        Err(mismatch(at))
+    }
+}
+
+/// `*`, `/` and `%`.
+pub fn multiplied(
+    alloc: Global,
+    sign: MulSign,
+    at: u64,
+    left: Typed,
+    right: Typed,
+) -> Result<Typed, ReadFault>
+    ensures { Gives result (multiplied sign at left right) }
+{
+    let op = match sign {
+        MulSign::Times => Op::Mul,
+        MulSign::Over => Op::Div,
+        MulSign::Modulo => Op::Rem,
+    };
+    uniform(alloc, ColType::Int, op, at, left, right)
+}
+
+fn sum_kind(sign: AddSign, left: Option<ColType>, right: Option<ColType>) -> Option<ColType>
+    ensures { result ≡ sum_kind sign left right }
+{
+    match (sign, left, right) {
+        (AddSign::Plus, Some(ColType::Date), b) => {
+            if may_be(ColType::Int, b) {
+                Some(ColType::Date)
+            } else {
+                None
+            }
+        }
+        (AddSign::Minus, a, Some(ColType::Date)) => {
+            if may_be(ColType::Date, a) {
+                Some(ColType::Int)
+            } else {
+                None
+            }
+        }
+        (AddSign::Minus, Some(ColType::Date), b) => {
+            if may_be(ColType::Int, b) {
+                Some(ColType::Date)
+            } else {
+                None
+            }
+        }
+        (_, a, b) => {
+            if may_be(ColType::Int, a) && may_be(ColType::Int, b) {
+                Some(ColType::Int)
+            } else {
+                None
+            }
+        }
+    }
+}
+
+fn sum_op(sign: AddSign) -> Op
+    ensures { result ≡ sum_op sign }
+{
+    match sign {
+        AddSign::Plus => Op::Add,
+        AddSign::Minus => Op::Sub,
+    }
+}
+
+/// `+` and `-` between two operands, of which one or both may be dates.
+#[tactic(auto, unfolding(crate::specs::Forms::added))]
+pub fn added(
+    alloc: Global,
+    sign: AddSign,
+    at: u64,
+    left: Typed,
+    right: Typed,
+) -> Result<Typed, ReadFault>
+    ensures { Gives result (added sign at left right) }
+{
+    match sum_kind(sign, left.kind, right.kind) {
+        Some(kind) => Ok(over_two(alloc, at, kind, sum_op(sign), left, right)?),
+        None => Err(mismatch(at)),
+    }
+}
+
+/// A minus before its operand.
+#[tactic(auto, unfolding(crate::specs::Forms::negated))]
+pub fn negated(alloc: Global, at: u64, t: Typed) -> Result<Typed, ReadFault>
+    ensures { Gives result (negated at t) }
+{
+    let Typed {
+        kind,
+        expr,
+        marks,
+        ..
+    } = t;
+    if may_be(ColType::Int, kind) {
+        Ok(with_parts(alloc, at, Some(ColType::Int), Expr::Neg(expr), marks)?)
+    } else {
+        Err(mismatch(at))
+    }
+}
+
+/// NOT before its operand.
+#[tactic(auto, unfolding(crate::specs::Forms::denied))]
+pub fn denied(alloc: Global, at: u64, t: Typed) -> Result<Typed, ReadFault>
+    ensures { Gives result (denied at t) }
+{
+    let Typed {
+        kind,
+        expr,
+        marks,
+        ..
+    } = t;
+    if may_be(ColType::Bool, kind) {
+        Ok(with_parts(alloc, at, Some(ColType::Bool), Expr::Not(expr), marks)?)
+    } else {
+        Err(mismatch(at))
+    }
+}
+
+/// IS NULL, which asks for no type.
+pub fn null_test(alloc: Global, at: u64, t: Typed) -> Result<Typed, Memory>
+    ensures { IfOk result (λ made. made ≡ null_test at t) }
+{
+    let Typed { expr, marks, .. } = t;
+    with_parts(alloc, at, Some(ColType::Bool), Expr::IsNull(expr), marks)
+}
+
+/// The negation of a form whose word NOT stands inside it, as IS NOT NULL; it keeps place and type.
+pub fn turned(alloc: Global, negated: bool, t: Typed) -> Result<Typed, Memory>
+    ensures { IfOk result (λ made. made ≡ turned negated t) }
+{
+    if negated {
+        let Typed {
+            at,
+            kind,
+            expr,
+            marks,
+        } = t;
+        with_parts(alloc, at, kind, Expr::Not(expr), marks)
+    } else {
+        Ok(t)
+    }
+}
+
+/// The operator that a sign of comparison is.
+pub fn compare_op(cmp: Cmp) -> Op
+    ensures { result ≡ compare_op cmp }
+{
+    match cmp {
+        Cmp::Eq => Op::Eq,
+        Cmp::Ne => Op::Ne,
+        Cmp::Lt => Op::Lt,
+        Cmp::Le => Op::Le,
+        Cmp::Gt => Op::Gt,
+        Cmp::Ge => Op::Ge,
+    }
+}
+
+fn compared_as_they_are(
+    alloc: Global,
+    op: Op,
+    at: u64,
+    left: Typed,
+    right: Typed,
+) -> Result<Typed, ReadFault>
+    ensures { Gives result (compared_as_they_are op at left right) }
+{
+    if are_alike(left.kind, right.kind) {
+        Ok(over_two(alloc, at, ColType::Bool, op, left, right)?)
+    } else {
+        Err(mismatch(at))
+    }
+}
+
+/// A comparison. Beside a date, a text literal of a day is that date.
+#[tactic(auto, unfolding(crate::specs::Forms::compared))]
+pub fn compared(
+    alloc: Global,
+    op: Op,
+    at: u64,
+    left: Typed,
+    right: Typed,
+) -> Result<Typed, ReadFault>
+    ensures { Gives result (compared op at left right) }
+{
+    if is_date(&left) {
+        compared_as_they_are(alloc, op, at, left, as_date(right)?)
+    } else if is_date(&right) {
+        compared_as_they_are(alloc, op, at, as_date(left)?, right)
+    } else {
+        compared_as_they_are(alloc, op, at, left, right)
+    }
+}
+
+/// CAST, and `::`.
+#[tactic(auto, unfolding(crate::specs::Forms::cast))]
+pub fn cast(alloc: Global, at: u64, to: ColType, t: Typed) -> Result<Typed, ReadFault>
+    ensures { Gives result (cast at to t) }
+{
+    let Typed {
+        kind,
+        expr: value,
+        marks,
+        ..
+    } = t;
+    if may_cast(to, kind) {
+        Ok(with_parts(alloc, at, Some(to), Expr::Cast { to, value }, marks)?)
+    } else {
+        Err(mismatch(at))
+    }
+}

@@ -1,0 +1,28 @@
+//! The types of expressions, and the faults of queries. Its contract: each form of an expression over finished operands
+//! gives the resolved expression with its type, or the fault of types, as the definitions in `specs/Forms.antt` say. It
+//! stands on `mesh_list`, `mesh_values`, `mesh_tokens`, `mesh_surface`, `mesh_casts` and `mesh_base`.
+#![tactic(auto)]
+
+mod calls;
+mod cases;
+mod dates;
+mod faults;
+mod forms;
+mod kinds;
+mod lists;
+mod ranges;
+mod sizes;
+mod typed;
+
+pub use calls::{called, distinct, starred};
+pub use cases::cased;
+pub use faults::{
+    ambiguous, bad_macro, duplicate, mismatch, no_time_column, not_grouped, too_large_number,
+    too_many_columns, unknown_column, unknown_relation, unwritten,
+};
+pub use forms::{
+    added, cast, compare_op, compared, denied, multiplied, negated, null_test, turned, uniform,
+};
+pub use kinds::may_be;
+pub use ranges::{between, one_of};
+pub use typed::{Arms, Typed, Typeds, leaf};
