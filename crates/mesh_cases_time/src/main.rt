@@ -1,4 +1,4 @@
-//! Days, moments, crons, ranges of seconds, casts and canonical texts as data. Each line of a file of `data/` is one call,
+//! Days, moments, crons, ranges of seconds, casts, canonical texts and fingerprints as data. Each line of a file of `data/` is one call,
 //! and is printed with what the call answered; the crate's `stdout` has the answers, which were worked out by hand. A line
 //! is a word and what the word takes, where `\n`, `\r`, `\t`, `\\` and `\xHH` are escapes and `{N TEXT}` is TEXT N times:
 //! - `day TEXT` and `moment TEXT` read a day or a moment, and `day-text N` and `moment-text N` write one;
@@ -14,12 +14,14 @@
 //!   writes the former text of a definition, and `renewed TEXT` is the text that it has now; `list TEXT`, `cell TEXT` and
 //!   `type TEXT` read and write a list, a cell and the type of a column;
 //! - `orphan` begins with no parents, `parent SCHEMA MODEL BYTES` adds one with a fingerprint, and `node TEXT` is the text of
-//!   a definition with its parents.
+//!   a definition with its parents;
+//! - `digest TEXT` is the fingerprint of a text in hexadecimal digits.
 #![tactic(auto)]
 
 mod canon;
 mod casts;
 mod crons;
+mod digests;
 mod near;
 mod parts;
 mod ranges;
@@ -33,7 +35,7 @@ use std::alloc::Global;
 use std::process::ExitCode;
 
 /// The files of cases.
-const FILES: [&[u8]; 4] = [b"times", b"casts", b"ranges", b"canon"];
+const FILES: [&[u8]; 5] = [b"times", b"casts", b"ranges", b"canon", b"digests"];
 
 /// Runs the cases of one file, and adds what is to be printed.
 fn run(alloc: Global, file: &[u8], report: &mut Vec<u8>) -> Result<(), Trouble> {

@@ -1,7 +1,7 @@
 // What the lines of a file act on, one after another.
 use crate::canon::Frame;
 use crate::ranges::Held;
-use crate::{casts, crons, parts, times};
+use crate::{casts, crons, digests, parts, times};
 use mesh_cases::{Trouble, filled, front_word};
 use std::alloc::Global;
 
@@ -45,7 +45,7 @@ impl Stage {
         if casts::call(alloc, word, text, report)? || parts::call(alloc, word, text, report)? {
             return Ok(true);
         }
-        if self.held.call(word, text, report)? {
+        if digests::call(word, text, report)? || self.held.call(word, text, report)? {
             return Ok(true);
         }
         self.frame.call(word, text, report)
