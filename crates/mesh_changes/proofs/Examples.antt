@@ -1,5 +1,5 @@
 -- Small commands and how many changes they make, worked out by hand.
-use Rattle.std.proofs.Common.{◌≡◌, ℕ, ◌*◌, pos, List, [], ◌∷◌, length, take, true, refl}
+use Rattle.std.proofs.Common.{◌≡◌, ℕ, ◌*◌, pos, List, [], ◌∷◌, length, map, take, true, refl}
 use Rattle.std.specs.Prelude.{codes}
 use Rattle.std.specs.declared.option.Option.TheVariants.{None, Some}
 use Rattle.mesh_values.specs.Crons.{CronSets}
@@ -15,11 +15,11 @@ use Rattle.mesh_base.specs.declared.forgets.Restate.{Restate}
 use Rattle.mesh_scratch.specs.Closures.{Closure, Model, Alone, With}
 use Rattle.mesh_scratch.specs.Horizons.{Clock}
 use Rattle.mesh_house.specs.declared.world.Change.{Change}
-use Rattle.mesh_house.specs.declared.world.Change.TheVariants.{Expire}
+use Rattle.mesh_house.specs.declared.world.Change.TheVariants as c
 use Rattle.mesh_house.specs.declared.world.World.{World}
 use Rattle.mesh_house.specs.Step.{run, step}
 use Rattle.mesh_house.specs.World.{empty_world}
-use Rattle.mesh_due.specs.Dues.{again}
+use Rattle.mesh_due.specs.Dues.{again, dues}
 use Rattle.mesh_due.specs.Plans.{Planned}
 use Rattle.mesh_changes.specs.Changes.{Plan, applies, runs}
 use Rattle.mesh_changes.specs.Environments.{prod}
@@ -80,6 +80,27 @@ started = run empty_world (applies (at 18_269) (plan prod 18_269 starter []) emp
 starter_applied : length (applies (at 18_269) (plan prod 18_269 starter []) empty_world) ≡ 30
 starter_applied = refl
 
+-- each kind of change by a letter: moment, snapshot, table, view, rows, marks, range, record, pending, pointed, finalized
+abbrev letter : Change → ℕ
+letter (c.Moment t) = 109
+letter (c.PutSnapshot s) = 115
+letter (c.MakeTable object columns) = 116
+letter (c.MakeView object columns own targets) = 118
+letter (c.ReplaceRows object rows) = 114
+letter (c.RecordMarks object marks) = 107
+letter (c.WriteRange object time start end rows) = 119
+letter (c.RecordRange object start end) = 100
+letter (c.SetPending env list expires) = 112
+letter (c.PointView view target) = 105
+letter (c.Finalize env) = 102
+letter other = 63
+
+abbrev letters : List Change → List ℕ
+letters changes = map letter changes
+
+starter_changes : letters (applies (at 18_269) (plan prod 18_269 starter []) empty_world) ≡ codes "mssstrktwdwdwdwdwdwdwdtrkpiiif"
+starter_changes = refl
+
 -- then nothing is due
 starter_applied_again : length (applies (at 18_269) (plan prod 18_269 starter []) started) ≡ 9
 starter_applied_again = refl
@@ -131,6 +152,9 @@ dev_list = applies (at 19_725) (plan (codes "dev") 19_725 new []) applied
 in_dev : length dev_list ≡ 12
 in_dev = refl
 
+in_dev_changes : letters dev_list ≡ codes "msstwdwdpiif"
+in_dev_changes = refl
+
 -- the new models come into production, and eight days later the environment, the old snapshots and the old table go
 abbrev promoted : World
 promoted = run (run applied dev_list) (applies (at 19_725) (plan prod 19_725 new []) (run applied dev_list))
@@ -139,7 +163,7 @@ swept : length (sweeps promoted.book (pos (19_733 * 86_400))) ≡ 9
 swept = refl
 
 -- an environment that is invalidated goes at once, with its two views
-invalidated : length (sweeps (step (run applied dev_list) (Expire (codes "dev"))).book (pos (19_725 * 86_400))) ≡ 5
+invalidated : length (sweeps (step (run applied dev_list) (c.Expire (codes "dev"))).book (pos (19_725 * 86_400))) ≡ 5
 invalidated = refl
 
 -- the first day is computed again, and with it the model over it
@@ -168,3 +192,38 @@ looked_back = run empty_world (applies (at 19_725) (plan prod 19_725 looking_bac
 
 run_that_looks_back : length (runs (at 19_726) (plan prod 19_726 looking_back (again (at 19_726) looked_back.book None looking_back)) looked_back) ≡ 8
 run_that_looks_back = refl
+
+-- a view of the daily model, and a FULL one over the view
+abbrev recent : Own
+recent = own (codes "recent") kind.View 19_723 query
+
+abbrev sums : Own
+sums = own (codes "sums") kind.Full 19_723 query
+
+abbrev recent_closure : Closure
+recent_closure = Model recent (With (Model (daily 0) Alone) Alone)
+
+abbrev viewed : ℕ → ℕ → ℕ → List ℕ → List ℕ → List Planned
+viewed f g h d r =
+    model (Model (daily 0) Alone) (daily 0) [] 0 f d ∷ model recent_closure recent (0 ∷ []) 1 g r
+    ∷ model (Model sums (With recent_closure Alone)) sums (1 ∷ []) 2 h (codes "s1") ∷ []
+
+abbrev with_view : World
+with_view = run empty_world (applies (at 19_725) (plan prod 19_725 (viewed 1 2 3 (codes "d1") (codes "r1")) []) empty_world)
+
+through_a_view : letters (applies (at 19_725) (plan prod 19_725 (viewed 1 2 3 (codes "d1") (codes "r1")) []) empty_world) ≡ codes "mssstwdwdvktrkpiiif"
+through_a_view = refl
+
+-- the daily model gains a column: it has a new table and the view a new query, and the FULL one keeps its table
+abbrev widened : List Change
+widened = applies (at 19_725) (plan prod 19_725 (viewed 4 5 6 (codes "d2") (codes "r2")) []) with_view
+
+past_a_view : letters widened ≡ codes "mssstwdwdvkpiiif"
+past_a_view = refl
+
+due_past_a_view : length (dues (at 19_725) with_view.book [] (viewed 4 5 6 (codes "d2") (codes "r2"))) ≡ 3
+due_past_a_view = refl
+
+-- a day later the daily model has one more unit, and the FULL one behind the view is due
+past_a_view_run : letters (runs (at 19_726) (plan prod 19_726 (viewed 4 5 6 (codes "d2") (codes "r2")) []) (run with_view widened)) ≡ codes "mwdrk"
+past_a_view_run = refl

@@ -5,4 +5,4 @@
 
 mod laws;
 
-pub use laws::what_changes_nothing;
+pub use laws::{migrating_keeps_closures, what_changes_nothing};
