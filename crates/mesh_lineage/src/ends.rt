@@ -1,0 +1,115 @@
+// The conjunct that binds a column to the unit.
+ghost use Rattle.std.specs.Prelude.{◌≡◌};
+ghost use Rattle.mesh_base.specs.declared.expressions.Expr.{out-Expr};
+ghost use Rattle.mesh_steady.specs.Steady.{are_ends, are_ends_by, is_and, is_column, is_end_of};
+
+use mesh_base::{Expr, Op, Var};
+use mesh_values::{Str, same_text};
+
+pub(crate) fn is_and(op: Op) -> bool
+    ensures { result ≡ is_and op }
+{
+    match op {
+        Op::And => true,
+        Op::Add
+        | Op::Sub
+        | Op::Mul
+        | Op::Div
+        | Op::Rem
+        | Op::Cat
+        | Op::Eq
+        | Op::Ne
+        | Op::Lt
+        | Op::Le
+        | Op::Gt
+        | Op::Ge
+        | Op::Or => false,
+    }
+}
+
+/// An expression is this column of a FROM item.
+pub(crate) fn is_column(e: &Expr, item: usize, name: &Str) -> bool
+    ensures { result ≡ is_column item name.now e.now }
+{
+    match e {
+        Expr::Col { item: i, name: n } => {
+            *i as usize == item && same_text(n.as_slice(), name.as_slice())
+        }
+        Expr::Literal(_)
+        | Expr::Macro(_)
+        | Expr::Binary { .. }
+        | Expr::Neg(_)
+        | Expr::Not(_)
+        | Expr::IsNull(_)
+        | Expr::Between { .. }
+        | Expr::OneOf { .. }
+        | Expr::Cast { .. }
+        | Expr::Call { .. }
+        | Expr::Case { .. }
+        | Expr::CountAll
+        | Expr::Agg { .. } => false,
+    }
+}
+
+fn are_ends_by(start: Var, end: Var) -> bool
+    ensures { result ≡ are_ends_by start end }
+{
+    match start {
+        Var::StartDate => match end {
+            Var::EndDate => true,
+            Var::StartDate | Var::StartDs | Var::EndDs | Var::StartEpoch | Var::EndEpoch => false,
+        },
+        Var::StartDs => match end {
+            Var::EndDs => true,
+            Var::StartDate | Var::EndDate | Var::StartDs | Var::StartEpoch | Var::EndEpoch => false,
+        },
+        Var::StartEpoch => match end {
+            Var::EndEpoch => true,
+            Var::StartDate | Var::EndDate | Var::StartDs | Var::EndDs | Var::StartEpoch => false,
+        },
+        Var::EndDate | Var::EndDs | Var::EndEpoch => false,
+    }
+}
+
+fn is_end_of(start: Var, high: &Expr) -> bool
+    ensures { result ≡ is_end_of start (out-Expr high.now) }
+{
+    match high {
+        Expr::Macro(end) => are_ends_by(start, *end),
+        Expr::Literal(_)
+        | Expr::Col { .. }
+        | Expr::Binary { .. }
+        | Expr::Neg(_)
+        | Expr::Not(_)
+        | Expr::IsNull(_)
+        | Expr::Between { .. }
+        | Expr::OneOf { .. }
+        | Expr::Cast { .. }
+        | Expr::Call { .. }
+        | Expr::Case { .. }
+        | Expr::CountAll
+        | Expr::Agg { .. } => false,
+    }
+}
+
+/// Two expressions are the start and the end of the unit, both in one form.
+pub(crate) fn are_ends(low: &Expr, high: &Expr) -> bool
+    ensures { result ≡ are_ends low.now high.now }
+{
+    match low {
+        Expr::Macro(start) => is_end_of(*start, high),
+        Expr::Literal(_)
+        | Expr::Col { .. }
+        | Expr::Binary { .. }
+        | Expr::Neg(_)
+        | Expr::Not(_)
+        | Expr::IsNull(_)
+        | Expr::Between { .. }
+        | Expr::OneOf { .. }
+        | Expr::Cast { .. }
+        | Expr::Call { .. }
+        | Expr::Case { .. }
+        | Expr::CountAll
+        | Expr::Agg { .. } => false,
+    }
+}
