@@ -77,6 +77,7 @@ def cases(what, rows, times):
 def run(program, what, rows, times):
     """Seconds of processor, megabytes at the most, and what was printed."""
     with tempfile.TemporaryDirectory() as folder:
+        open(f"{folder}/resolved.txt", "w").close()
         with open(f"{folder}/cases.txt", "w") as file:
             file.write(cases(what, rows, times))
         child = subprocess.Popen([program], stdout=subprocess.PIPE, text=True, cwd=folder)

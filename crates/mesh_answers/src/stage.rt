@@ -1,12 +1,14 @@
 // One case: a text that is read, and the rows that it stands for.
+use crate::asked::{put_model, query_of};
 use crate::shown::{put_places, put_rows, put_sum};
 use crate::words::{Word, expanded};
-use mesh_base::{Defn, Input, Inputs, Own, columns_of};
+use mesh_base::{Defn, Input, Inputs, Own, Sources, columns_of};
 use mesh_canon::read_own;
 use mesh_cases::{Trouble, halves};
 use mesh_eval::eval;
 use mesh_index::distinct_rows;
-use mesh_list::Duplicate;
+use mesh_list::{Duplicate, Memory};
+use mesh_resolve::Known;
 use mesh_values::{Bounds, Rows};
 use std::alloc::Global;
 
@@ -32,6 +34,30 @@ fn definition(alloc: Global, name: &[u8], body: &[u8]) -> Result<Own, Trouble> {
     text.extend_from_slice(body)?;
     text.push(b')')?;
     read_own(alloc, text.as_slice()).map_err(|_| Trouble::Case)
+}
+
+/// The tables, as a query's text may name them.
+fn known(alloc: Global, tables: &Inputs) -> Result<Known, Memory> {
+    let mut models = Inputs::new(alloc);
+    for table in tables.as_slice() {
+        put_model(&mut models, &table.name, &table.columns)?;
+    }
+    Ok(Known {
+        models,
+        sources: Sources::new(alloc),
+        macros: true,
+    })
+}
+
+/// A definition of the schema `a`, whose body is written as in canonical text or is the text of a query.
+fn written(alloc: Global, tables: &Inputs, name: &[u8], body: &[u8]) -> Result<Own, Trouble> {
+    if body.starts_with(b"(") {
+        return definition(alloc, name, body);
+    }
+    let mut own = definition(alloc, name, b"(query [] [])")?;
+    let query = query_of(alloc, &known(alloc, tables)?, body);
+    own.defn = Defn::Sql(query.map_err(|_| Trouble::Case)?);
+    Ok(own)
 }
 
 /// The query of an expression.
@@ -108,14 +134,14 @@ impl Stage {
 
     /// Reads the text of a table, and adds it.
     fn named(&mut self, alloc: Global, name: &[u8], text: &[u8]) -> Result<(), Trouble> {
-        let own = definition(alloc, name, text)?;
+        let own = written(alloc, &self.tables, name, text)?;
         let rows = rows_of(alloc, &self.tables, &own)?;
         self.table(&own, rows)
     }
 
     /// Reads the text of a case, and adds its line.
     fn case(&mut self, alloc: Global, head: &[u8], text: &[u8]) -> Result<(), Trouble> {
-        let own = definition(alloc, b"0:", text)?;
+        let own = written(alloc, &self.tables, b"0:", text)?;
         let rows = rows_of(alloc, &self.tables, &own)?;
         self.line(alloc, head, rows)
     }

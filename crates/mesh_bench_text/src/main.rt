@@ -1,9 +1,11 @@
 //! What `bench/text.py` measures. The words are `tokens` or `parse`, a number of bytes and a number of times: the program scans
-//! a query of at most so many bytes so often, or reads its tokens. Or they are `seed`, a number of rows and a number of times:
+//! a query of at most so many bytes so often, or reads its tokens; where the word is `resolve` it finds the names and types of
+//! another query. Or they are `seed`, a number of rows and a number of times:
 //! it reads a seed of these rows so often, and with its columns declared where the word is `declared`. It prints the bytes of
-//! the text. It stands on `mesh_tokens`, `mesh_query`, `mesh_csv` and `mesh_args`.
+//! the text. It stands on `mesh_tokens`, `mesh_query`, `mesh_resolve`, `mesh_csv` and `mesh_args`.
 #![tactic(auto)]
 
+mod resolved;
 mod text;
 
 use mesh_args::{letter_at, number_at};
@@ -15,6 +17,7 @@ fn text_bytes(alloc: Global, what: u8, size: u32, times: u32) -> Result<usize, R
     match what {
         b't' => text::scanned(alloc, size, times),
         b'p' => text::parsed(alloc, size, times),
+        b'r' => resolved::resolved(alloc, size, times),
         b'd' => text::seeds(alloc, size, times, true),
         _ => text::seeds(alloc, size, times, false),
     }

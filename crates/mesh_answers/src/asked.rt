@@ -1,0 +1,239 @@
+// What the text of a query or of a model means, over models and sources that are known.
+use crate::cut::cut_at;
+use mesh_base::{Defn, Input, Inputs, Own, Query, Sources};
+use mesh_canon::{own_text, read_own};
+use mesh_cases::Trouble;
+use mesh_external::read_external;
+use mesh_fault_text::fault_line;
+use mesh_list::{Duplicate, Memory, both};
+use mesh_model::ModelText;
+use mesh_query::parse;
+use mesh_resolve::{Known, own_of, resolve};
+use mesh_text::read_model;
+use mesh_tokens::{ReadFault, tokens_of};
+use mesh_values::{Columns, Kind, Name, Rows, Seed, Str};
+use std::alloc::Global;
+
+/// A definition whose query is empty.
+const EMPTY: &[u8] = b"(own 1:a 1:x (view) 9:0 0 * * * day none [] (query [] []))";
+
+/// What stands in the text of such a definition before its query's CTEs.
+const BEFORE: &[u8] = b"(own 1:a 1:x (view) 9:0 0 * * * day none [] (query ";
+
+/// The models and the sources that the lines so far have made known.
+#[derive(Drop)]
+pub struct Asked {
+    pub known: Known,
+}
+
+fn is(head: &[u8], word: &[u8]) -> bool {
+    head == word
+}
+
+/// The name and the columns of a table, without its rows.
+pub fn put_model(models: &mut Inputs, name: &Name, columns: &Columns) -> Result<(), Memory> {
+    let (name, columns) = both(name, columns)?;
+    let rows = Rows::new(models.alloc());
+    models.push(Input {
+        name,
+        columns,
+        rows,
+    })
+}
+
+/// The query that a text means, or the first fault of the text.
+pub fn query_of(alloc: Global, known: &Known, text: &[u8]) -> Result<Query, ReadFault> {
+    let tokens = tokens_of(alloc, text)?;
+    let surface = parse(&tokens, 0)?;
+    resolve(alloc, &surface, known)
+}
+
+/// The seed of a model without rows.
+fn seed_of(m: &ModelText) -> Result<Seed, Memory> {
+    let columns = m.columns.copy()?;
+    let rows = Rows::new(columns.alloc());
+    Ok(Seed { columns, rows })
+}
+
+/// The definition that a model's file means, or its first fault. No file is read as a seed with a query, or as a model of
+/// another kind without one.
+fn definition_of(alloc: Global, known: &Known, file: &Str, text: &[u8]) -> Result<Own, ReadFault> {
+    let m = read_model(file, text)?;
+    match (&m.kind, &m.query) {
+        (Kind::Seed, None) => own_of(alloc, &m, Some(seed_of(&m)?), known),
+        (Kind::Seed, Some(_)) | (_, None) => Err(ReadFault::Memory),
+        (_, Some(_)) => own_of(alloc, &m, None, known),
+    }
+}
+
+/// The canonical text of that definition.
+fn definition_text(
+    alloc: Global,
+    known: &Known,
+    file: &Str,
+    text: &[u8],
+) -> Result<Str, ReadFault> {
+    let own = definition_of(alloc, known, file, text)?;
+    Ok(own_text(alloc, &own)?)
+}
+
+/// The canonical text of a definition that has this query.
+fn query_text(alloc: Global, query: Query) -> Result<Str, ReadFault> {
+    let Ok(mut own) = read_own(alloc, EMPTY) else {
+        return Err(ReadFault::Memory);
+    };
+    own.defn = Defn::Sql(query);
+    Ok(own_text(alloc, &own)?)
+}
+
+/// The canonical text of a definition that has the query that a text means, or the text's first fault.
+fn resolved_text(alloc: Global, known: &Known, text: &[u8]) -> Result<Str, ReadFault> {
+    query_text(alloc, query_of(alloc, known, text)?)
+}
+
+/// Adds the line of a fault, without its line feed.
+fn put_fault(
+    alloc: Global,
+    report: &mut Vec<u8>,
+    file: &[u8],
+    fault: &ReadFault,
+) -> Result<(), Trouble> {
+    let ReadFault::Fault { at, kind } = fault else {
+        return Err(Trouble::Memory);
+    };
+    let line = fault_line(alloc, file, *at, kind)?;
+    let line = line.as_slice();
+    report.extend_from_slice(line.strip_suffix(b"\n").unwrap_or(line))?;
+    Ok(())
+}
+
+/// Adds what a query is resolved to, in the text of its definition.
+fn put_query(report: &mut Vec<u8>, text: &Str) -> Result<(), Trouble> {
+    let rest = text.as_slice().strip_prefix(BEFORE).ok_or(Trouble::Case)?;
+    report.extend_from_slice(rest.strip_suffix(b"))").ok_or(Trouble::Case)?)?;
+    Ok(())
+}
+
+/// Adds the type and the expression of a query's first item, which is named `x`.
+fn put_item(report: &mut Vec<u8>, text: &Str) -> Result<(), Trouble> {
+    let (_, behind) = cut_at(text.as_slice(), b"[(as 1:x ")?;
+    let (item, _) = cut_at(behind, b")] [(item first")?;
+    report.extend_from_slice(item)?;
+    Ok(())
+}
+
+/// Adds what a query's text means.
+fn put_answer(
+    alloc: Global,
+    report: &mut Vec<u8>,
+    known: &Known,
+    text: &[u8],
+) -> Result<(), Trouble> {
+    match resolved_text(alloc, known, text) {
+        Ok(text) => put_query(report, &text),
+        Err(fault) => put_fault(alloc, report, b"-", &fault),
+    }
+}
+
+/// Adds whether a query means something, without what it means.
+fn put_verdict(
+    alloc: Global,
+    report: &mut Vec<u8>,
+    known: &Known,
+    text: &[u8],
+) -> Result<(), Trouble> {
+    match resolved_text(alloc, known, text) {
+        Ok(_text) => Ok(report.extend_from_slice(b"resolved")?),
+        Err(ReadFault::Memory) => Ok(report.extend_from_slice(b"want of memory")?),
+        Err(fault) => put_fault(alloc, report, b"-", &fault),
+    }
+}
+
+/// Adds what an expression over `a.t` means.
+fn put_expression(
+    alloc: Global,
+    report: &mut Vec<u8>,
+    known: &Known,
+    expression: &[u8],
+) -> Result<(), Trouble> {
+    let mut text = Vec::from_slice(alloc, b"SELECT ")?;
+    text.extend_from_slice(expression)?;
+    text.extend_from_slice(b" AS x FROM a.t")?;
+    match resolved_text(alloc, known, text.as_slice()) {
+        Ok(text) => put_item(report, &text),
+        Err(fault) => put_fault(alloc, report, b"-", &fault),
+    }
+}
+
+/// Adds what a model's file means.
+fn put_definition(
+    alloc: Global,
+    report: &mut Vec<u8>,
+    known: &Known,
+    text: &[u8],
+) -> Result<(), Trouble> {
+    let file = u8::copy_items(alloc, b"models/m.sql")?;
+    match definition_text(alloc, known, &file, text) {
+        Ok(text) => Ok(report.extend_from_slice(text.as_slice())?),
+        Err(fault) => put_fault(alloc, report, file.as_slice(), &fault),
+    }
+}
+
+impl Asked {
+    pub fn new(alloc: Global) -> Asked {
+        Asked {
+            known: Known {
+                models: Inputs::new(alloc),
+                sources: Sources::new(alloc),
+                macros: false,
+            },
+        }
+    }
+
+    /// Makes a model known by its file.
+    fn model(&mut self, alloc: Global, text: &[u8]) -> Result<(), Trouble> {
+        let file = u8::copy_items(alloc, b"models/m.sql")?;
+        let m = read_model(&file, text).map_err(|_| Trouble::Case)?;
+        put_model(&mut self.known.models, &m.name, &m.columns)?;
+        Ok(())
+    }
+
+    /// Makes the sources known that the text of a file declares.
+    fn sources(&mut self, alloc: Global, text: &[u8]) -> Result<(), Trouble> {
+        let text = u8::copy_items(alloc, text)?;
+        self.known.sources = read_external(&text).map_err(|_| Trouble::Case)?;
+        Ok(())
+    }
+
+    /// Adds what the text behind a line's head means.
+    pub fn put(
+        &mut self,
+        alloc: Global,
+        report: &mut Vec<u8>,
+        head: &[u8],
+        text: &[u8],
+    ) -> Result<(), Trouble> {
+        self.known.macros = is(head, b"macros") || is(head, b"timed");
+        if is(head, b"expr") {
+            put_expression(alloc, report, &self.known, text)
+        } else if is(head, b"own") || is(head, b"timed") {
+            put_definition(alloc, report, &self.known, text)
+        } else if is(head, b"read") {
+            put_verdict(alloc, report, &self.known, text)
+        } else {
+            put_answer(alloc, report, &self.known, text)
+        }
+    }
+
+    /// Takes what a line makes known. Whether it is such a line.
+    pub fn takes(&mut self, alloc: Global, head: &[u8], text: &[u8]) -> Result<bool, Trouble> {
+        if is(head, b"model") {
+            self.model(alloc, text)?;
+        } else if is(head, b"sources") {
+            self.sources(alloc, text)?;
+        } else {
+            return Ok(false);
+        }
+        Ok(true)
+    }
+}

@@ -1,0 +1,51 @@
+//! Projects as data: what their models read, which aren't steady, which may be evaluated for several units at once, and how
+//! they stand to the models of another project. Each line of `data/cases.txt` is a call, but for empty lines and those that
+//! begin with `#`; what must be printed stands in the crate's `stdout`, and was worked out by hand. In a line `\n` is a line
+//! feed and `{N TEXT}` a text N times, in which `#` is the number of the copy.
+//! - `sources | FILE` makes the sources known that a file declares;
+//! - `project` begins a project, which is compared with the one before it;
+//! - `model | FILE` adds a model by the text of its file; a seed has no rows, and the models stand by rank and name;
+//! - `lattice W H` adds W times H incremental models in H ranks, each over all of the rank below it, which are joined and
+//!   bound to the unit, and `wider W H` the same with a column more in each;
+//! - `reads NAME` shows the columns that a model reads, `joinable NAME` whether several of its units are evaluated at once;
+//! - `unsteady` shows the models that aren't steady, each with the least name for which it isn't;
+//! - `categories` shows the category of each model, and the models that are gone;
+//! - `count` shows how many models of each category there are, and `readings` how many columns all models read.
+//!
+//! A number behind one of the last four makes it be asked so often, of one project.
+//!
+//! `bench/plan.py` runs the program where its own cases lie.
+#![tactic(auto)]
+
+mod lattice;
+mod models;
+mod nodes;
+mod shown;
+mod stage;
+
+use crate::stage::Stage;
+use mesh_cases::{Trouble, cases_of, file_of, printed};
+use mesh_io::DirFolder;
+use std::alloc::Global;
+use std::process::ExitCode;
+
+fn run(
+    alloc: Global,
+    data: &mut DirFolder,
+    stage: &mut Stage,
+    report: &mut Vec<u8>,
+) -> Result<(), Trouble> {
+    let file = file_of(alloc, data, b"cases.txt")?;
+    for line in cases_of(alloc, file.as_slice())? {
+        stage.line(alloc, line, report)?;
+    }
+    Ok(())
+}
+
+fn main(rt: HostRuntime) -> ExitCode {
+    let mut report = Vec::new(rt.alloc());
+    let mut stage = Stage::new(rt.alloc());
+    let mut data = DirFolder::new(&rt);
+    let done = run(rt.alloc(), &mut data, &mut stage, &mut report);
+    printed(&rt, report.as_slice(), done)
+}
