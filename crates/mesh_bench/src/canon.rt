@@ -2,7 +2,7 @@
 use mesh_base::{Defn, Own};
 use mesh_canon::{CanonFault, own_text, read_own};
 use mesh_list::{Duplicate, Seq};
-use mesh_values::{Cell, Columns, Row};
+use mesh_values::{Cell, Columns, Row, Rows, Str};
 use std::alloc::Global;
 
 const EMPTY: &[u8] =
@@ -11,20 +11,29 @@ const EMPTY: &[u8] =
 const DEEP_FRONT: &[u8] =
     b"(own 1:a 1:d (full) 9:0 0 * * * day none [] (query [] [(select all plain [(as 1:x bool ";
 
+fn row(alloc: Global, number: u32) -> Result<Row, CanonFault> {
+    let text = Seq::from_vec(Vec::from_slice(alloc, b"a text of twenty-five byt")?);
+    let mut row: Row = Seq::new(alloc);
+    row.push(Cell::Int(i64::from(number).wrapping_mul(1_000_003)))?;
+    row.push(Cell::Text(text))?;
+    Ok(row)
+}
+
 /// Rows of a number and a text of 25 bytes, which are about 43 bytes of a file each.
-fn with_rows(alloc: Global, rows: u32) -> Result<Own, CanonFault> {
-    let mut own = read_own(alloc, EMPTY)?;
+fn rows(alloc: Global, count: u32) -> Result<Rows, CanonFault> {
     let mut made = Seq::new(alloc);
-    for number in 0..rows {
-        let mut row: Row = Seq::new(alloc);
-        row.push(Cell::Int(i64::from(number).wrapping_mul(1_000_003)))?;
-        let text = Seq::from_vec(Vec::from_slice(alloc, b"a text of twenty-five byt")?);
-        row.push(Cell::Text(text))?;
-        made.push(row)?;
+    for number in 0..count {
+        made.push(row(alloc, number)?)?;
     }
+    Ok(made)
+}
+
+fn with_rows(alloc: Global, count: u32) -> Result<Own, CanonFault> {
+    let rows = rows(alloc, count)?;
+    let mut own = read_own(alloc, EMPTY)?;
     own.defn = Defn::Seed {
         columns: Columns::new(alloc),
-        rows: made,
+        rows,
     };
     Ok(own)
 }
@@ -39,12 +48,21 @@ pub fn written(alloc: Global, rows: u32, times: u32) -> Result<usize, CanonFault
     Ok(bytes)
 }
 
+fn text_with_rows(alloc: Global, rows: u32) -> Result<Str, CanonFault> {
+    let own = with_rows(alloc, rows)?;
+    Ok(own_text(alloc, &own)?)
+}
+
+fn read_once(alloc: Global, text: &Str) -> Result<(), CanonFault> {
+    let _ = read_own(alloc, text.as_slice())?;
+    Ok(())
+}
+
 /// Reads the text of a seed of that many rows `times` times, and its bytes.
 pub fn read(alloc: Global, rows: u32, times: u32) -> Result<usize, CanonFault> {
-    let own = with_rows(alloc, rows)?;
-    let text = own_text(alloc, &own)?;
+    let text = text_with_rows(alloc, rows)?;
     for _ in 0..times {
-        let _ = read_own(alloc, text.as_slice())?;
+        read_once(alloc, &text)?;
     }
     Ok(text.len())
 }
@@ -63,12 +81,22 @@ fn nested(alloc: Global, front: &[u8], back: &[u8], levels: u32) -> Result<Vec<u
     Ok(text)
 }
 
+/// A copy of the definition that a text says.
+fn copy_of(alloc: Global, text: &[u8]) -> Result<Own, CanonFault> {
+    let own = read_own(alloc, text)?;
+    Ok(own.copy()?)
+}
+
+/// The text of that copy.
+fn text_again(alloc: Global, text: &[u8]) -> Result<Str, CanonFault> {
+    let own = copy_of(alloc, text)?;
+    Ok(own_text(alloc, &own)?)
+}
+
 /// Reads, copies, writes and drops such a definition, and the bytes of its text.
 fn copied(alloc: Global, front: &[u8], back: &[u8], levels: u32) -> Result<usize, CanonFault> {
     let text = nested(alloc, front, back, levels)?;
-    let own = read_own(alloc, text.as_slice())?;
-    let again = own.copy()?;
-    let written = own_text(alloc, &again)?;
+    let written = text_again(alloc, text.as_slice())?;
     if written.as_slice() == text.as_slice() {
         Ok(written.len())
     } else {

@@ -71,42 +71,42 @@ fn snapshot(alloc: Global, cron: Cron, number: u32) -> Result<Snapshot, Memory> 
     })
 }
 
+/// Makes a change, which is dropped here alone.
+pub fn make(alloc: Global, house: &mut MemHouse, change: Change) -> Result<(), WhFail> {
+    house.change(alloc, &change)
+}
+
 /// Puts a model's snapshot.
 pub fn put(alloc: Global, house: &mut MemHouse, cron: Cron, number: u32) -> Result<(), WhFail> {
-    let put = Change::PutSnapshot {
-        snapshot: snapshot(alloc, cron, number)?,
-    };
-    house.change(alloc, &put)
+    let snapshot = snapshot(alloc, cron, number)?;
+    make(alloc, house, Change::PutSnapshot { snapshot })
 }
 
 /// Makes a model's table.
-fn make(alloc: Global, house: &mut MemHouse, number: u32) -> Result<(), WhFail> {
+fn make_table(alloc: Global, house: &mut MemHouse, number: u32) -> Result<(), WhFail> {
     let (object, columns) = together(table(alloc, number), columns(alloc))?;
-    house.change(alloc, &Change::MakeTable { object, columns })
+    make(alloc, house, Change::MakeTable { object, columns })
 }
 
 /// Points a model's view at its table.
 fn point(alloc: Global, house: &mut MemHouse, number: u32) -> Result<(), WhFail> {
     let (view, target) = together(name(alloc, b"bench", number), table(alloc, number))?;
-    house.change(alloc, &Change::PointView { view, target })
+    make(alloc, house, Change::PointView { view, target })
 }
 
 /// Makes a model's snapshot, table and view.
 fn fill(alloc: Global, house: &mut MemHouse, cron: Cron, number: u32) -> Result<(), WhFail> {
     put(alloc, house, cron, number)?;
-    make(alloc, house, number)?;
+    make_table(alloc, house, number)?;
     point(alloc, house, number)
 }
 
 /// Records the next hour of a version.
 fn record(alloc: Global, house: &mut MemHouse, number: u32, hour: u32) -> Result<(), WhFail> {
     let start = i64::from(hour).saturating_mul(HOUR);
-    let change = Change::RecordRange {
-        object: table(alloc, number)?,
-        start,
-        end: start.saturating_add(HOUR),
-    };
-    house.change(alloc, &change)
+    let end = start.saturating_add(HOUR);
+    let object = table(alloc, number)?;
+    make(alloc, house, Change::RecordRange { object, start, end })
 }
 
 pub fn spans(house: &MemHouse) -> usize {
@@ -138,23 +138,24 @@ fn record_all(
     Ok(())
 }
 
+/// Makes them all, and counts the spans.
 fn change_all(
     alloc: Global,
     house: &mut MemHouse,
     tables: u32,
     changes: u32,
-) -> Result<(), WhFail> {
+) -> Result<usize, WhFail> {
     let Ok(cron) = read_cron(b"@hourly") else {
         return Err(WhFail::Failed);
     };
     fill_all(alloc, house, cron, tables)?;
-    record_all(alloc, house, tables, changes)
+    record_all(alloc, house, tables, changes)?;
+    Ok(spans(house))
 }
 
 /// So many tables with a view and a version each, and then so many changes, which each record an hour of one version
 /// after another. The answer is how many spans are recorded.
 pub fn recorded(alloc: Global, tables: u32, changes: u32) -> Result<usize, WhFail> {
     let mut house = MemHouse::new(alloc);
-    change_all(alloc, &mut house, tables, changes)?;
-    Ok(spans(&house))
+    change_all(alloc, &mut house, tables, changes)
 }

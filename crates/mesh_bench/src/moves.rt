@@ -1,7 +1,7 @@
 // Changes of a book that go over many of its items: units that are forgotten, and snapshots with other fingerprints.
-use crate::house::{own, put, table, text};
+use crate::house::{make, own, put, table, text};
 use mesh_base::{Env, Forget, Forgets, Ref, Refs, Rename, Renames, Snapshot};
-use mesh_house::{Change, MemHouse, Warehouse, WhFail, World};
+use mesh_house::{Change, MemHouse, WhFail, World};
 use mesh_list::{Duplicate, Keyed, Memory, Register, Seq, together};
 use mesh_time::read_cron;
 use mesh_values::{Cron, Name};
@@ -31,23 +31,38 @@ fn units(alloc: Global, count: u32, step: u32) -> Result<Forgets, Memory> {
     Ok(list)
 }
 
-/// Records hours of one version, and forgets so many of them, each so many behind the one before it. The answer is how
-/// many spans are left.
-pub fn forgotten(alloc: Global, count: u32, step: u32) -> Result<usize, WhFail> {
+/// Records so many hours of one version.
+fn record(alloc: Global, house: &mut MemHouse, cron: Cron, hours: u32) -> Result<(), WhFail> {
+    put(alloc, house, cron, 0)?;
+    let object = table(alloc, 0)?;
+    let (start, end) = (0, hour(hours));
+    make(alloc, house, Change::RecordRange { object, start, end })
+}
+
+fn forget(alloc: Global, house: &mut MemHouse, list: Forgets) -> Result<(), WhFail> {
+    make(alloc, house, Change::ForgetUnits { list })
+}
+
+/// Does both, and counts the spans that are left.
+fn record_and_forget(
+    alloc: Global,
+    house: &mut MemHouse,
+    count: u32,
+    step: u32,
+) -> Result<usize, WhFail> {
     let Ok(cron) = read_cron(b"@hourly") else {
         return Err(WhFail::Failed);
     };
+    record(alloc, house, cron, count.saturating_mul(step))?;
+    forget(alloc, house, units(alloc, count, step)?)?;
+    Ok(crate::house::spans(house))
+}
+
+/// Records hours of one version, and forgets so many of them, each so many behind the one before it. The answer is how
+/// many spans are left.
+pub fn forgotten(alloc: Global, count: u32, step: u32) -> Result<usize, WhFail> {
     let mut house = MemHouse::new(alloc);
-    put(alloc, &mut house, cron, 0)?;
-    let all = Change::RecordRange {
-        object: table(alloc, 0)?,
-        start: 0,
-        end: hour(count.saturating_mul(step)),
-    };
-    house.change(alloc, &all)?;
-    let list = units(alloc, count, step)?;
-    house.change(alloc, &Change::ForgetUnits { list })?;
-    Ok(crate::house::spans(&house))
+    record_and_forget(alloc, &mut house, count, step)
 }
 
 /// The next of numbers that look like chance.
@@ -158,14 +173,23 @@ fn environment(alloc: Global, snapshots: &[Snapshot]) -> Result<Env, Memory> {
     })
 }
 
+fn environments(alloc: Global, snapshots: &[Snapshot]) -> Result<Vec<Env>, Memory> {
+    let mut made = Vec::new(alloc);
+    made.push(environment(alloc, snapshots)?)?;
+    Ok(made)
+}
+
+fn world_of(alloc: Global, snapshots: Vec<Snapshot>, environments: Vec<Env>) -> World {
+    let mut world = World::new(alloc);
+    world.book.snapshots = Register::from_vec(snapshots);
+    world.book.environments = Register::from_vec(environments);
+    world
+}
+
 fn world(alloc: Global, cron: Cron, count: u32, models: u32) -> Result<World, Memory> {
     let all = snapshots(alloc, cron, count, models)?;
-    let mut environments = Vec::new(alloc);
-    environments.push(environment(alloc, all.as_slice())?)?;
-    let mut world = World::new(alloc);
-    world.book.snapshots = Register::from_vec(all);
-    world.book.environments = Register::from_vec(environments);
-    Ok(world)
+    let environments = environments(alloc, all.as_slice())?;
+    Ok(world_of(alloc, all, environments))
 }
 
 /// Another fingerprint for each snapshot.
@@ -183,12 +207,16 @@ fn renames(alloc: Global, snapshots: &[Snapshot]) -> Result<Renames, Memory> {
     Ok(map)
 }
 
-fn migrate_all(alloc: Global, house: &mut MemHouse, times: u32) -> Result<(), WhFail> {
+fn migrate(alloc: Global, house: &mut MemHouse) -> Result<(), WhFail> {
+    let map = renames(alloc, house.world().book.snapshots.as_slice())?;
+    make(alloc, house, Change::Migrate { map })
+}
+
+fn migrate_often(alloc: Global, house: &mut MemHouse, times: u32) -> Result<usize, WhFail> {
     for _ in 0..times {
-        let map = renames(alloc, house.world().book.snapshots.as_slice())?;
-        house.change(alloc, &Change::Migrate { map })?;
+        migrate(alloc, house)?;
     }
-    Ok(())
+    Ok(in_order(house.world().book.snapshots.as_slice()))
 }
 
 /// How many snapshots stand in front of one whose key is above theirs.
@@ -210,7 +238,7 @@ pub fn migrated(alloc: Global, count: u32, models: u32, times: u32) -> Result<us
     let Ok(cron) = read_cron(b"@hourly") else {
         return Err(WhFail::Failed);
     };
-    let mut house = MemHouse::with(world(alloc, cron, count, models)?, Seq::new(alloc));
-    migrate_all(alloc, &mut house, times)?;
-    Ok(in_order(house.world().book.snapshots.as_slice()))
+    let world = world(alloc, cron, count, models)?;
+    let mut house = MemHouse::with(world, Seq::new(alloc));
+    migrate_often(alloc, &mut house, times)
 }

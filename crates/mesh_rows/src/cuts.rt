@@ -141,6 +141,49 @@ fn apply(alloc: Global) -> Result<Strs, Trouble> {
     Ok(words)
 }
 
+/// Runs a command with a cut file in its place, and adds its outcome.
+fn run_cut<R: Threads + Sync>(
+    rt: &R,
+    alloc: Global,
+    stage: &mut Stage,
+    words: &Strs,
+    path: &Str,
+    cut: &[u8],
+    tally: &mut Tally,
+) -> Result<(), Trouble> {
+    stage.write(path.copy()?, u8::copy_items(alloc, cut)?)?;
+    tally.add(path, stage.run(rt, words)?)
+}
+
+/// Runs a command with each proper prefix of a file in its place.
+fn run_cuts<R: Threads + Sync>(
+    rt: &R,
+    alloc: Global,
+    stage: &mut Stage,
+    words: &Strs,
+    path: &Str,
+    bytes: &Str,
+    tally: &mut Tally,
+) -> Result<(), Trouble> {
+    let mut cut = Vec::new(alloc);
+    for byte in bytes.as_slice() {
+        run_cut(rt, alloc, stage, words, path, cut.as_slice(), tally)?;
+        cut.push(*byte)?;
+    }
+    tally.end_run()
+}
+
+fn put_tally(
+    alloc: Global,
+    report: &mut Vec<u8>,
+    path: &Str,
+    tally: &Tally,
+) -> Result<(), Trouble> {
+    put_cuts(alloc, report, path, tally.all, tally.refused)?;
+    report.extend_from_slice(tally.others.as_slice())?;
+    Ok(())
+}
+
 /// Runs `apply` with each proper prefix of a file in its place, and then gives the project the whole file.
 pub fn cuts<R: Threads + Sync>(
     rt: &R,
@@ -152,15 +195,7 @@ pub fn cuts<R: Threads + Sync>(
 ) -> Result<(), Trouble> {
     let words = apply(alloc)?;
     let mut tally = Tally::new(alloc);
-    let mut cut = Vec::new(alloc);
-    for byte in bytes.as_slice() {
-        stage.write(path.copy()?, u8::copy_items(alloc, cut.as_slice())?)?;
-        tally.add(path, stage.run(rt, &words)?)?;
-        cut.push(*byte)?;
-    }
-    tally.end_run()?;
+    run_cuts(rt, alloc, stage, &words, path, bytes, &mut tally)?;
     stage.write(path.copy()?, bytes.copy()?)?;
-    put_cuts(alloc, report, path, tally.all, tally.refused)?;
-    report.extend_from_slice(tally.others.as_slice())?;
-    Ok(())
+    put_tally(alloc, report, path, &tally)
 }

@@ -82,6 +82,38 @@ fn file_of(alloc: Global, data: &mut DirFolder, name: &[u8], path: &[u8]) -> Res
     read(alloc, data, whole.as_slice())
 }
 
+/// Gives the project a file with the first bytes of a file of the example.
+fn write_front(stage: &mut Stage, path: &Str, bytes: &Str, length: u64) -> Result<(), Trouble> {
+    let path = path.copy()?;
+    let made = front(stage.alloc(), bytes, length)?;
+    stage.write(path, made)
+}
+
+/// Gives the project a file with the bytes of a file of the example and line feeds.
+fn write_padded(stage: &mut Stage, path: &Str, bytes: &Str, length: u64) -> Result<(), Trouble> {
+    let path = path.copy()?;
+    let made = padded(stage.alloc(), bytes, length)?;
+    stage.write(path, made)
+}
+
+/// Runs one step that stands over a file of the example, whose bytes are at hand.
+fn perform_over<R: Threads + Sync>(
+    rt: &R,
+    step: &Step,
+    bytes: &Str,
+    stage: &mut Stage,
+    report: &mut Vec<u8>,
+) -> Result<(), Trouble> {
+    match step {
+        Step::Write { path, .. } => stage.write(path.copy()?, bytes.copy()?),
+        Step::Cut { path, length, .. } => write_front(stage, path, bytes, *length),
+        Step::Pad { path, length, .. } => write_padded(stage, path, bytes, *length),
+        Step::Copies { number, .. } => stage.copies(*number, bytes),
+        Step::Cuts { path, .. } => cuts(rt, stage.alloc(), stage, path, bytes, report),
+        _ => Err(Trouble::Script),
+    }
+}
+
 /// Runs one step of an example, and adds what is to be printed.
 fn perform<R: Threads + Sync>(
     rt: &R,
@@ -92,29 +124,36 @@ fn perform<R: Threads + Sync>(
     stage: &mut Stage,
     report: &mut Vec<u8>,
 ) -> Result<(), Trouble> {
-    match step {
-        Step::Write { path, from } => {
+    match step.file() {
+        Some(from) => {
             let bytes = file_of(alloc, data, name, from.as_slice())?;
-            stage.write(path.copy()?, bytes)
+            perform_over(rt, step, &bytes, stage, report)
         }
-        Step::Cut { path, from, length } => {
-            let bytes = file_of(alloc, data, name, from.as_slice())?;
-            stage.write(path.copy()?, front(alloc, &bytes, *length)?)
-        }
-        Step::Pad { path, from, length } => {
-            let bytes = file_of(alloc, data, name, from.as_slice())?;
-            stage.write(path.copy()?, padded(alloc, &bytes, *length)?)
-        }
-        Step::Copies { number, from } => {
-            let bytes = file_of(alloc, data, name, from.as_slice())?;
-            stage.copies(*number, &bytes)
-        }
-        Step::Cuts { path, from } => {
-            let bytes = file_of(alloc, data, name, from.as_slice())?;
-            cuts(rt, alloc, stage, path, &bytes, report)
-        }
-        other => stage.perform(rt, other, report),
+        None => stage.perform(rt, step, report),
     }
+}
+
+fn put_head(report: &mut Vec<u8>, name: &[u8]) -> Result<(), Trouble> {
+    report.extend_from_slice(b"== ")?;
+    report.extend_from_slice(name)?;
+    report.push(b'\n')?;
+    Ok(())
+}
+
+/// Runs the steps of an example on a stage that has its files.
+fn play<R: Threads + Sync>(
+    rt: &R,
+    alloc: Global,
+    data: &mut DirFolder,
+    name: &[u8],
+    stage: &mut Stage,
+    report: &mut Vec<u8>,
+) -> Result<(), Trouble> {
+    let script = file_of(alloc, data, name, b"script")?;
+    for step in &steps_of(alloc, script.as_slice())? {
+        perform(rt, alloc, data, name, step, stage, report)?;
+    }
+    Ok(())
 }
 
 /// Runs one example, and adds what is to be printed.
@@ -126,16 +165,10 @@ fn example<R: Threads + Sync>(
     name: &[u8],
     report: &mut Vec<u8>,
 ) -> Result<(), Trouble> {
-    report.extend_from_slice(b"== ")?;
-    report.extend_from_slice(name)?;
-    report.push(b'\n')?;
+    put_head(report, name)?;
     let mut stage = Stage::new(alloc);
     furnish(alloc, data, paths, name, &mut stage)?;
-    let script = file_of(alloc, data, name, b"script")?;
-    for step in &steps_of(alloc, script.as_slice())? {
-        perform(rt, alloc, data, name, step, &mut stage, report)?;
-    }
-    Ok(())
+    play(rt, alloc, data, name, &mut stage, report)
 }
 
 fn examples<R: Threads + Sync>(

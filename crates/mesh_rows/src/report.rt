@@ -1,8 +1,8 @@
 // What is printed of a command.
 use crate::command::Outcome;
 use crate::trouble::Trouble;
-use mesh_house::{Body, World};
-use mesh_values::{Cell, Name, Row, Str, Strs};
+use mesh_house::{Body, Object, ViewOf, World};
+use mesh_values::{Cell, Columns, Name, Row, Str, Strs};
 use std::alloc::Global;
 
 /// A number in decimal digits.
@@ -19,28 +19,34 @@ fn put_name(report: &mut Vec<u8>, name: &Name) -> Result<(), Trouble> {
     Ok(())
 }
 
+fn put_word(report: &mut Vec<u8>, word: &[u8]) -> Result<(), Trouble> {
+    Ok(report.extend_from_slice(word)?)
+}
+
+fn put_int(alloc: Global, report: &mut Vec<u8>, number: i64) -> Result<(), Trouble> {
+    let digits = format!(in alloc; "{number}")?;
+    put_word(report, digits.as_bytes())
+}
+
+fn put_day(alloc: Global, report: &mut Vec<u8>, day: i32) -> Result<(), Trouble> {
+    put_word(report, b"day ")?;
+    put_int(alloc, report, i64::from(day))
+}
+
+fn put_text(report: &mut Vec<u8>, text: &Str) -> Result<(), Trouble> {
+    report.push(b'\'')?;
+    report.extend_from_slice(text.as_slice())?;
+    Ok(report.push(b'\'')?)
+}
+
 fn put_cell(alloc: Global, report: &mut Vec<u8>, cell: &Cell) -> Result<(), Trouble> {
     match cell {
-        Cell::Null => report.extend_from_slice(b"NULL")?,
-        Cell::Int(n) => {
-            let digits = format!(in alloc; "{n}")?;
-            report.extend_from_slice(digits.as_bytes())?;
-        }
-        Cell::Text(text) => {
-            report.push(b'\'')?;
-            report.extend_from_slice(text.as_slice())?;
-            report.push(b'\'')?;
-        }
-        Cell::Date(day) => {
-            let digits = format!(in alloc; "day {day}")?;
-            report.extend_from_slice(digits.as_bytes())?;
-        }
-        Cell::Bool(truth) => {
-            let word = if *truth { "true" } else { "false" };
-            report.extend_from_slice(word.as_bytes())?;
-        }
+        Cell::Null => put_word(report, b"NULL"),
+        Cell::Int(n) => put_int(alloc, report, *n),
+        Cell::Text(text) => put_text(report, text),
+        Cell::Date(day) => put_day(alloc, report, *day),
+        Cell::Bool(truth) => put_word(report, if *truth { b"true" } else { b"false" }),
     }
-    Ok(())
 }
 
 fn put_row(alloc: Global, report: &mut Vec<u8>, row: &Row) -> Result<(), Trouble> {
@@ -146,24 +152,36 @@ fn put_body(alloc: Global, report: &mut Vec<u8>, body: &Body) -> Result<(), Trou
     Ok(())
 }
 
+fn put_columns(report: &mut Vec<u8>, columns: &Columns) -> Result<(), Trouble> {
+    for column in columns.as_slice() {
+        report.push(b' ')?;
+        report.extend_from_slice(column.name.as_slice())?;
+    }
+    Ok(report.push(b'\n')?)
+}
+
+fn put_table(alloc: Global, report: &mut Vec<u8>, object: &Object) -> Result<(), Trouble> {
+    report.extend_from_slice(b"  table ")?;
+    put_name(report, &object.name)?;
+    put_columns(report, &object.columns)?;
+    put_body(alloc, report, &object.body)
+}
+
+fn put_view(report: &mut Vec<u8>, view: &ViewOf) -> Result<(), Trouble> {
+    report.extend_from_slice(b"  view ")?;
+    put_name(report, &view.view)?;
+    report.extend_from_slice(b" at ")?;
+    put_name(report, &view.target)?;
+    Ok(report.push(b'\n')?)
+}
+
 /// The tables with their columns and rows, and the views with what they point at.
 pub fn put_world(alloc: Global, report: &mut Vec<u8>, world: &World) -> Result<(), Trouble> {
     for object in world.objects.as_slice() {
-        report.extend_from_slice(b"  table ")?;
-        put_name(report, &object.name)?;
-        for column in object.columns.as_slice() {
-            report.push(b' ')?;
-            report.extend_from_slice(column.name.as_slice())?;
-        }
-        report.push(b'\n')?;
-        put_body(alloc, report, &object.body)?;
+        put_table(alloc, report, object)?;
     }
     for view in world.views.as_slice() {
-        report.extend_from_slice(b"  view ")?;
-        put_name(report, &view.view)?;
-        report.extend_from_slice(b" at ")?;
-        put_name(report, &view.target)?;
-        report.push(b'\n')?;
+        put_view(report, view)?;
     }
     Ok(())
 }

@@ -34,6 +34,20 @@ pub enum Step {
     FailNothing,
 }
 
+impl Step {
+    /// The file of the example that a step stands over, where it does.
+    pub fn file(&self) -> Option<&Str> {
+        match self {
+            Step::Write { from, .. }
+            | Step::Cut { from, .. }
+            | Step::Pad { from, .. }
+            | Step::Copies { from, .. }
+            | Step::Cuts { from, .. } => Some(from),
+            _ => None,
+        }
+    }
+}
+
 fn text(alloc: Global, word: &str) -> Result<Str, Trouble> {
     Ok(u8::copy_items(alloc, word.as_bytes())?)
 }
@@ -195,6 +209,11 @@ fn words_of<'a>(alloc: Global, line: &'a str) -> Result<Vec<&'a str>, Trouble> {
     Ok(words)
 }
 
+fn step_of_line(alloc: Global, line: &str) -> Result<Step, Trouble> {
+    let words = words_of(alloc, line)?;
+    step_of(alloc, words.as_slice())
+}
+
 /// The steps of a script, in order.
 pub fn steps_of(alloc: Global, script: &[u8]) -> Result<Vec<Step>, Trouble> {
     let Ok(script) = std::str::from_utf8(script) else {
@@ -205,8 +224,7 @@ pub fn steps_of(alloc: Global, script: &[u8]) -> Result<Vec<Step>, Trouble> {
         if line.is_empty() || line.starts_with('#') {
             continue;
         }
-        let words = words_of(alloc, line)?;
-        steps.push(step_of(alloc, words.as_slice())?)?;
+        steps.push(step_of_line(alloc, line)?)?;
     }
     Ok(steps)
 }

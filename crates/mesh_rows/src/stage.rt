@@ -29,6 +29,10 @@ impl Stage {
         }
     }
 
+    pub fn alloc(&self) -> Global {
+        self.alloc
+    }
+
     pub fn write(&mut self, path: Str, bytes: Str) -> Result<(), Trouble> {
         Ok(self.folder.write(File { path, bytes })?)
     }
@@ -62,7 +66,7 @@ impl Stage {
                 Ok(())
             }
             Step::EmptyHouse => {
-                self.house = MemHouse::new(self.alloc);
+                self.empty_house();
                 Ok(())
             }
             Step::FailHouse(fail) => self.fail_house(*fail),
@@ -73,6 +77,10 @@ impl Stage {
                 Ok(())
             }
         }
+    }
+
+    fn empty_house(&mut self) {
+        self.house = MemHouse::new(self.alloc);
     }
 
     fn fail_nothing(&mut self) {
@@ -125,6 +133,11 @@ impl Stage {
         report: &mut Vec<u8>,
     ) -> Result<(), Trouble> {
         let outcome = self.run(rt, words)?;
+        self.put(words, &outcome, report)
+    }
+
+    /// Reports a command.
+    fn put(&self, words: &Strs, outcome: &Outcome, report: &mut Vec<u8>) -> Result<(), Trouble> {
         put_command(self.alloc, report, words, outcome.status, outcome.changes)?;
         put_texts(report, &outcome.out, &outcome.err)?;
         put_world(self.alloc, report, self.house.world())
