@@ -7,3 +7,4 @@ mod line;
 mod pieces;
 
 pub use line::fault_line;
+pub use pieces::{put, put_name, put_number};

@@ -7,16 +7,16 @@ ghost use Rattle.mesh_fault_text.specs.Lines.{◌·◌, name_text, names_text};
 use mesh_list::Memory;
 use mesh_values::Name;
 
-/// These bytes.
-pub(crate) fn put(out: &mut Vec<u8>, bytes: &[u8]) -> Result<(), Memory>
+/// These bytes, at the end of what is written so far.
+pub fn put(out: &mut Vec<u8>, bytes: &[u8]) -> Result<(), Memory>
     ensures { OnOk result (out.new.items ≡ out.old.items ++ bytes.now) }
 {
     out.extend_from_slice(bytes)?;
     Ok(())
 }
 
-/// Decimal, without leading zeros.
-pub(crate) fn put_number(out: &mut Vec<u8>, number: u64) -> Result<(), Memory>
+/// A number in decimal, without leading zeros.
+pub fn put_number(out: &mut Vec<u8>, number: u64) -> Result<(), Memory>
     ensures { OnOk result (out.new.items ≡ out.old.items ++ decimal number) }
 {
     let mut buffer = itoa::Buffer::new();
@@ -32,7 +32,7 @@ pub(crate) fn put_both(out: &mut Vec<u8>, word: &[u8], bytes: &[u8]) -> Result<(
 }
 
 /// A schema, a point and a model.
-pub(crate) fn put_name(out: &mut Vec<u8>, name: &Name) -> Result<(), Memory>
+pub fn put_name(out: &mut Vec<u8>, name: &Name) -> Result<(), Memory>
     ensures { OnOk result (out.new.items ≡ out.old.items ++ name_text name.now) }
 {
     put(out, name.schema.as_slice())?;

@@ -8,7 +8,8 @@ use crate::ends::{are_ends, is_and, is_column};
 use mesh_base::{Expr, FromItem, Join, Select};
 use mesh_values::Str;
 
-// A condition has, among the conjuncts at its top, one that binds this column to the unit.
+// A condition has, among the conjuncts at its top, one that binds this column to the unit. The right side is looked at
+// first, which is mostly one conjunct, and the left one all those before it.
 #[tactic(auto, using(crate::proofs::Tops::bounds_out))]
 #[cycle(bounds)]
 fn bounds(e: &Expr, place: usize, time: &Str) -> bool
@@ -23,7 +24,7 @@ fn bounds_parts(e: &Expr, place: usize, time: &Str) -> bool
 {
     match e {
         Expr::Binary { op, left, right } => {
-            is_and(*op) && (bounds(left.get(), place, time) || bounds(right.get(), place, time))
+            is_and(*op) && (bounds(right.get(), place, time) || bounds(left.get(), place, time))
         }
         Expr::Between { value, low, high } => {
             is_column(value.get(), place, time) && are_ends(low.get(), high.get())
