@@ -8,6 +8,8 @@ use Rattle.mesh_values.specs.declared.values.Name.{Name}
 use Rattle.mesh_values.specs.Names.{name_cmp}
 use Rattle.mesh_order.specs.declared.readers.Reader.{Reader}
 use Rattle.mesh_order.specs.declared.readers.Ranked.{Ranked}
+use Rattle.mesh_order.specs.declared.readers.Outcome.{Outcome}
+use Rattle.mesh_order.specs.declared.readers.Outcome.TheVariants.{Ordered, Cyclic}
 use Rattle.mesh_order.specs.declared.readers.OrderFault.{OrderFault}
 use Rattle.mesh_order.specs.declared.readers.OrderFault.TheVariants.{Cycle, Memory}
 
@@ -87,3 +89,7 @@ pub record AreCyclic (models : List Reader) (names : List Name) : Type 0 where
 abbrev pub MeansCycle : List Reader → OrderFault → Type 0
 MeansCycle models (Cycle names) = AreCyclic models names
 MeansCycle models Memory = ⊤
+
+abbrev pub MeansOutcome : List Reader → Outcome → Type 0
+MeansOutcome models (Ordered order) = IsOrder models order
+MeansOutcome models (Cyclic names) = AreCyclic models names

@@ -3,8 +3,12 @@
 //! `mesh_list` and `mesh_values`.
 #![tactic(auto)]
 
+mod cycles;
+mod links;
 mod order;
+mod peel;
 mod readers;
+mod seen;
 
 pub use order::in_order;
 pub use readers::{Order, OrderFault, Ranked, Reader};

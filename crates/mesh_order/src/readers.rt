@@ -1,5 +1,5 @@
 // Models as they read one another, and what comes of it.
-use mesh_list::{Memory, Seq};
+use mesh_list::Seq;
 use mesh_values::{Name, Names};
 
 /// A model, and the relations that its query names, in any order, some of them perhaps no models.
@@ -25,8 +25,9 @@ pub enum OrderFault {
     Memory,
 }
 
-impl From<Memory> for OrderFault {
-    fn from(_memory: Memory) -> OrderFault {
-        OrderFault::Memory
-    }
+/// An order, or the names of all models that reach themselves.
+#[derive(Drop)]
+pub(crate) enum Outcome {
+    Ordered(Order),
+    Cyclic(Names),
 }
