@@ -1,4 +1,8 @@
 -- Numbers: lists of numbers, and what stands in them.
 pub mod Numbers
+-- Places: where models stand by their names, and the places of those that each one reads.
+pub mod Places
+-- Walking: walks from model to model.
+pub mod Walking
 -- Peeling: one rank more, and where it ends.
 pub mod Peeling
