@@ -4,5 +4,7 @@ pub mod Numbers
 pub mod Places
 -- Walking: walks from model to model.
 pub mod Walking
+-- Answering: from ranks and what is left to an order or a cycle.
+pub mod Answering
 -- Peeling: one rank more, and where it ends.
 pub mod Peeling
