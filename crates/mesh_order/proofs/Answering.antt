@@ -1,24 +1,25 @@
 -- From ranks and what is left to an order or a cycle.
-use Rattle.std.proofs.Common.{◌≡◌, ℕ, zero, suc, ◌+◌, ◌<◌, ◌≤◌, max, min, Bool, true, false, ◌&&◌, cond, zero-add, eqb, List, [], ◌∷◌, ◌++◌, length, get_or, map, refl, ap, sym, ◌∙◌, subst, inl, inr, ◌⊎◌, IsTrue, arith}
-use Rattle.std.specs.Prelude.{filter, nat_lt, slice_index, All, AllPairs, Contains}
+use Rattle.std.proofs.Common.{◌≡◌, ℕ, suc, ◌+◌, ◌<◌, ◌≤◌, min, Bool, true, cond, zero-add, eqb, List, [], ◌∷◌, ◌++◌, length, get_or, map, refl, ap, sym, ◌∙◌, subst, inl, inr, ◌⊎◌, arith}
+use Rattle.std.specs.Prelude.{slice_index, All, AllPairs, Contains}
 use Rattle.std.specs.List.{range_with_len}
 use Rattle.std.specs.declared.cmp.Ordering.{Ordering}
 use Rattle.std.specs.declared.cmp.Ordering.TheVariants.{Less, Equal, Greater}
 use Rattle.std.specs.Ordering.{is_lt, nat_cmp, ordering_then}
-use Rattle.std.proofs.lemmas.Bool.{cases_lt, eq-eqb, eqb-true, lt-ltb, ltb-true, or_cases, or_left, or_right, and_from}
+use Rattle.std.proofs.lemmas.Bool.{cases_lt, eq-eqb, eqb-true, lt-ltb, or_cases, or_left, or_right, and_from}
 use Rattle.std.proofs.lemmas.Cmp.{nat_cmp_total, tied_itself}
 use Rattle.std.proofs.lemmas.List.FromFn.{get_or-range_with_len, length-range_with_len}
-use Rattle.std.proofs.lemmas.List.Elements.{All-contains, All-from_get_or, All-get_or, All-push, All-weaker, Contains-append_left, Contains-get_or, Contains-push}
+use Rattle.std.proofs.lemmas.List.Elements.{All-contains, All-from_get_or, All-get_or, All-push, All-weaker, Contains-append_left, Contains-push}
 use Rattle.std.proofs.lemmas.List.Quantifiers.{all_pairs_push}
-use Rattle.mesh_list.specs.Keyed.{ascends, below_first}
+use Rattle.mesh_list.specs.Keyed.{ascends}
 use Rattle.mesh_values.specs.declared.values.Name.{Name}
 use Rattle.mesh_values.specs.Names.{name_cmp}
 use Rattle.mesh_order.specs.declared.readers.Reader.{Reader}
 use Rattle.mesh_order.specs.declared.readers.Ranked.{Ranked}
-use Rattle.mesh_order.specs.Order.{AreCyclic, AreRanks, HaveRanks, IsCyclic, IsOrder, Reaches, above, itself, name_at, parents, place, ranked_cmp, reads}
+use Rattle.mesh_order.specs.declared.peel.Peeled.{Peeled}
+use Rattle.mesh_order.specs.Order.{AreCyclic, IsCyclic, IsOrder, Reaches, above, itself, name_at, parents, place, ranked_cmp, reads}
 use Rattle.mesh_order.specs.Order.Reaches.{at_once, through}
-use Rattle.mesh_order.specs.Links.{AreLinks, AreWithin, IsBelow, has, leads}
-use Rattle.mesh_order.specs.Peeled.{AreStuck, ComesBefore, IsPeeled, IsReached}
+use Rattle.mesh_order.specs.Links.{AreLinks, IsBelow, has, leads}
+use Rattle.mesh_order.specs.Peeled.{AreStuck, ComesBefore, IsDone, IsPeeled, IsReached}
 use Rattle.mesh_order.specs.Seen.{AreNamed, IsNext}
 use Rattle.mesh_order.proofs.Numbers.{and_both, contains_of, has_at, has_filter, place_of}
 use Rattle.mesh_order.proofs.Peeling.{inside_links}
@@ -49,13 +50,13 @@ module _ (models : List Reader) (links : List (List ℕ)) (places : List ℕ) (b
       rw is (record {
         only = All-push (IsOne (count + 1)) names (name_at models at) (All-weaker (IsOne count) (IsOne (count + 1)) (later_one count) names was.only) this;
         all = λ k m g. elim (cases_lt k count) [
-            inl below ↦ Contains-append_left names (name_at models at ∷ []) (name_at models (slice_index places k)) (was.all k below g)
+          | inl below ↦ Contains-append_left names (name_at models at ∷ []) (name_at models (slice_index places k)) (was.all k below g)
           | inr over ↦
               let same : k ≡ count = omega arith in
               subst (Contains (names ++ name_at models at ∷ [])) (ap (name_at models) (here ∙ ap (slice_index places) (sym same))) (Contains-push names (name_at models at))
-          ];
+        ];
         ascending = all_pairs_push (λ a b. name_cmp a b ≡ Less) names (name_at models at) was.ascending
-          (λ k d m. below (get_or names k d) (All-get_or (IsOne count) names k d m was.only));
+            (λ k d m. below (get_or names k d) (All-get_or (IsOne count) names k d m was.only));
       })
     where
       below : (name : Name) → IsOne count name → name_cmp name (name_at models at) ≡ Less
@@ -64,9 +65,9 @@ module _ (models : List Reader) (links : List (List ℕ)) (places : List ℕ) (b
       rw is (record {
         only = All-weaker (IsOne count) (IsOne (count + 1)) (later_one count) names was.only;
         all = λ k m g. elim (cases_lt k count) [
-            inl below ↦ was.all k below g
+          | inl below ↦ was.all k below g
           | inr over ↦ absurd (goes (subst Goes (let same : k ≡ count = omega arith in ap (slice_index places) same ∙ sym here) g))
-          ];
+        ];
         ascending = was.ascending;
       })
 
@@ -99,9 +100,9 @@ above_le f (q ∷ ps) r h =
 above_ge : (f : ℕ → ℕ) (ps : List ℕ) (p : ℕ) → has ps p ≡ true → suc (f p) ≤ above (map f ps)
 above_ge f [] p h = absurd cc
 above_ge f (q ∷ ps) p h = elim (or_cases (eqb p q) (has ps p) h) [
-    inl e ↦ (let same : f p ≡ f q = ap f (eqb-true p q e) in omega arith)
+  | inl e ↦ (let same : f p ≡ f q = ap f (eqb-true p q e) in omega arith)
   | inr e ↦ (let more = above_ge f ps p e in omega arith)
-  ]
+]
 
 pub above_is : (f : ℕ → ℕ) (ps : List ℕ) (r : ℕ) → ((p : ℕ) → has ps p ≡ true → f p < r) → (r ≡ 0) ⊎ ((p : ℕ) × (has ps p ≡ true) × (r ≤ suc (f p))) → r ≡ above (map f ps)
 above_is f ps r h (inl none) = let most = above_le f ps r h in omega arith
@@ -130,7 +131,7 @@ module _ (models : List Reader) (links : List (List ℕ)) (l : AreLinks models l
       let below : p < length models = omega arith in
       let standing : slice_index (range_with_len 0 (length models)) p ≡ p = get_or-range_with_len 0 (length models) p 0 below ∙ zero-add p in
       let ranged : has (range_with_len 0 (length models)) p ≡ true =
-        subst (λ (q : ℕ). has (range_with_len 0 (length models)) q ≡ true) standing (has_at (range_with_len 0 (length models)) p (omega (arith, length-range_with_len 0 (length models)))) in
+      subst (λ (q : ℕ). has (range_with_len 0 (length models)) q ≡ true) standing (has_at (range_with_len 0 (length models)) p (omega (arith, length-range_with_len 0 (length models)))) in
       has_filter (reads models at) (range_with_len 0 (length models)) p ∙ and_from _ _ (sym (l.same at p) ∙ h) ranged
 
   module _ (ranks : List ℕ) (order : List Ranked) (rest : List ℕ) (rank : ℕ) (p : IsPeeled models links ranks order rest rank) where
@@ -143,9 +144,9 @@ module _ (models : List Reader) (links : List (List ℕ)) (l : AreLinks models l
 
     left_all : (at : ℕ) → at < n → To at at → has rest at ≡ true
     left_all at m goes = elim (cases_lt (slice_index ranks at) n) [
-        inl r ↦ absurd (let f = falls at at m r goes in omega arith)
+      | inl r ↦ absurd (let f = falls at at m r goes in omega arith)
       | inr over ↦ p.left at m (p.bounded at m (let few = p.few in omega arith))
-      ]
+    ]
 
     pub ordered_of : rest ≡ [] → IsOrder models order
     ordered_of none = record {
@@ -160,15 +161,15 @@ module _ (models : List Reader) (links : List (List ℕ)) (l : AreLinks models l
 
         found : (at : ℕ) → at < n → slice_index ranks at < n
         found at m = elim (cases_lt (slice_index ranks at) rank) [
-            inl low ↦ (let few = p.few in omega arith)
+          | inl low ↦ (let few = p.few in omega arith)
           | inr over ↦ absurd (let h : has [] at ≡ true = subst (λ (xs : List ℕ). has xs at ≡ true) none (p.left at m (p.bounded at m over)) in cc)
-          ]
+        ]
 
         low : (at : ℕ) → at < n → slice_index ranks at < rank
         low at m = elim (cases_lt (slice_index ranks at) rank) [
-            inl b ↦ b
+          | inl b ↦ b
           | inr over ↦ absurd (let f = found at m in let e = p.bounded at m over in omega arith)
-          ]
+        ]
 
         least : (at : ℕ) → (m k : ℕ) → k ≡ m → IsReached links ranks k at → (m ≡ 0) ⊎ ((q : ℕ) × (has (parents models at) q ≡ true) × (m ≤ suc (slice_index ranks q)))
         least at m k e (inl z) = inl (sym e ∙ z)
@@ -184,9 +185,9 @@ module _ (models : List Reader) (links : List (List ℕ)) (l : AreLinks models l
     pub cyclic_of : 0 < length rest → AreStuck links rest → (names : List Name) → AreNamed models links rest (length rest) names → AreCyclic models names
     cyclic_of some stuck names named = record {
       some = (let z = some_reach links rest stuck n (λ at h. (p.unranked at h).0) (slice_index rest 0) (has_at rest 0 some) in
-        let c = stands z.0 z.1 z.2 in
-        let b = c.1 in
-        omega arith);
+          let c = stands z.0 z.1 z.2 in
+          let b = c.1 in
+          omega arith);
       exactly = λ name. (from name, back name);
       ascending = ascends_pairs name_cmp names named.ascending;
     }
@@ -207,3 +208,17 @@ module _ (models : List Reader) (links : List (List ℕ)) (l : AreLinks models l
         back name (at, m, is, goes) =
             let led : To at at = subst (λ (r : ℕ → ℕ → Bool). Reaches r at at) (sym same_reads) goes in
             subst (Contains names) is (stands at (left_all at (let many = l.as_many in omega arith) led) led)
+
+module _ (models : List Reader) (links : List (List ℕ)) (l : AreLinks models links) (made : Peeled) (done : IsDone models links made) where
+  pub done_in_order : made.rest ≡ [] → IsOrder models made.order
+  done_in_order none = ordered_of models links l made.ranks.items made.order made.rest done.rank done.peeled none
+
+  pub rest_inside : All (λ at. at < length models) made.rest
+  rest_inside = All-from_get_or (λ at. at < length models) made.rest 0 (λ i m. let u = done.peeled.unranked (slice_index made.rest i) (has_at made.rest i m) in let b = u.0 in let many = l.as_many in omega arith)
+
+  pub done_in_cycle : (made.rest ≡ [] → ⊥) → (names : List Name) → AreNamed models links made.rest (length made.rest) names → AreCyclic models names
+  done_in_cycle some names named = cyclic_of models links l made.ranks.items made.order made.rest done.rank done.peeled (longer made.rest some) done.stuck names named
+    where
+      longer : (xs : List ℕ) → (xs ≡ [] → ⊥) → 0 < length xs
+      longer [] f = absurd (f refl)
+      longer (x ∷ xs) f = omega arith

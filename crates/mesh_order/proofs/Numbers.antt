@@ -1,8 +1,8 @@
 -- Lists of numbers, and what stands in them.
-use Rattle.std.proofs.Common.{◌≡◌, ℕ, zero, suc, ◌+◌, ◌<◌, ◌≤◌, Bool, true, false, not, cond, ◌&&◌, ◌||◌, eqb, List, [], ◌∷◌, ◌++◌, length, map, refl, ap, sym, ◌∙◌, inl, inr, arith}
+use Rattle.std.proofs.Common.{◌≡◌, ℕ, suc, ◌<◌, Bool, true, false, cond, ◌&&◌, ◌||◌, eqb, List, [], ◌∷◌, ◌++◌, length, map, refl, ap, sym, ◌∙◌, inl, inr, arith}
 use Rattle.std.specs.Prelude.{filter, slice_index, slice_set, Contains, AllPairs, All}
-use Rattle.std.specs.List.{list_all, list_any}
-use Rattle.std.proofs.lemmas.Bool.{eqb-true, eq-eqb, or_cases, and_cases, cases_Bool}
+use Rattle.std.specs.List.{list_all}
+use Rattle.std.proofs.lemmas.Bool.{eqb-true, eq-eqb, or_cases, and_cases}
 use Rattle.std.proofs.lemmas.List.{get_or_default, length-set}
 use Rattle.std.proofs.lemmas.Grind.{common_steps}
 use Rattle.std.proofs.lemmas.Bool.Decides.{nat_tests}
@@ -39,18 +39,18 @@ all_has t [] n a h = cc
 all_has t (m ∷ ns) n a h =
     let parts = and_both (t m) (list_all t ns) a in
     elim (or_cases (eqb n m) (has ns n) h) [
-      inl e ↦ ap t (eqb-true n m e) ∙ parts.0
-    | inr e ↦ all_has t ns n parts.1 e
+      | inl e ↦ ap t (eqb-true n m e) ∙ parts.0
+      | inr e ↦ all_has t ns n parts.1 e
     ]
 
 pub not_all_has : (t : ℕ → Bool) (ns : List ℕ) → list_all t ns ≡ false → (n : ℕ) × (has ns n ≡ true) × (t n ≡ false)
 not_all_has t [] a = absurd cc
 not_all_has t (m ∷ ns) a = elim (and_cases (t m) (list_all t ns) a) [
-    inl e ↦ (m, ap (λ b. b || has ns m) (eq-eqb m m refl), e)
+  | inl e ↦ (m, ap (λ b. b || has ns m) (eq-eqb m m refl), e)
   | inr e ↦
       let more = not_all_has t ns e in
       (more.0, later (eqb more.0 m) (has ns more.0) more.1, more.2)
-  ]
+]
   where
     later : (a b : Bool) → b ≡ true → (a || b) ≡ true
     later true b h = refl
@@ -75,8 +75,8 @@ ranks_with-at ranks [] rank q l = refl
 ranks_with-at ranks (at ∷ ready) rank q l =
     ranks_with-at (slice_set ranks at rank) ready rank q (omega (arith, length-set ranks at rank))
     ∙ raised (eqb q at) (has ready q) q at (slice_index (slice_set ranks at rank) q) rank (slice_index ranks q)
-      (λ e. let same : q ≡ at = eqb-true q at e in grind (arith, common_steps))
-      (λ e. grind (arith, common_steps, nat_tests))
+    (λ e. let same : q ≡ at = eqb-true q at e in grind (arith, common_steps))
+    (λ e. grind (arith, common_steps, nat_tests))
 
 pub pairs_append : {X : Type 0} (R : X → X → Type 0) (xs ys : List X) → AllPairs R xs → AllPairs R ys → All (λ x. All (R x) ys) xs → AllPairs R (xs ++ ys)
 pairs_append R [] ys p q a = q

@@ -1,11 +1,10 @@
 -- One rank more, and where it ends.
-use Rattle.std.proofs.Common.{◌≡◌, ℕ, suc, ◌+◌, ◌<◌, ◌≤◌, min, Bool, true, false, not, cond, ◌&&◌, List, [], ◌∷◌, ◌++◌, length, get_or, map, replicate, refl, ap, sym, ◌∙◌, subst, inl, inr, ◌⊎◌, arith}
+use Rattle.std.proofs.Common.{◌≡◌, ℕ, suc, ◌+◌, ◌<◌, ◌≤◌, min, Bool, true, false, not, cond, ◌&&◌, List, [], ◌∷◌, ◌++◌, length, get_or, map, replicate, refl, ap, sym, ◌∙◌, subst, inl, inr, arith}
 use Rattle.std.specs.Prelude.{filter, nat_lt, slice_index, slice_index_or, All, AllPairs}
 use Rattle.std.proofs.lemmas.Bool.{and_from, cases_lt, ltb-true, or_left, or_right}
 use Rattle.std.proofs.lemmas.Bool.Decides.{nat_tests}
-use Rattle.std.proofs.lemmas.Grind.{common_steps}
 use Rattle.std.proofs.lemmas.List.{get_or-replicate, length-replicate, map-append}
-use Rattle.std.proofs.lemmas.List.Elements.{All-append, All-map, All-filter, All-get_or, All-from_get_or, All-nil}
+use Rattle.std.proofs.lemmas.List.Elements.{All-append, All-map, All-get_or, All-from_get_or, All-nil}
 use Rattle.std.proofs.lemmas.List.Kept.{AllPairs-filter}
 use Rattle.mesh_order.specs.declared.readers.Reader.{Reader}
 use Rattle.mesh_order.specs.declared.readers.Ranked.{Ranked}
@@ -70,18 +69,18 @@ module _ (models : List Reader) (links : List (List ℕ)) (inside : AreWithin li
     -- a rank that was found stays
     stays : (at : ℕ) → at < n → old at < n → new at ≡ old at
     stays at l r = elim (now at l) [
-        ranked_now a b e ↦ absurd (let u = was.unranked at b in omega (arith, u.1))
+      | ranked_now a b e ↦ absurd (let u = was.unranked at b in omega (arith, u.1))
       | not_ready a b e ↦ e
       | not_left b e ↦ e
-      ]
+    ]
 
     -- and none falls below this one
     rises : (at m : ℕ) → at < n → m ≤ rank → m ≤ old at → m ≤ new at
     rises at m l r h = elim (now at l) [
-        ranked_now a b e ↦ omega (arith, e)
+      | ranked_now a b e ↦ omega (arith, e)
       | not_ready a b e ↦ omega (arith, e)
       | not_left b e ↦ omega (arith, e)
-      ]
+    ]
 
     later_is : (at : ℕ) → has later at ≡ (not (is_ready links ranks rank at) && has rest at)
     later_is at = has_filter (λ q. not (is_ready links ranks rank q)) rest at
@@ -98,31 +97,33 @@ module _ (models : List Reader) (links : List (List ℕ)) (inside : AreWithin li
     module _ (room : rank < n) where
       bounded' : (at : ℕ) → at < n → rank + 1 ≤ new at → new at ≡ n
       bounded' at l h = elim (now at l) [
-          ranked_now a b e ↦ absurd (omega (arith, e))
+        | ranked_now a b e ↦ absurd (omega (arith, e))
         | not_ready a b e ↦ e ∙ (was.unranked at b).1
         | not_left b e ↦ e ∙ was.bounded at l (omega (arith, e))
-        ]
+      ]
 
       left' : (at : ℕ) → at < n → new at ≡ n → has later at ≡ true
       left' at l h = elim (now at l) [
-          ranked_now a b e ↦ absurd (omega (arith, e))
+        | ranked_now a b e ↦ absurd (omega (arith, e))
         | not_ready a b e ↦ later_is at ∙ lefts _ _ a b
         | not_left b e ↦ absurd (let c : has rest at ≡ true = was.left at l (sym e ∙ h) in cc)
-        ]
+      ]
 
       unranked' : (at : ℕ) → has later at ≡ true → (at < n) × (new at ≡ n)
       unranked' at h =
           let parts = was_left (is_ready links ranks rank at) (has rest at) (sym (later_is at) ∙ h) in
-          let u = was.unranked at parts.1 in
-          (u.0, elim (now at u.0) [
-              ranked_now a b e ↦ absurd (let f = parts.0 in cc)
-            | not_ready a b e ↦ e ∙ u.1
-            | not_left b e ↦ e ∙ u.1
-            ])
+          let u = was.unranked at parts.1 in (
+            u.0,
+            elim (now at u.0) [
+              | ranked_now a b e ↦ absurd (let f = parts.0 in cc)
+              | not_ready a b e ↦ e ∙ u.1
+              | not_left b e ↦ e ∙ u.1
+            ],
+          )
 
       above' : (at p : ℕ) → at < n → new at < n → leads links at p ≡ true → new p < new at
       above' at p l r leads_there = elim (now at l) [
-          ranked_now a b e ↦
+        | ranked_now a b e ↦
             let below = ready_below ranks rank at p a leads_there in
             let same = stays p (inside at p leads_there) (omega arith) in
             omega (arith, e, same, below)
@@ -131,14 +132,18 @@ module _ (models : List Reader) (links : List (List ℕ)) (inside : AreWithin li
             let below = was.above at p l (omega (arith, e)) leads_there in
             let same = stays p (inside at p leads_there) (omega (arith, e)) in
             omega (arith, e, same, below)
-        ]
+      ]
 
       risen : (m at : ℕ) → m ≤ rank + 1 → ((q : ℕ) × (leads links at q ≡ true) × (m ≤ suc (old q))) → (q : ℕ) × (leads links at q ≡ true) × (m ≤ suc (new q))
-      risen m at r (q, leads_there, h) = (q, leads_there, elim (now q (inside at q leads_there)) [
-            ranked_now a b e ↦ omega (arith, e)
+      risen m at r (q, leads_there, h) = (
+        q,
+        leads_there,
+        elim (now q (inside at q leads_there)) [
+          | ranked_now a b e ↦ omega (arith, e)
           | not_ready a b e ↦ omega (arith, e)
           | not_left b e ↦ omega (arith, e)
-          ])
+        ],
+      )
 
       reached_with : (at m k : ℕ) → m ≡ k → k ≤ rank + 1 → IsReached links ranks k at → IsReached links (ranks_with ranks ready rank) m at
       reached_with at m k same r (inl e) = inl (same ∙ e)
@@ -148,7 +153,7 @@ module _ (models : List Reader) (links : List (List ℕ)) (inside : AreWithin li
 
       reached' : (at : ℕ) → at < n → IsReached links (ranks_with ranks ready rank) (min (new at) (rank + 1)) at
       reached' at l = elim (now at l) [
-          ranked_now a b e ↦
+        | ranked_now a b e ↦
             let u = was.unranked at b in
             reached_with at (min (new at) (rank + 1)) (min (old at) rank) (omega (arith, e, u.1)) (omega arith) (was.reached at l)
         | not_ready a b e ↦
@@ -159,13 +164,13 @@ module _ (models : List Reader) (links : List (List ℕ)) (inside : AreWithin li
         | not_left b e ↦
             let low : old at < rank = low_of b in
             reached_with at (min (new at) (rank + 1)) (min (old at) rank) (omega (arith, e, low)) (omega arith) (was.reached at l)
-        ]
+      ]
         where
           low_of : has rest at ≡ false → old at < rank
           low_of b = elim (cases_lt (old at) rank) [
-              inl h ↦ h
+            | inl h ↦ h
             | inr h ↦ absurd (let c : has rest at ≡ true = was.left at l (was.bounded at l h) in cc)
-            ]
+          ]
 
       places_of_ranked : (ns : List ℕ) → map place (map (at_rank rank) ns) ≡ ns
       places_of_ranked [] = refl
@@ -175,12 +180,14 @@ module _ (models : List Reader) (links : List (List ℕ)) (inside : AreWithin li
       ready_is : (at : ℕ) → has ready at ≡ true → (at < n) × (new at ≡ rank)
       ready_is at h =
           let parts = and_both (is_ready links ranks rank at) (has rest at) (sym (has_filter (is_ready links ranks rank) rest at) ∙ h) in
-          let u = was.unranked at parts.1 in
-          (u.0, elim (now at u.0) [
-              ranked_now a b e ↦ e
-            | not_ready a b e ↦ absurd (let f = parts.0 in cc)
-            | not_left b e ↦ absurd (let f = parts.1 in cc)
-            ])
+          let u = was.unranked at parts.1 in (
+            u.0,
+            elim (now at u.0) [
+              | ranked_now a b e ↦ e
+              | not_ready a b e ↦ absurd (let f = parts.0 in cc)
+              | not_left b e ↦ absurd (let f = parts.1 in cc)
+            ],
+          )
 
       each_ready : (P : ℕ → Type 0) → ((at : ℕ) → has ready at ≡ true → P at) → All P ready
       each_ready P f = All-from_get_or P ready 0 (λ i l. f (slice_index ready i) (has_at ready i l))
@@ -195,9 +202,9 @@ module _ (models : List Reader) (links : List (List ℕ)) (inside : AreWithin li
       each_old P f =
           All-from_get_or P order (at_rank 0 0)
           (λ i l.
-            let w = All-get_or (λ (r : Ranked). r.at < n) order i (at_rank 0 0) l was.within in
-            let k = All-get_or (λ (r : Ranked). (r.rank ≡ old r.at) × (r.rank < rank)) order i (at_rank 0 0) l was.ranked in
-            f (get_or order i (at_rank 0 0)) w k.0 k.1)
+          let w = All-get_or (λ (r : Ranked). r.at < n) order i (at_rank 0 0) l was.within in
+          let k = All-get_or (λ (r : Ranked). (r.rank ≡ old r.at) × (r.rank < rank)) order i (at_rank 0 0) l was.ranked in
+          f (get_or order i (at_rank 0 0)) w k.0 k.1)
 
       ordered' : AllPairs (ComesBefore models) (order ++ map (at_rank rank) ready)
       ordered' =
@@ -225,10 +232,10 @@ module _ (models : List Reader) (links : List (List ℕ)) (inside : AreWithin li
       all' at l r =
           ap (λ ns. has ns at) all_places ∙ has_append (map place order) ready at
           ∙ elim (now at l) [
-              ranked_now a b e ↦ or_right (has (map place order) at) (has ready at) (has_filter (is_ready links ranks rank) rest at ∙ and_from _ _ a b)
+            | ranked_now a b e ↦ or_right (has (map place order) at) (has ready at) (has_filter (is_ready links ranks rank) rest at ∙ and_from _ _ a b)
             | not_ready a b e ↦ absurd (let u = was.unranked at b in omega (arith, u.1, e))
             | not_left b e ↦ or_left (has (map place order) at) (has ready at) (was.all at l (omega (arith, e)))
-            ]
+          ]
 
       peeled_room : 0 < length ready → IsPeeled models links (ranks_with ranks ready rank) (order ++ map (at_rank rank) ready) later (rank + 1)
       peeled_room some = record {
@@ -268,19 +275,19 @@ module _ (models : List Reader) (links : List (List ℕ)) (inside : AreWithin li
   pub peeled_none : (places : List ℕ) → ((at : ℕ) → at < n → has places at ≡ true) → ((at : ℕ) → has places at ≡ true → at < n) → AllPairs (IsBelow models) places → length places ≤ n
       → IsPeeled models links (replicate n n) [] places 0
   peeled_none places all within names few = record {
-      as_many = length-replicate n n;
-      bounded = λ at l h. get_or-replicate n at n 0 l;
-      left = λ at l h. all at l;
-      unranked = λ at h. (within at h, get_or-replicate n at n 0 (within at h));
-      above = λ at p l r h. absurd (let e = get_or-replicate n at n 0 l in omega arith);
-      reached = λ at l. inl (omega arith);
-      ordered = λ i j d l m. absurd (omega arith);
-      within = All-nil (λ (r : Ranked). r.at < n);
-      ranked = All-nil (λ (r : Ranked). (r.rank ≡ slice_index (replicate n n) r.at) × (r.rank < 0));
-      all = λ at l r. absurd (let e = get_or-replicate n at n 0 l in omega arith);
-      by_name = names;
-      few = omega arith;
-    }
+    as_many = length-replicate n n;
+    bounded = λ at l h. get_or-replicate n at n 0 l;
+    left = λ at l h. all at l;
+    unranked = λ at h. (within at h, get_or-replicate n at n 0 (within at h));
+    above = λ at p l r h. absurd (let e = get_or-replicate n at n 0 l in omega arith);
+    reached = λ at l. inl (omega arith);
+    ordered = λ i j d l m. absurd (omega arith);
+    within = All-nil (λ (r : Ranked). r.at < n);
+    ranked = All-nil (λ (r : Ranked). (r.rank ≡ slice_index (replicate n n) r.at) × (r.rank < 0));
+    all = λ at l r. absurd (let e = get_or-replicate n at n 0 l in omega arith);
+    by_name = names;
+    few = omega arith;
+  }
 
 pub inside_links : (models : List Reader) (links : List (List ℕ)) → AreLinks models links → AreWithin links
 inside_links models links l at other h =
@@ -297,12 +304,12 @@ module _ (models : List Reader) (links : List (List ℕ)) (l : AreLinks models l
   starts places p names none =
       rw (none.ranks, none.order, none.rest, ← l.as_many)
       (peeled_none models links (inside_links models links l) places
-        (λ at h. names.all at (let m = l.as_many in omega arith))
-        (λ at h. let k = place_of places at h in
-          let w = All-get_or (λ a. a < length models) places k.0 0 k.1 names.within in
-          let m = l.as_many in let e : slice_index places k.0 ≡ at = k.2 in omega arith)
-        names.ascending
-        (let m = l.as_many in let f = names.few in omega arith))
+      (λ at h. names.all at (let m = l.as_many in omega arith))
+      (λ at h. let k = place_of places at h in
+      let w = All-get_or (λ a. a < length models) places k.0 0 k.1 names.within in
+      let m = l.as_many in let e : slice_index places k.0 ≡ at = k.2 in omega arith)
+      names.ascending
+      (let m = l.as_many in let f = names.few in omega arith))
 
   told : (b c : Bool) (p q : Peeled) (rank : ℕ) → b ≡ c → IsRound links rank b p q → IsRound links rank c p q
   told b c p q rank e r = subst (λ (x : Bool). IsRound links rank x p q) e r

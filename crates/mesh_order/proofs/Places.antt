@@ -1,33 +1,28 @@
 -- Where models stand by their names, and the places of those that each one reads.
-use Rattle.std.proofs.Common.{◌≡◌, ℕ, zero, suc, ◌+◌, ◌<◌, ◌≤◌, Bool, true, false, cond, ◌&&◌, ◌||◌, eqb, List, [], ◌∷◌, ◌++◌, length, get_or, map, take, Some, None, refl, ap, sym, ◌∙◌, subst, inl, inr, ◌⊎◌, arith}
-use Rattle.std.specs.Prelude.{nat_lt, slice_index, slice_index_or, slice_get, All, AllPairs}
+use Rattle.std.proofs.Common.{◌≡◌, ℕ, zero, suc, ◌+◌, ◌<◌, Bool, true, false, cond, ◌&&◌, ◌||◌, eqb, List, [], ◌∷◌, ◌++◌, length, get_or, map, take, Some, None, refl, ap, sym, ◌∙◌, subst, inl, inr, arith}
+use Rattle.std.specs.Prelude.{nat_lt, slice_index, slice_index_or, slice_get}
 use Rattle.std.specs.List.{cons_option, filter_map}
 use Rattle.std.specs.Option.{option_to_list}
 use Rattle.std.specs.Map.{keys_of, values_of}
 use Rattle.std.specs.BTreeMap.{BTreeMap, IsOrdered, Updates, get, values}
 use Rattle.std.specs.Ordering.{is_eq}
 use Rattle.std.specs.Cmp.{Equal-is}
-use Rattle.std.specs.declared.cmp.Ordering.{Ordering}
-use Rattle.std.specs.declared.cmp.Ordering.TheVariants.{Less, Equal}
+use Rattle.std.specs.declared.cmp.Ordering.TheVariants.{Less}
 use Rattle.std.specs.declared.option.Option.{Option}
 use Rattle.std.proofs.lemmas.Bool.{eqb-true, eq-eqb, lt-ltb, ltb-true, cases_lt}
-use Rattle.std.proofs.lemmas.Bool.Decides.{nat_tests}
 use Rattle.std.proofs.lemmas.Cmp.{tied_itself}
-use Rattle.std.proofs.lemmas.Grind.{common_steps}
 use Rattle.std.proofs.lemmas.List.{get_or_default, length-map, take_more}
 use Rattle.std.proofs.lemmas.List.Elements.{All-from_get_or, filter_map-append}
-use Rattle.std.proofs.lemmas.List.Folds.{list_any_at}
 use Rattle.std.proofs.lemmas.Map.Entries.{btree_map_get_place, length-values_of, length-keys_of, place_from_lookup}
 use Rattle.std.proofs.lemmas.Map.Keys.{IsDistinct-from_apart, Less-from_sorted}
 use Rattle.std.proofs.lemmas.Map.Steps.{length-le_from_distinct_below}
-use Rattle.std.proofs.lemmas.Option.{get_or_from_slice_get}
 use Rattle.mesh_values.specs.declared.values.Name.{Name}
 use Rattle.mesh_values.specs.Names.{name_cmp}
 use Rattle.mesh_values.specs.NameOrder.{names_exact, names_total}
 use Rattle.mesh_order.specs.declared.readers.Reader.{Reader}
 use Rattle.mesh_order.specs.Order.{AreApart, is_named, name_at, reader_at, reads}
-use Rattle.mesh_order.specs.Links.{AreByName, AreLinks, ArePlaces, IsBelow, IsPlaceOf, has, leads}
-use Rattle.mesh_order.proofs.Numbers.{has_at, place_of}
+use Rattle.mesh_order.specs.Links.{AreByName, AreLinks, ArePlaces, IsBelow, IsPlaceOf, has}
+use Rattle.mesh_order.proofs.Numbers.{place_of}
 
 pub same_name : (a b : Name) → is_eq (name_cmp a b) ≡ true → a ≡ b
 same_name a b e = names_exact a b ((Equal-is (name_cmp a b)).0 e)
@@ -41,12 +36,12 @@ module _ (models : List Reader) (count : ℕ) where
   place_more key name o true same e h = (omega arith, sym same ∙ same_name key name e)
   place_more key name (Some at) false same e h = (omega (arith, h.0), h.1)
   place_more key name None false same e h = λ at l is. elim (cases_lt at count) [
-      inl below ↦ h at below is
+    | inl below ↦ h at below is
     | inr over ↦
         let last : at ≡ count = omega arith in
         let names : key ≡ name = same ∙ ap (name_at models) (sym last) ∙ is in
         absurd (let t = ap (λ (k : Name). is_eq (name_cmp k name)) names ∙ equal_itself name in cc)
-    ]
+  ]
 
   pub one_more_place : (key : Name) (old new : BTreeMap Name ℕ) → key ≡ name_at models count → Updates name_cmp old new key (Some count)
       → ((name : Name) → IsPlaceOf models count name (get name_cmp old name)) → (name : Name) → IsPlaceOf models (count + 1) name (get name_cmp new name)
@@ -96,12 +91,12 @@ module _ (models : List Reader) (apart : AreApart models) (places : BTreeMap Nam
       by None h more =
           more
           ∙ missing (nat_lt other (length models)) (is_eq (name_cmp name (name_at models other))) (is_named names (name_at models other))
-            (λ x b. h other (ltb-true _ _ x) (sym (same_name name (name_at models other) b)))
+          (λ x b. h other (ltb-true _ _ x) (sym (same_name name (name_at models other) b)))
       by (Some at) h more =
           present (eqb other at) (has (filter_map (get name_cmp places) names) other) (nat_lt other (length models)) (is_eq (name_cmp name (name_at models other))) (is_named names (name_at models other))
           more
           (λ e. let same : other ≡ at = eqb-true other at e in
-            (lt-ltb other (length models) (let l = h.0 in omega arith), ap (λ m. is_eq (name_cmp name (name_at models m))) same ∙ ap (λ m. is_eq (name_cmp name m)) h.1 ∙ equal_itself name))
+          (lt-ltb other (length models) (let l = h.0 in omega arith), ap (λ m. is_eq (name_cmp name (name_at models m))) same ∙ ap (λ m. is_eq (name_cmp name m)) h.1 ∙ equal_itself name))
           (λ x b. eq-eqb other at (apart other at (ltb-true _ _ x) h.0 (sym (same_name name (name_at models other) b) ∙ sym h.1)))
 
   pub are_links : (links : List (List ℕ)) → links ≡ map (λ (r : Reader). filter_map (get name_cmp places) r.reads) models → AreLinks models links
@@ -191,11 +186,11 @@ module _ (models : List Reader) (apart : AreApart models) (places : BTreeMap Nam
       within = All-from_get_or (λ at. at < length models) (values places) 0 (λ i l. (entry_is i (let c = count_is in omega arith)).0);
       all = all_there;
       ascending = λ i j d l m.
-        let u = get_or_default (values places) i d 0 (omega arith) in
-        let v = get_or_default (values places) j d 0 m in
-        rw (u, v) (below_at i j l m);
+          let u = get_or_default (values places) i d 0 (omega arith) in
+          let v = get_or_default (values places) j d 0 m in
+          rw (u, v) (below_at i j l m);
       few = length-le_from_distinct_below (values places) (length models) (IsDistinct-from_apart eqb (values places) apart_at)
-        (λ q h. let p = place_of (values places) q h in
+          (λ q h. let p = place_of (values places) q h in
           let w = (entry_is p.0 (let c = count_is in let l = p.1 in omega arith)).0 in
           let e : slice_index (values places) p.0 ≡ q = p.2 in
           omega arith);

@@ -1,5 +1,5 @@
 -- Walks from model to model: what is seen, who reaches itself, and that some do where each leads on.
-use Rattle.std.proofs.Common.{◌≡◌, ℕ, zero, suc, ◌+◌, ◌<◌, ◌≤◌, Bool, true, false, cond, ◌||◌, eqb, List, [], ◌∷◌, ◌++◌, length, get_or, append_assoc, refl, ap, sym, ◌∙◌, subst, inl, inr, ◌⊎◌, ◌↔◌, IsTrue, arith}
+use Rattle.std.proofs.Common.{◌≡◌, ℕ, zero, suc, ◌+◌, ◌<◌, ◌≤◌, Bool, true, false, ◌||◌, eqb, List, [], ◌∷◌, ◌++◌, length, append_assoc, refl, ap, sym, ◌∙◌, subst, inl, inr, ◌⊎◌, ◌↔◌, IsTrue, arith}
 use Rattle.std.specs.Prelude.{slice_index, slice_index_or, slice_set, replicate, All}
 use Rattle.std.specs.List.{AllByRecursion, IsDistinct}
 use Rattle.std.proofs.lemmas.Bool.{eqb-true, eq-eqb, or_cases, or_left, or_right, or_parts, cases_lt, cases_Bool}
@@ -38,9 +38,9 @@ module _ (marks : List Bool) (seen : List ℕ) (at : ℕ) (was : AreMarks marks 
   marks_more new = record {
     same = λ q m. by q (eqb q at) refl (omega (arith, length-set marks at true));
     within = λ q h. elim (or_cases (has seen q) (has (at ∷ []) q) (sym (has_append seen (at ∷ []) q) ∙ h)) [
-        inl e ↦ (let w = was.within q e in omega (arith, length-set marks at true))
+      | inl e ↦ (let w = was.within q e in omega (arith, length-set marks at true))
       | inr e ↦ (let same = only_one q e in omega (arith, length-set marks at true))
-      ];
+    ];
     distinct = IsDistinct-push nat_eq_equiv seen at was.distinct (sym (was.same at l) ∙ new);
   }
     where
@@ -95,13 +95,13 @@ pub grown_more : (first mid last xs : List ℕ) (at : ℕ) → IsGrown first mid
 grown_more first mid last xs at f g = record {
   longer = (f.longer.0 ++ g.longer.0, g.longer.1 ∙ ap (λ l. l ++ g.longer.0) f.longer.1 ∙ joined first f.longer.0 g.longer.0);
   only = λ q h. elim (g.only q h) [
-      inl m ↦ elim (f.only q m) [ inl b ↦ inl b | inr x ↦ inr (has_append xs (at ∷ []) q ∙ or_left (has xs q) (has (at ∷ []) q) x) ]
+    | inl m ↦ elim (f.only q m) [ inl b ↦ inl b | inr x ↦ inr (has_append xs (at ∷ []) q ∙ or_left (has xs q) (has (at ∷ []) q) x) ]
     | inr x ↦ inr (has_append xs (at ∷ []) q ∙ or_right (has xs q) (has (at ∷ []) q) x)
-    ];
+  ];
   all = λ q h. elim (or_cases (has xs q) (has (at ∷ []) q) (sym (has_append xs (at ∷ []) q) ∙ h)) [
-      inl x ↦ has_longer mid last (at ∷ []) q g (f.all q x)
+    | inl x ↦ has_longer mid last (at ∷ []) q g (f.all q x)
     | inr x ↦ g.all q x
-    ];
+  ];
 }
 
 module _ (links : List (List ℕ)) where
@@ -126,9 +126,9 @@ module _ (links : List (List ℕ)) where
 
       on : (k q : ℕ) → k < next + 1 → leads links (slice_index seen k) q ≡ true → has after q ≡ true
       on k q m e = elim (cases_lt k next) [
-          inl below ↦ has_longer seen after _ q g (was.closed k q below (omega arith) e)
+        | inl below ↦ has_longer seen after _ q g (was.closed k q below (omega arith) e)
         | inr over ↦ g.all q (subst (λ (x : ℕ). leads links (slice_index seen x) q ≡ true) (let s : k ≡ next = omega arith in s) e)
-        ]
+      ]
 
   pub seen_one : (start : ℕ) → AreSeen links start (start ∷ []) 0
   seen_one start = record {
@@ -195,9 +195,9 @@ module _ (links : List (List ℕ)) where
             → ((p : ℕ) → has rest p ≡ true → ((y : ℕ) → has (x ∷ xs) y ≡ true → Goes p y) → ((y : ℕ) → has (x ∷ xs) y ≡ true → has rest y ≡ true) → IsDistinct eqb (p ∷ x ∷ xs) → n ≤ fuel + length (x ∷ xs) → (z : ℕ) × (has rest z ≡ true) × Goes z z)
             → (z : ℕ) × (has rest z ≡ true) × Goes z z
         step (p, e, more) go = elim (cases_Bool (has (x ∷ xs) p)) [
-            inl seen ↦ (p, more, onto p e p (or_cases (eqb p x) (has xs p) seen))
+          | inl seen ↦ (p, more, onto p e p (or_cases (eqb p x) (has xs p) seen))
           | inr new ↦ go p more (λ y h. onto p e y (or_cases (eqb y x) (has xs y) h)) (λ y h. inside y (or_cases (eqb y x) (has xs y) h)) (IsDistinct-cons eqb p (x ∷ xs) (apart_all p (x ∷ xs) new) distinct) (omega arith)
-          ]
+        ]
 
     pub some_reach : (x : ℕ) → has rest x ≡ true → (z : ℕ) × (has rest z ≡ true) × Goes z z
     some_reach x here = walk n x [] here (λ y h. absurd cc) (λ y h. absurd cc) (IsDistinct-cons eqb x [] tt nothing_twice) (omega arith)

@@ -8,18 +8,18 @@ ghost use Rattle.mesh_order.specs.Order.{AreApart};
 ghost use Rattle.mesh_order.specs.Links.{AreByName, AreLinks, ArePlaces};
 
 use crate::readers::Reader;
-use mesh_list::{Duplicate, Memory, Seq};
+use mesh_list::{Duplicate, Memory, Seq, together};
 use mesh_values::Name;
 use std::alloc::Global;
 use std::collections::BTreeMap;
 
-pub(crate) type Places = BTreeMap<Name, u32>;
+type Places = BTreeMap<Name, u32>;
 
 /// For each model the places of those that it reads.
 pub(crate) type Links = Seq<Seq<u32>>;
 
-/// Where each model stands, by its name.
-pub(crate) fn places_of(alloc: Global, models: &[Reader]) -> Result<Places, Memory>
+// Where each model stands, by its name.
+fn places_of(alloc: Global, models: &[Reader]) -> Result<Places, Memory>
     requires { length models.now ≤ 4096 }
     ensures { IfOk result (λ places. ArePlaces models.now places) }
 {
@@ -31,8 +31,8 @@ pub(crate) fn places_of(alloc: Global, models: &[Reader]) -> Result<Places, Memo
     Ok(places)
 }
 
-/// All places, by the names there.
-pub(crate) fn by_name(alloc: Global, models: &[Reader], places: &Places) -> Result<Seq<u32>, Memory>
+// All places, by the names there.
+fn by_name(alloc: Global, models: &[Reader], places: &Places) -> Result<Seq<u32>, Memory>
     requires apart { AreApart models.now }
     requires places { ArePlaces models.now places.now }
     ensures { IfOk result (λ made. AreByName models.now made) }
@@ -72,8 +72,8 @@ fn links_of_one(alloc: Global, places: &Places, names: &[Name]) -> Result<Seq<u3
     Ok(made)
 }
 
-/// For each model the places of those that it reads.
-pub(crate) fn links_of(alloc: Global, places: &Places, models: &[Reader]) -> Result<Links, Memory>
+// For each model the places of those that it reads.
+fn links_of(alloc: Global, places: &Places, models: &[Reader]) -> Result<Links, Memory>
     requires apart { AreApart models.now }
     requires places { ArePlaces models.now places.now }
     ensures { IfOk result (λ made. AreLinks models.now made) }
@@ -83,6 +83,20 @@ pub(crate) fn links_of(alloc: Global, places: &Places, models: &[Reader]) -> Res
         made.push(links_of_one(alloc, places, model.reads.as_slice())?)?;
     }
     Ok(made)
+}
+
+/// The places of those that each model reads, and all places by the names there.
+pub(crate) fn linked(alloc: Global, models: &[Reader]) -> Result<(Links, Seq<u32>), Memory>
+    requires apart { AreApart models.now }
+    requires few { length models.now ≤ 4096 }
+    ensures links { IfOk result (λ made. AreLinks models.now made.0) }
+    ensures by_name { IfOk result (λ made. AreByName models.now made.1) }
+{
+    let places = places_of(alloc, models)?;
+    together(
+        links_of(alloc, &places, models),
+        by_name(alloc, models, &places),
+    )
 }
 
 /// The places that one leads to.

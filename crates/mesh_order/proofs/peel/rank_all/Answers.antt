@@ -1,4 +1,4 @@
-use Rattle.std.proofs.Common.{take, ◌++◌, ◌∷◌, [], ◌+◌, ap, ◌∙◌, sym, set}
+use Rattle.std.proofs.Common.{take, ap, ◌∙◌, sym, set}
 use Rattle.std.proofs.lemmas.List.{take_more}
 use Rattle.std.specs.Prelude.{slice_index}
 use Rattle.mesh_order.specs.Peeled.{ranks_with}

@@ -1,6 +1,5 @@
 use Rattle.std.proofs.Common.{◌≡◌, false, take}
 use Rattle.mesh_order.specs.Links.{has}
-use Rattle.mesh_order.proofs.Walking
 use Rattle.mesh_order.proofs.seen.leads_to.Given as goal
 
 abbrev pub invariant-loop-at : goal.invariant-loop-at

@@ -1,4 +1,4 @@
-use Rattle.std.proofs.Common.{false, sym, ◌∙◌, arith}
+use Rattle.std.proofs.Common.{false, arith}
 use Rattle.std.proofs.lemmas.List.{get_or-replicate, length-replicate}
 use Rattle.mesh_order.proofs.Walking.{marks_more, marks_none}
 use Rattle.mesh_order.proofs.seen.seen_first.Goals as goal

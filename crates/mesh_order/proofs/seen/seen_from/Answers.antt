@@ -24,5 +24,5 @@ loop-next-preserved c =
       marks = c.in_ok-mark_all.ensures.marks;
       as_many = c.in_ok-mark_all.ensures.as_many ∙ c.loop-next.invariant.as_many;
       seen = seen_more links c.args.at list _ next c.loop-next.invariant.seen within
-        (rw (ap (λ x. slice_index_or links x []) (get_or_default list next 0 c.index-place.result.now within ∙ sym c.index-place.ensures) ∙ sym c.links_at.ensures) c.in_ok-mark_all.ensures.grown);
+          (rw (ap (λ x. slice_index_or links x []) (get_or_default list next 0 c.index-place.result.now within ∙ sym c.index-place.ensures) ∙ sym c.links_at.ensures) c.in_ok-mark_all.ensures.grown);
     }
