@@ -97,7 +97,7 @@ above_le f (q ∷ ps) r h =
     let more = above_le f ps r (λ p e. h p (or_right (eqb p q) (has ps p) e)) in
     omega arith
 
-above_ge : (f : ℕ → ℕ) (ps : List ℕ) (p : ℕ) → has ps p ≡ true → suc (f p) ≤ above (map f ps)
+pub above_ge : (f : ℕ → ℕ) (ps : List ℕ) (p : ℕ) → has ps p ≡ true → suc (f p) ≤ above (map f ps)
 above_ge f [] p h = absurd cc
 above_ge f (q ∷ ps) p h = elim (or_cases (eqb p q) (has ps p) h) [
   | inl e ↦ (let same : f p ≡ f q = ap f (eqb-true p q e) in omega arith)

@@ -6,5 +6,7 @@ pub mod Places
 pub mod Walking
 -- Answering: from ranks and what is left to an order or a cycle.
 pub mod Answering
+-- Uniqueness: one order, one list of names on cycles, and never both.
+pub mod Uniqueness
 -- Peeling: one rank more, and where it ends.
 pub mod Peeling
