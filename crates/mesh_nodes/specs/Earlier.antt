@@ -1,0 +1,33 @@
+-- The models that stand before another one, and which of them its query names.
+use Rattle.std.specs.Prelude.{ℕ, List, [], fold}
+use Rattle.std.specs.declared.option.Option.{Option}
+use Rattle.std.specs.declared.option.Option.TheVariants.{None, Some}
+use Rattle.mesh_list.specs.Keyed.{first_at, placed}
+use Rattle.mesh_values.specs.Names.{name_cmp}
+use Rattle.mesh_values.specs.declared.values.Name.{Name}
+use Rattle.mesh_base.specs.declared.snapshots.Node.{Node}
+use Rattle.mesh_nodes.specs.declared.earlier.Place.{Place}
+
+-- models are found by their names
+abbrev pub node_name : Node → Name
+node_name n = n.own.name
+
+-- the place of the first model of that name
+abbrev pub place_of : List Node → Name → Option ℕ
+place_of nodes name = first_at name_cmp node_name name nodes
+
+-- parents are found by their names
+abbrev pub place_name : Place → Name
+place_name p = p.name
+
+abbrev pub put_at : Name → Option ℕ → List Place → List Place
+put_at name None made = made
+put_at name (Some at) made = placed name_cmp place_name (record { name = name; at = at }) made
+
+-- a name is noted where a model has it
+abbrev pub noted : List Node → List Place → Name → List Place
+noted nodes made name = put_at name (place_of nodes name) made
+
+-- the models among these names, each once, ascending by name
+abbrev pub named : List Node → List Name → List Place
+named nodes names = fold (noted nodes) [] names
