@@ -2,9 +2,9 @@
 use Rattle.std.proofs.Common.{◌≡◌, true, List, Some, sym, ◌∙◌, subst}
 use Rattle.std.specs.Option.{ForSome}
 use Rattle.mesh_list.specs.Keyed.{ascends}
-use Rattle.mesh_project.specs.declared.models.Model.{Model}
+use Rattle.mesh_picked.specs.declared.models.Model.{Model}
 use Rattle.mesh_values.specs.Names.{name_cmp}
-use Rattle.mesh_project.specs.Value.{model_name}
+use Rattle.mesh_picked.specs.Value.{model_name}
 use Rattle.mesh_house.specs.House.{Told}
 use Rattle.mesh_house.specs.Step.{run}
 use Rattle.mesh_house.specs.Runs.{Ran}

@@ -11,13 +11,13 @@ use Rattle.mesh_list.proofs.Ascends.{and_right}
 use Rattle.mesh_list.proofs.Each.{each_found, found-behind}
 use Rattle.mesh_values.specs.declared.values.Cell.{Cell}
 use Rattle.mesh_values.specs.declared.values.Name.{Name}
-use Rattle.mesh_project.specs.declared.models.Picking.{Picking}
-use Rattle.mesh_project.specs.declared.models.Picking.TheVariants.{Seed, Pick}
-use Rattle.mesh_project.specs.declared.models.Model.{Model}
+use Rattle.mesh_picked.specs.declared.models.Picking.{Picking}
+use Rattle.mesh_picked.specs.declared.models.Picking.TheVariants.{Seed, Pick}
+use Rattle.mesh_picked.specs.declared.models.Model.{Model}
 use Rattle.mesh_values.specs.Bag.{IsSameBag}
 use Rattle.mesh_values.specs.Names.{name_cmp}
 use Rattle.mesh_values.specs.NameOrder.{names_total}
-use Rattle.mesh_project.specs.Value.{model_name, model_of, columns_of, value, rank}
+use Rattle.mesh_picked.specs.Value.{model_name, model_of, columns_of, value, rank}
 use Rattle.mesh_house.specs.declared.objects.Body.{Body}
 use Rattle.mesh_house.specs.declared.objects.Body.TheVariants.{Rows}
 use Rattle.mesh_house.specs.declared.world.World.{World}

@@ -2,9 +2,9 @@
 use Rattle.std.specs.Prelude.{ℕ, ◌==◌, List, [], ◌∷◌, ◌++◌, codes, IsSomeAnd, if◌then◌else◌}
 use Rattle.std.specs.List.{All, flat_map}
 use Rattle.mesh_values.specs.declared.values.Name.{Name}
-use Rattle.mesh_project.specs.declared.models.Model.{Model}
+use Rattle.mesh_picked.specs.declared.models.Model.{Model}
 use Rattle.mesh_values.specs.Bag.{IsSameBag}
-use Rattle.mesh_project.specs.Value.{columns_of, value, rank}
+use Rattle.mesh_picked.specs.Value.{columns_of, value, rank}
 use Rattle.mesh_house.specs.declared.world.World.{World}
 use Rattle.mesh_house.specs.declared.world.Change.{Change}
 use Rattle.mesh_house.specs.declared.world.Change.TheVariants.{MakeTable, ReplaceRows, PointView}

@@ -2,7 +2,7 @@
 use Rattle.std.specs.Prelude.{◌≡◌, ℕ, Bool, false, List, [], ◌∷◌, ◌++◌, codes, take}
 use Rattle.std.specs.declared.option.Option.{Option}
 use Rattle.std.specs.Option.{ForSome, option_map}
-use Rattle.mesh_project.specs.declared.models.Model.{Model}
+use Rattle.mesh_picked.specs.declared.models.Model.{Model}
 use Rattle.mesh_values.specs.Picked.{same_text}
 use Rattle.mesh_io.specs.declared.files.File.{File}
 use Rattle.mesh_io.specs.Told.{SinkTold}
@@ -11,7 +11,7 @@ use Rattle.mesh_list.specs.Counts.{Rose}
 use Rattle.mesh_tokens.specs.declared.faults.FaultKind.{FaultKind}
 use Rattle.mesh_house.specs.House.{Told}
 use Rattle.mesh_house.specs.Runs.{Ran, Stopped}
-use Rattle.mesh_project.specs.Project.{Means, IsFirstFault}
+use Rattle.mesh_picked.specs.Project.{Means, IsFirstFault}
 use Rattle.mesh_cli.specs.Apply.{changes, Final}
 
 -- the one word `apply`

@@ -1,14 +1,14 @@
 // Makes the tables by rank, and then points the views.
 ghost use Rattle.std.specs.Prelude.{◌≡◌, [], ◌∷◌, ◌++◌, IfOk};
 ghost use Rattle.mesh_house.specs.declared.world.Change.TheVariants.{PointView};
-ghost use Rattle.mesh_project.specs.Value.{rank};
+ghost use Rattle.mesh_picked.specs.Value.{rank};
 ghost use Rattle.mesh_house.specs.Runs.{Makes};
 ghost use Rattle.mesh_cli.specs.Apply.{table_of, fills, fills_at, executes, pointed, points, changes};
 
 use crate::pick::{columns_of, value};
 use mesh_house::{Change, Warehouse, WhFail, make, make_all};
 use mesh_list::{Duplicate, Memory, Seq, Sorted};
-use mesh_project::{Model, Picking};
+use mesh_picked::{Model, Picking};
 use mesh_values::{Name, Str};
 use std::alloc::Global;
 

@@ -3,7 +3,7 @@ ghost use Rattle.std.specs.Prelude.{◌≡◌, ◌↔◌, ◌⊎◌, ◌≤◌, 
 ghost use Rattle.mesh_list.specs.Counts.{Rose};
 ghost use Rattle.mesh_list.specs.Keyed.{ascends};
 ghost use Rattle.mesh_values.specs.Names.{name_cmp};
-ghost use Rattle.mesh_project.specs.Value.{model_name};
+ghost use Rattle.mesh_picked.specs.Value.{model_name};
 ghost use Rattle.mesh_house.specs.Runs.{Ran, Stopped};
 ghost use Rattle.mesh_fault_text.specs.Lines.{fault_line};
 ghost use Rattle.mesh_cli.specs.Apply.{changes};
@@ -11,10 +11,11 @@ ghost use Rattle.mesh_cli.specs.Mesh.{is_apply, Applied, Halted, Printed, IsRefu
 
 use crate::apply::apply;
 use mesh_fault_text::fault_line;
+use mesh_files::LoadFault;
 use mesh_house::{Warehouse, WhFail};
 use mesh_io::{Clock, Folder, IoFail, Sink, Source};
 use mesh_list::Sorted;
-use mesh_project::{LoadFault, Model, load};
+use mesh_picked::{Model, load};
 use mesh_tokens::FaultKind;
 use mesh_values::Str;
 use std::alloc::Global;

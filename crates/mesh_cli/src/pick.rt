@@ -1,11 +1,11 @@
 // The rows and columns of a model: those of its file, or the columns that it picks of a seed's rows.
 ghost use Rattle.std.specs.Prelude.{◌≡◌, [], IfOk};
 ghost use Rattle.mesh_values.specs.Picked.{same_text, cell_of, kind_of, picked_row, picked_rows, picked_columns};
-ghost use Rattle.mesh_project.specs.Value.{model_of, parent_columns, parent_rows, columns_of, value};
+ghost use Rattle.mesh_picked.specs.Value.{model_of, parent_columns, parent_rows, columns_of, value};
 ghost use Rattle.mesh_cli.specs.Places.{place_of, places_of, cell_at, row_at};
 
 use mesh_list::{Duplicate, Memory, Seq, Sorted};
-use mesh_project::{Model, Picking};
+use mesh_picked::{Model, Picking};
 use mesh_values::{Cell, ColType, Column, Columns, Name, Row, Rows, Str, Strs};
 use std::alloc::Global;
 

@@ -1,0 +1,2 @@
+-- Loading: what a call that asks the folder answers.
+pub mod Loading
