@@ -1,7 +1,7 @@
 // The relations of two parts that the text of a query names.
 ghost use Rattle.std.specs.Prelude.{◌≡◌, ◌++◌, IfOk, OnOk};
 ghost use Rattle.std.specs.List.{flat_map};
-ghost use Rattle.mesh_nodes.specs.Reads.{cte_reads, from_reads, join_reads, join_rel, query_reads, rel_reads, select_reads, text_reads, union_reads};
+ghost use Rattle.mesh_project.specs.Reads.{cte_reads, from_reads, join_reads, join_rel, query_reads, rel_reads, select_reads, text_reads, union_reads};
 
 use mesh_list::{Memory, Seq, both};
 use mesh_surface::{

@@ -1,8 +1,11 @@
 // The models that stand before another one, found by their names.
-ghost use Rattle.std.specs.Prelude.{◌≡◌, [], ◌∷◌, ◌++◌, length, IfOk, OnOk};
+ghost use Rattle.std.specs.Prelude.{◌≡◌, List, [], ◌∷◌, ◌++◌, length, IfOk, OnOk, OnErr};
+ghost use Rattle.std.specs.BTreeMap.{get};
+ghost use Rattle.mesh_base.specs.declared.snapshots.Node.{Node};
+ghost use Rattle.mesh_values.specs.declared.values.Name.{Name};
 ghost use Rattle.mesh_values.specs.Names.{name_cmp};
 ghost use Rattle.mesh_values.specs.NameOrder.{names_total, names_exact};
-ghost use Rattle.mesh_nodes.specs.Earlier.{named, noted, place_of};
+ghost use Rattle.mesh_project.specs.Earlier.{named, new_place, noted, or_else, place_of};
 
 use mesh_base::{Node, Nodes};
 use mesh_list::{Duplicate, Keyed, Memory, Seq, Sorted};
@@ -54,7 +57,7 @@ impl Model for Earlier {
     ghost use Rattle.mesh_base.specs.declared.snapshots.Node.{Node};
     ghost use Rattle.mesh_values.specs.Names.{name_cmp};
     ghost use Rattle.mesh_values.specs.declared.values.Name.{Name};
-    ghost use Rattle.mesh_nodes.specs.Earlier.{place_of};
+    ghost use Rattle.mesh_project.specs.Earlier.{place_of};
 
     ghost Value = { List Node };
 
@@ -73,6 +76,26 @@ fn next_place(nodes: &Nodes) -> Result<u32, Memory>
         Ok(place) => Ok(place),
         Err(_) => Err(Memory),
     }
+}
+
+// A name has this place, unless it had one.
+fn add_place(places: &mut BTreeMap<Name, u32>, name: Name, place: u32) -> Result<(), Memory>
+    ensures ok { OnOk result ((other : Name) → get name_cmp places.new other ≡ or_else (get name_cmp places.old other) (new_place name place other)) }
+    ensures err { OnErr result ((other : Name) → get name_cmp places.new other ≡ get name_cmp places.old other) }
+{
+    if places.contains_key(&name) {
+        return Ok(());
+    }
+    let Ok(_) = places.insert(name, place) else {
+        return Err(Memory);
+    };
+    Ok(())
+}
+
+fn drop_last(nodes: &mut Nodes)
+    ensures { (front : List Node) (last : Node) → nodes.old ≡ front ++ last ∷ [] → nodes.new ≡ front }
+{
+    nodes.pop();
 }
 
 impl Earlier {
@@ -115,14 +138,11 @@ impl Earlier {
         let name = node.own.name.copy()?;
         let place = next_place(&self.nodes)?;
         self.nodes.push(node)?;
-        if self.places.contains_key(&name) {
-            return Ok(());
-        }
-        match self.places.insert(name, place) {
-            Ok(_) => Ok(()),
-            Err(_) => {
-                self.nodes.pop();
-                Err(Memory)
+        match add_place(&mut self.places, name, place) {
+            Ok(()) => Ok(()),
+            Err(memory) => {
+                drop_last(&mut self.nodes);
+                Err(memory)
             }
         }
     }
