@@ -1,0 +1,54 @@
+-- Models by rank, one rank after another, and those that are left.
+use Rattle.std.specs.Prelude.{◌≡◌, ◌<◌, ◌≤◌, ◌⊎◌, ◌+◌, ℕ, suc, min, Bool, true, nat_lt, List, [], ◌∷◌, length, map, slice_index, slice_index_or, slice_set, All, AllPairs}
+use Rattle.std.specs.List.{list_all}
+use Rattle.mesh_order.specs.declared.readers.Reader.{Reader}
+use Rattle.mesh_order.specs.declared.readers.Ranked.{Ranked}
+use Rattle.mesh_order.specs.Order.{place}
+use Rattle.mesh_order.specs.Links.{has, leads, IsBelow}
+
+-- all that a place leads to have ranks below this one
+abbrev pub is_ready : List (List ℕ) → List ℕ → ℕ → ℕ → Bool
+is_ready links ranks rank at = list_all (λ p. nat_lt (slice_index ranks p) rank) (slice_index_or links at [])
+
+-- a model at a rank
+abbrev pub at_rank : ℕ → ℕ → Ranked
+at_rank rank at = record { at = at; rank = rank }
+
+-- by rank, and at one rank by name
+abbrev pub ComesBefore : List Reader → Ranked → Ranked → Type 0
+ComesBefore models a b = (a.rank < b.rank) ⊎ ((a.rank ≡ b.rank) × IsBelow models a.at b.at)
+
+-- a place that leads to one whose rank is this or the one before, or any place for 0
+abbrev pub IsReached : List (List ℕ) → List ℕ → ℕ → ℕ → Type 0
+IsReached links ranks rank at = (rank ≡ 0) ⊎ ((p : ℕ) × (leads links at p ≡ true) × (rank ≤ suc (slice_index ranks p)))
+
+-- The models of all ranks below this one are found. Those without a rank have as many as there are models in its place.
+pub record IsPeeled (models : List Reader) (links : List (List ℕ)) (ranks : List ℕ) (order : List Ranked) (rest : List ℕ) (rank : ℕ) : Type 0 where
+  pub as_many : length ranks ≡ length links
+  pub bounded : (at : ℕ) → at < length links → rank ≤ slice_index ranks at → slice_index ranks at ≡ length links
+  pub left : (at : ℕ) → at < length links → slice_index ranks at ≡ length links → has rest at ≡ true
+  pub unranked : (at : ℕ) → has rest at ≡ true → (at < length links) × (slice_index ranks at ≡ length links)
+  pub above : (at p : ℕ) → at < length links → slice_index ranks at < length links → leads links at p ≡ true → slice_index ranks p < slice_index ranks at
+  pub reached : (at : ℕ) → at < length links → IsReached links ranks (min (slice_index ranks at) rank) at
+  pub ordered : AllPairs (ComesBefore models) order
+  pub within : All (λ (r : Ranked). r.at < length links) order
+  pub ranked : All (λ (r : Ranked). (r.rank ≡ slice_index ranks r.at) × (r.rank < rank)) order
+  pub all : (at : ℕ) → at < length links → slice_index ranks at < length links → has (map place order) at ≡ true
+  pub by_name : AllPairs (IsBelow models) rest
+  pub few : rank + length rest ≤ length links
+
+-- each of these places leads to one of them
+abbrev pub AreStuck : List (List ℕ) → List ℕ → Type 0
+AreStuck links rest = (at : ℕ) → has rest at ≡ true → (p : ℕ) × (leads links at p ≡ true) × (has rest p ≡ true)
+
+-- all models have their ranks but those that are left, each of which reads one that is left
+pub record IsDone (models : List Reader) (links : List (List ℕ)) (order : List Ranked) (rest : List ℕ) : Type 0 where
+  pub ranks : List ℕ
+  pub rank : ℕ
+  pub peeled : IsPeeled models links ranks order rest rank
+  pub stuck : AreStuck links rest
+
+-- the ranks where these models have this one
+abbrev pub ranks_with : List ℕ → List ℕ → ℕ → List ℕ
+ranks_with ranks [] rank = ranks
+ranks_with ranks (at ∷ ats) rank = ranks_with (slice_set ranks at rank) ats rank
