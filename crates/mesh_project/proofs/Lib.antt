@@ -1,1 +1,5 @@
 mod Places
+mod Among
+mod In
+mod Ranks
+mod Fits

@@ -29,6 +29,9 @@ new_place name place other = if is_eq (name_cmp name other) then Some place else
 abbrev pub place_name : Place → Name
 place_name p = p.name
 
+abbrev pub place_at : Place → ℕ
+place_at p = p.at
+
 abbrev pub put_at : Name → Option ℕ → List Place → List Place
 put_at name None made = made
 put_at name (Some at) made = placed name_cmp place_name (record { name = name; at = at }) made
