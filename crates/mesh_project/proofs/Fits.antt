@@ -4,7 +4,6 @@ use Rattle.std.proofs.Math.Dec.{eqb}
 use Rattle.std.proofs.lemmas.Bool.{eq-eqb, eqb-true}
 use Rattle.std.proofs.lemmas.Cmp.{nat_cmp_total, on_total, then_total, tied_itself}
 use Rattle.std.proofs.lemmas.List.{length-map}
-use Rattle.std.proofs.lemmas.List.Elements.{length_all_zip}
 use Rattle.std.proofs.lemmas.List.Folds.{list_all-append}
 use Rattle.std.proofs.lemmas.Map.Steps.{length-le_from_distinct_below}
 use Rattle.std.specs.Cmp.{IsTotalOrder}
@@ -27,7 +26,7 @@ use Rattle.mesh_order.specs.declared.readers.Reader.{Reader}
 use Rattle.mesh_order.specs.Order.{AreApart, IsOrder, itself, name_at, place, ranked_cmp}
 use Rattle.mesh_project.specs.declared.earlier.Place.{Place}
 use Rattle.mesh_project.specs.Earlier.{named, place_at}
-use Rattle.mesh_project.proofs.In.{In, all_below, fits_right, of_map}
+use Rattle.mesh_project.proofs.In.{In, all_below, fits_length, fits_right, of_map}
 use Rattle.mesh_project.proofs.Among.{IsAt, Stands, named_stand}
 use Rattle.mesh_project.proofs.Places.{name_is}
 use Rattle.mesh_project.proofs.Ranks.{Fits, parents_named, rank_is, ranked_total, ranks, within}
@@ -168,4 +167,4 @@ module _ (models : List Reader) (order : List Ranked) (apart : AreApart models) 
         r.2.1 ∙ rank_is models order apart is r.0 r.1 ∙ ap (ranks models order apart is) at ∙ sym (rank_is models order apart is s.0 s.1) ∙ sym s.2.1) nodes_ascend
 
     pub nodes_few : length nodes ≤ length models
-    nodes_few = let few = as_few in omega (arith, few, length_all_zip (Fits models) nodes order fit)
+    nodes_few = let few = as_few in omega (arith, few, fits_length (Fits models) nodes order fit)

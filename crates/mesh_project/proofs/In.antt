@@ -130,3 +130,15 @@ fits_left F [] (z ∷ ys) y fit is = absurd fit
 fits_left F (x ∷ xs) [] y fit is = absurd fit
 fits_left F (x ∷ xs) (z ∷ ys) y fit (inl e) = (x, inl refl, subst (λ w. F x w) e fit.0)
 fits_left F (x ∷ xs) (z ∷ ys) y fit (inr is) = let rest = fits_left F xs ys y fit.1 is in (rest.0, inr rest.1, rest.2)
+
+pub fits_length : {X Y : Type 0} (F : X → Y → Type 0) (xs : List X) (ys : List Y) → AllZip F xs ys → length xs ≡ length ys
+fits_length F [] [] fit = refl
+fits_length F [] (y ∷ ys) fit = absurd fit
+fits_length F (x ∷ xs) [] fit = absurd fit
+fits_length F (x ∷ xs) (y ∷ ys) fit = ap suc (fits_length F xs ys fit.1)
+
+pub fits_push : {X Y : Type 0} (F : X → Y → Type 0) (xs : List X) (ys : List Y) (x : X) (y : Y) → AllZip F xs ys → F x y → AllZip F (xs ++ x ∷ []) (ys ++ y ∷ [])
+fits_push F [] [] x y fit f = (f, tt)
+fits_push F [] (z ∷ ys) x y fit f = absurd fit
+fits_push F (z ∷ xs) [] x y fit f = absurd fit
+fits_push F (z ∷ xs) (w ∷ ys) x y fit f = (fit.0, fits_push F xs ys x y fit.1 f)

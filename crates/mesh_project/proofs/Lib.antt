@@ -3,3 +3,10 @@ mod Among
 mod In
 mod Ranks
 mod Fits
+mod NameSets
+mod Steps
+mod Alone
+mod Loops
+mod Agree
+mod Whole
+mod Meant

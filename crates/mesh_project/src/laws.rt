@@ -1,13 +1,28 @@
-// Laws.
-ghost use Rattle.std.specs.Prelude.{◌≡◌, List, true};
+// The laws of projects. These functions compute nothing.
+ghost use Rattle.std.specs.Prelude.{◌≡◌, ◌≤◌, List, length, map, Ok, true};
 ghost use Rattle.std.specs.List.{AllByRecursion};
-ghost use Rattle.mesh_list.specs.Keyed.{ascends};
-ghost use Rattle.mesh_values.specs.Names.{name_cmp};
-ghost use Rattle.mesh_values.specs.declared.values.Name.{Name};
+ghost use Rattle.mesh_base.specs.declared.definitions.Defn.TheVariants as body;
+ghost use Rattle.mesh_base.specs.declared.queries.Query.{Query};
 ghost use Rattle.mesh_base.specs.declared.snapshots.Node.{Node};
-ghost use Rattle.mesh_project.specs.Earlier.{named, place_name};
+ghost use Rattle.mesh_rules.specs.Proper.{defn_names, is_proper};
+ghost use Rattle.mesh_surface.specs.declared.queries.Surface.{Surface};
+ghost use Rattle.mesh_resolve.specs.declared.known.Known.{Known};
+ghost use Rattle.mesh_resolve.specs.Queries.{resolved};
+ghost use Rattle.mesh_order.specs.declared.readers.Ranked.{Ranked};
+ghost use Rattle.mesh_order.specs.Order.{AreApart, IsOrder};
+ghost use Rattle.mesh_files.specs.declared.project.ProjectFiles.{ProjectFiles};
+ghost use Rattle.mesh_project.specs.Nodes.{IsWhole, nodes_of};
+ghost use Rattle.mesh_project.specs.Project.{reader_of};
+ghost use Rattle.mesh_project.specs.Reads.{query_reads};
 
-#[tactic(auto, using(crate::proofs::Among::named_ascend, crate::proofs::Ranks::rank_fits, crate::proofs::Fits::names_differ))]
-pub fn named_ascend()
-    ensures { (nodes : List Node) (names : List Name) → ascends name_cmp place_name (named nodes names) ≡ true }
+/// A resolved query names the relations of two parts that its text names, as often and in the same order.
+#[tactic(auto, using(crate::proofs::Agree::names_agree))]
+pub fn resolved_names_are_those_of_the_text()
+    ensures { (known : Known) (surface : Surface) (query : Query) → resolved known surface ≡ Ok query → defn_names (body.Sql query) ≡ query_reads surface }
+{}
+
+/// The models of files whose names differ, by rank and name, each over those before it, are a proper project.
+#[tactic(auto, using(crate::proofs::Whole::proper))]
+pub fn models_in_order_are_a_project()
+    ensures { (files : ProjectFiles) (order : List Ranked) (nodes : List Node) → AllByRecursion IsWhole files.models → AreApart (map reader_of files.models) → IsOrder (map reader_of files.models) order → nodes_of files.sources files.models order ≡ Ok nodes → length files.models ≤ 4096 → is_proper nodes ≡ true }
 {}

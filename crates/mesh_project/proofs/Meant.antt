@@ -1,0 +1,43 @@
+-- What files mean, by how far it was looked at.
+use Rattle.std.proofs.Common.{◌≡◌, List, Result, Ok, Err, refl, sym, ap, subst, ◌∙◌, map}
+use Rattle.mesh_base.specs.declared.snapshots.Node.{Node}
+use Rattle.mesh_rules.specs.Proper.{ProjectNodes}
+use Rattle.mesh_order.specs.declared.readers.Ranked.{Ranked}
+use Rattle.mesh_order.specs.Order.{IsOrder}
+use Rattle.mesh_files.specs.Loading.{◌>>=◌, Gives, Refuses}
+use Rattle.mesh_files.specs.declared.faults.LoadFault.{LoadFault}
+use Rattle.mesh_files.specs.declared.faults.LoadFault.TheVariants.{Fault, Folder, Memory}
+use Rattle.mesh_files.specs.declared.project.ProjectFiles.{ProjectFiles}
+use Rattle.mesh_project.specs.Apart.{apart}
+use Rattle.mesh_project.specs.Nodes.{nodes_of}
+use Rattle.mesh_project.specs.Project.{IsMeant, TellsCycle, meaning, reader_of}
+use Rattle.mesh_project.proofs.Steps.{refused_on}
+
+pub refuses_itself : (X : Type 0) (fault : LoadFault) → Refuses {X = X} fault (Err fault)
+refuses_itself X (Fault file at kind) = refl
+refuses_itself X Folder = tt
+refuses_itself X Memory = tt
+
+module _ (files : ProjectFiles) where
+  -- the models behind their order
+  abbrev behind_order : Result (List Ranked) LoadFault → Result ProjectNodes LoadFault
+  behind_order order = order >>= λ ranked. nodes_of files.sources files.models ranked >>= λ nodes. Ok (record { nodes = nodes })
+
+  abbrev Behind : Result ProjectNodes LoadFault → Result (List Ranked) LoadFault → Result (Unit {0}) LoadFault → Type 0
+  Behind answer order r = Gives answer (r >>= λ alone. behind_order order)
+
+  pub not_apart : (fault : LoadFault) → Refuses fault (apart files.sources files.models) → IsMeant files (Err fault)
+  not_apart fault stop = (Err Memory, tt, refused_on fault (apart files.sources files.models) (λ alone. behind_order (Err Memory)) stop)
+
+  module _ (alone : apart files.sources files.models ≡ Ok tt) where
+    pub not_ordered : (fault : LoadFault) → TellsCycle (map reader_of files.models) fault → IsMeant files (Err fault)
+    not_ordered fault tells = (Err fault, tells, subst (Behind (Err fault) (Err fault)) (sym alone) (refuses_itself ProjectNodes fault))
+
+    module _ (order : List Ranked) (is : IsOrder (map reader_of files.models) order) where
+      pub not_resolved : (fault : LoadFault) → Refuses fault (nodes_of files.sources files.models order) → IsMeant files (Err fault)
+      not_resolved fault stop =
+          (Ok order, is, subst (Behind (Err fault) (Ok order)) (sym alone) (refused_on fault (nodes_of files.sources files.models order) (λ nodes. Ok (record { nodes = nodes })) stop))
+
+      pub all_resolved : (nodes : List Node) → nodes_of files.sources files.models order ≡ Ok nodes → IsMeant files (Ok (record { nodes = nodes }))
+      all_resolved nodes e =
+          (Ok order, is, subst (Behind (Ok (record { nodes = nodes })) (Ok order)) (sym alone) (ap (λ r. r >>= λ nodes. Ok (record { nodes = nodes })) e))
