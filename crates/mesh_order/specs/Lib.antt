@@ -6,3 +6,5 @@ pub mod Links
 pub mod Peeled
 -- Seen: the places that are reached from one.
 pub mod Seen
+-- Laws: what holds of orders, ranks and cycles, whatever the models are.
+pub mod Laws

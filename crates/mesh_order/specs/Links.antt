@@ -1,6 +1,7 @@
 -- Models as numbers, with the places of those that each one reads.
 use Rattle.std.specs.Prelude.{◌≡◌, ◌==◌, ◌<◌, ◌≤◌, ℕ, Bool, true, List, [], length, slice_index_or, All, AllPairs, None, Some}
 use Rattle.std.specs.List.{list_any}
+use Rattle.std.specs.BTreeMap.{BTreeMap, get}
 use Rattle.std.specs.declared.option.Option.{Option}
 use Rattle.std.specs.declared.cmp.Ordering.TheVariants.{Less}
 use Rattle.mesh_values.specs.declared.values.Name.{Name}
@@ -25,10 +26,14 @@ pub record AreLinks (models : List Reader) (links : List (List ℕ)) : Type 0 wh
 abbrev pub AreWithin : List (List ℕ) → Type 0
 AreWithin links = (at other : ℕ) → leads links at other ≡ true → other < length links
 
--- where the model of a name stands, or that there is none
-abbrev pub IsPlaceOf : List Reader → Name → Option ℕ → Type 0
-IsPlaceOf models name None = (at : ℕ) → at < length models → name_at models at ≡ name → ⊥
-IsPlaceOf models name (Some at) = (at < length models) × (name_at models at ≡ name)
+-- where the model of a name stands among the first so many, or that there is none
+abbrev pub IsPlaceOf : List Reader → ℕ → Name → Option ℕ → Type 0
+IsPlaceOf models count name None = (at : ℕ) → at < count → name_at models at ≡ name → ⊥
+IsPlaceOf models count name (Some at) = (at < count) × (name_at models at ≡ name)
+
+-- where the model of each name stands
+abbrev pub ArePlaces : List Reader → BTreeMap Name ℕ → Type 0
+ArePlaces models places = (name : Name) → IsPlaceOf models (length models) name (get name_cmp places name)
 
 -- the name at a place is below that at another
 abbrev pub IsBelow : List Reader → ℕ → ℕ → Type 0

@@ -1,8 +1,9 @@
 -- Models by rank, one rank after another, and those that are left.
-use Rattle.std.specs.Prelude.{◌≡◌, ◌<◌, ◌≤◌, ◌⊎◌, ◌+◌, ℕ, suc, min, Bool, true, nat_lt, List, [], ◌∷◌, length, map, slice_index, slice_index_or, slice_set, All, AllPairs}
+use Rattle.std.specs.Prelude.{◌≡◌, ◌<◌, ◌≤◌, ◌⊎◌, ◌+◌, ℕ, suc, min, Bool, true, false, nat_lt, List, [], ◌∷◌, ◌++◌, length, filter, map, not, replicate, slice_index, slice_index_or, slice_set, All, AllPairs}
 use Rattle.std.specs.List.{list_all}
 use Rattle.mesh_order.specs.declared.readers.Reader.{Reader}
 use Rattle.mesh_order.specs.declared.readers.Ranked.{Ranked}
+use Rattle.mesh_order.specs.declared.peel.Peeled.{Peeled}
 use Rattle.mesh_order.specs.Order.{place}
 use Rattle.mesh_order.specs.Links.{has, leads, IsBelow}
 
@@ -41,14 +42,44 @@ pub record IsPeeled (models : List Reader) (links : List (List ℕ)) (ranks : Li
 abbrev pub AreStuck : List (List ℕ) → List ℕ → Type 0
 AreStuck links rest = (at : ℕ) → has rest at ≡ true → (p : ℕ) × (leads links at p ≡ true) × (has rest p ≡ true)
 
--- all models have their ranks but those that are left, each of which reads one that is left
-pub record IsDone (models : List Reader) (links : List (List ℕ)) (order : List Ranked) (rest : List ℕ) : Type 0 where
-  pub ranks : List ℕ
-  pub rank : ℕ
-  pub peeled : IsPeeled models links ranks order rest rank
-  pub stuck : AreStuck links rest
-
 -- the ranks where these models have this one
 abbrev pub ranks_with : List ℕ → List ℕ → ℕ → List ℕ
 ranks_with ranks [] rank = ranks
 ranks_with ranks (at ∷ ats) rank = ranks_with (slice_set ranks at rank) ats rank
+
+-- those that are ready for a rank, and the others
+abbrev pub ready_of : List (List ℕ) → List ℕ → ℕ → List ℕ → List ℕ
+ready_of links ranks rank rest = filter (is_ready links ranks rank) rest
+
+abbrev pub later_of : List (List ℕ) → List ℕ → ℕ → List ℕ → List ℕ
+later_of links ranks rank rest = filter (λ at. not (is_ready links ranks rank at)) rest
+
+-- no model has a rank
+pub record IsUnpeeled (count : ℕ) (by_name : List ℕ) (made : Peeled) : Type 0 where
+  pub ranks : made.ranks.items ≡ replicate count count
+  pub order : made.order ≡ []
+  pub rest : made.rest ≡ by_name
+
+-- those that are ready have this rank, of which there are some
+pub record AreRanked (links : List (List ℕ)) (rank : ℕ) (before after : Peeled) : Type 0 where
+  pub some : 0 < length (ready_of links before.ranks.items rank before.rest)
+  pub ranks : after.ranks.items ≡ ranks_with before.ranks.items (ready_of links before.ranks.items rank before.rest) rank
+  pub order : after.order ≡ before.order ++ map (at_rank rank) (ready_of links before.ranks.items rank before.rest)
+  pub rest : after.rest ≡ later_of links before.ranks.items rank before.rest
+
+-- none is ready, and nothing has changed
+pub record IsEnd (links : List (List ℕ)) (rank : ℕ) (before after : Peeled) : Type 0 where
+  pub none : length (ready_of links before.ranks.items rank before.rest) ≡ 0
+  pub ranks : after.ranks.items ≡ before.ranks.items
+  pub order : after.order ≡ before.order
+  pub rest : after.rest ≡ before.rest
+
+abbrev pub IsRound : List (List ℕ) → ℕ → Bool → Peeled → Peeled → Type 0
+IsRound links rank true before after = AreRanked links rank before after
+IsRound links rank false before after = IsEnd links rank before after
+
+-- all models have their ranks but those that are left, each of which reads one that is left
+pub record IsDone (models : List Reader) (links : List (List ℕ)) (made : Peeled) : Type 0 where
+  pub rank : ℕ
+  pub peeled : IsPeeled models links made.ranks.items made.order made.rest rank
+  pub stuck : AreStuck links made.rest

@@ -1,5 +1,5 @@
 -- The places that are reached from one.
-use Rattle.std.specs.Prelude.{◌≡◌, ◌==◌, ◌<◌, ◌⊎◌, ℕ, Bool, true, false, List, ◌++◌, length, slice_index, slice_index_or, All, AllPairs, Contains}
+use Rattle.std.specs.Prelude.{◌≡◌, ◌==◌, ◌<◌, ◌⊎◌, ℕ, Bool, true, false, List, [], ◌∷◌, ◌++◌, length, slice_index, slice_index_or, All, AllPairs, Contains}
 use Rattle.std.specs.List.{IsDistinct, list_any}
 use Rattle.std.specs.declared.cmp.Ordering.TheVariants.{Less}
 use Rattle.mesh_values.specs.declared.values.Name.{Name}
@@ -39,3 +39,8 @@ pub record AreNamed (models : List Reader) (links : List (List ℕ)) (places : L
   pub only : All (λ name. (k : ℕ) × (k < count) × (name ≡ name_at models (slice_index places k)) × Reaches (leads links) (slice_index places k) (slice_index places k)) names
   pub all : (k : ℕ) → k < count → Reaches (leads links) (slice_index places k) (slice_index places k) → Contains names (name_at models (slice_index places k))
   pub ascending : AllPairs (λ a b. name_cmp a b ≡ Less) names
+
+-- the name at a place is added where the model there reaches itself
+abbrev pub IsNext : List Reader → List (List ℕ) → ℕ → List Name → List Name → Type 0
+IsNext models links at before after =
+    (Reaches (leads links) at at × (after ≡ before ++ name_at models at ∷ [])) ⊎ ((Reaches (leads links) at at → ⊥) × (after ≡ before))

@@ -1,8 +1,8 @@
 // The models that reach themselves.
-ghost use Rattle.std.specs.Prelude.{◌≡◌, ◌<◌, length, All, AllPairs, IfOk};
+ghost use Rattle.std.specs.Prelude.{◌≡◌, ◌<◌, length, All, AllPairs, IfOk, OnOk};
 ghost use Rattle.mesh_order.specs.Order.{name_at};
-ghost use Rattle.mesh_order.specs.Links.{AreLinks, AreWithin, IsBelow};
-ghost use Rattle.mesh_order.specs.Seen.{AreNamed};
+ghost use Rattle.mesh_order.specs.Links.{AreWithin, IsBelow};
+ghost use Rattle.mesh_order.specs.Seen.{AreNamed, IsNext};
 
 use crate::readers::Reader;
 use crate::seen::reaches_itself;
@@ -18,6 +18,26 @@ fn name_at(models: &[Reader], at: u32) -> Result<Name, Memory>
     models[at as usize].name.copy()
 }
 
+// Puts the name at a place behind the others, where the model there reaches itself.
+fn add_cyclic(
+    alloc: Global,
+    models: &[Reader],
+    links: &[Seq<u32>],
+    at: u32,
+    names: &mut Names,
+) -> Result<(), Memory>
+    requires links { length links.now ≡ length models.now }
+    requires within { AreWithin links.now }
+    requires place { at < length models.now }
+    ensures { OnOk result (IsNext models.now links.now at names.old names.new) }
+{
+    if reaches_itself(alloc, links, at)? {
+        let name = name_at(models, at)?;
+        names.push(name)?;
+    }
+    Ok(())
+}
+
 /// The names of those among these models that reach themselves.
 pub(crate) fn cyclic(
     alloc: Global,
@@ -25,7 +45,7 @@ pub(crate) fn cyclic(
     links: &[Seq<u32>],
     rest: &[u32],
 ) -> Result<Names, Memory>
-    requires links { AreLinks models.now links.now }
+    requires links { length links.now ≡ length models.now }
     requires within { AreWithin links.now }
     requires rest { All (λ at. at < length models.now) rest.now }
     requires by_name { AllPairs (IsBelow models.now) rest.now }
@@ -33,9 +53,7 @@ pub(crate) fn cyclic(
 {
     let mut names = Seq::new(alloc);
     for at in rest {
-        if reaches_itself(alloc, links, *at)? {
-            names.push(name_at(models, *at)?)?;
-        }
+        add_cyclic(alloc, models, links, *at, &mut names)?;
     }
     Ok(names)
 }

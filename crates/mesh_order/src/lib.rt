@@ -4,11 +4,16 @@
 #![tactic(auto)]
 
 mod cycles;
+mod laws;
 mod links;
 mod order;
 mod peel;
 mod readers;
 mod seen;
 
+pub use laws::{
+    cycles_are_one, orders_are_one, orders_have_all_models, orders_have_no_cycle,
+    parents_stand_before, ranks_are_one,
+};
 pub use order::in_order;
 pub use readers::{Order, OrderFault, Ranked, Reader};

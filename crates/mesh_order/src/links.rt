@@ -1,27 +1,27 @@
 // Where models stand by their names, and the places of those that each one reads.
-ghost use Rattle.std.specs.Prelude.{◌≡◌, ◌≤◌, ℕ, [], length, map, slice_index_or, IfOk};
+ghost use Rattle.std.specs.Prelude.{◌≡◌, ◌≤◌, ◌++◌, [], length, slice_index_or, IfOk, OnOk};
+ghost use Rattle.std.specs.Option.{option_to_list};
 ghost use Rattle.std.specs.List.{filter_map};
 ghost use Rattle.std.specs.BTreeMap.{IsOrdered, get, values};
 ghost use Rattle.mesh_values.specs.Names.{name_cmp};
-ghost use Rattle.mesh_values.specs.declared.values.Name.{Name};
 ghost use Rattle.mesh_order.specs.Order.{AreApart};
-ghost use Rattle.mesh_order.specs.Links.{AreByName, AreLinks, IsPlaceOf};
+ghost use Rattle.mesh_order.specs.Links.{AreByName, AreLinks, ArePlaces};
 
 use crate::readers::Reader;
-use mesh_list::{Duplicate, Memory, Seq};
+use mesh_list::{Duplicate, Memory, Seq, together};
 use mesh_values::Name;
 use std::alloc::Global;
 use std::collections::BTreeMap;
 
-pub(crate) type Places = BTreeMap<Name, u32>;
+type Places = BTreeMap<Name, u32>;
 
 /// For each model the places of those that it reads.
 pub(crate) type Links = Seq<Seq<u32>>;
 
-/// Where each model stands, by its name.
-pub(crate) fn places_of(alloc: Global, models: &[Reader]) -> Result<Places, Memory>
+// Where each model stands, by its name.
+fn places_of(alloc: Global, models: &[Reader]) -> Result<Places, Memory>
     requires { length models.now ≤ 4096 }
-    ensures { IfOk result (λ places. (name : Name) → IsPlaceOf models.now name (get name_cmp places name)) }
+    ensures { IfOk result (λ places. ArePlaces models.now places) }
 {
     let mut places = BTreeMap::new(alloc);
     for (at, model) in models.iter().enumerate() {
@@ -31,13 +31,14 @@ pub(crate) fn places_of(alloc: Global, models: &[Reader]) -> Result<Places, Memo
     Ok(places)
 }
 
-/// All places, by the names there.
-pub(crate) fn by_name(alloc: Global, models: &[Reader], places: &Places) -> Result<Seq<u32>, Memory>
+// All places, by the names there.
+fn by_name(alloc: Global, models: &[Reader], places: &Places) -> Result<Seq<u32>, Memory>
     requires apart { AreApart models.now }
-    requires places { (name : Name) → IsPlaceOf models.now name (get name_cmp places.now name) }
+    requires places { ArePlaces models.now places.now }
     ensures { IfOk result (λ made. AreByName models.now made) }
 {
-    values_of(alloc, places)
+    let made = values_of(alloc, places)?;
+    Ok(made)
 }
 
 fn values_of(alloc: Global, places: &Places) -> Result<Seq<u32>, Memory>
@@ -51,24 +52,30 @@ fn values_of(alloc: Global, places: &Places) -> Result<Seq<u32>, Memory>
     Ok(made)
 }
 
+fn push_found(made: &mut Seq<u32>, found: Option<u32>) -> Result<(), Memory>
+    ensures { OnOk result (made.new ≡ made.old ++ option_to_list found) }
+{
+    match found {
+        Some(at) => made.push(at),
+        None => Ok(()),
+    }
+}
+
 // The places of the models of these names.
 fn links_of_one(alloc: Global, places: &Places, names: &[Name]) -> Result<Seq<u32>, Memory>
     ensures { IfOk result (λ made. made ≡ filter_map (get name_cmp places.now) names.now) }
 {
     let mut made = Seq::new(alloc);
     for name in names {
-        match places.get(name) {
-            Some(at) => made.push(*at)?,
-            None => {}
-        }
+        push_found(&mut made, places.get(name).copied())?;
     }
     Ok(made)
 }
 
-/// For each model the places of those that it reads.
-pub(crate) fn links_of(alloc: Global, places: &Places, models: &[Reader]) -> Result<Links, Memory>
+// For each model the places of those that it reads.
+fn links_of(alloc: Global, places: &Places, models: &[Reader]) -> Result<Links, Memory>
     requires apart { AreApart models.now }
-    requires places { (name : Name) → IsPlaceOf models.now name (get name_cmp places.now name) }
+    requires places { ArePlaces models.now places.now }
     ensures { IfOk result (λ made. AreLinks models.now made) }
 {
     let mut made = Seq::new(alloc);
@@ -76,6 +83,20 @@ pub(crate) fn links_of(alloc: Global, places: &Places, models: &[Reader]) -> Res
         made.push(links_of_one(alloc, places, model.reads.as_slice())?)?;
     }
     Ok(made)
+}
+
+/// The places of those that each model reads, and all places by the names there.
+pub(crate) fn linked(alloc: Global, models: &[Reader]) -> Result<(Links, Seq<u32>), Memory>
+    requires apart { AreApart models.now }
+    requires few { length models.now ≤ 4096 }
+    ensures links { IfOk result (λ made. AreLinks models.now made.0) }
+    ensures by_name { IfOk result (λ made. AreByName models.now made.1) }
+{
+    let places = places_of(alloc, models)?;
+    together(
+        links_of(alloc, &places, models),
+        by_name(alloc, models, &places),
+    )
 }
 
 /// The places that one leads to.

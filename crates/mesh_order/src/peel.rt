@@ -1,17 +1,18 @@
 // Ranks, one after another: those whose parents have lower ones are next.
-ghost use Rattle.std.specs.Prelude.{◌≡◌, ◌≤◌, ◌++◌, length, map, filter, not, slice_index, slice_set, replicate, IfOk, OnOk};
+ghost use Rattle.std.specs.Prelude.{◌≡◌, ◌≤◌, ◌++◌, length, map, filter, not, slice_index, slice_set, IfOk, OnOk};
 ghost use Rattle.std.specs.List.{list_all};
 ghost use Rattle.mesh_order.specs.Links.{AreByName, AreLinks};
-ghost use Rattle.mesh_order.specs.Peeled.{IsDone, at_rank, is_ready, ranks_with};
+ghost use Rattle.mesh_order.specs.Peeled.{IsDone, IsRound, IsUnpeeled, at_rank, is_ready, ranks_with};
 
 use crate::links::links_at;
 use crate::readers::{Order, Ranked, Reader};
 use mesh_list::{Memory, Seq};
 use std::alloc::Global;
 
-/// The models whose ranks are found, in their order, and the places of the others.
+/// The ranks of all places, the models whose ranks are found, in their order, and the places of the others.
 #[derive(Drop)]
 pub(crate) struct Peeled {
+    pub ranks: Vec<u32>,
     pub order: Order,
     pub rest: Seq<u32>,
 }
@@ -61,16 +62,16 @@ fn sorted_out(
 }
 
 // Gives these models a rank.
-fn rank_all(ranks: &mut [u32], ready: &[u32], rank: u32)
-    ensures { ranks.new ≡ ranks_with ranks.old ready.now rank }
+fn rank_all(ranks: &mut Vec<u32>, ready: &[u32], rank: u32)
+    ensures { ranks.new.items ≡ ranks_with ranks.old.items ready.now rank }
 {
     for at in ready {
         set_rank(ranks, *at, rank);
     }
 }
 
-fn set_rank(ranks: &mut [u32], at: u32, rank: u32)
-    ensures { ranks.new ≡ slice_set ranks.old at rank }
+fn set_rank(ranks: &mut Vec<u32>, at: u32, rank: u32)
+    ensures { ranks.new.items ≡ slice_set ranks.old.items at rank }
 {
     let at = at as usize;
     if at < ranks.len() {
@@ -88,14 +89,43 @@ fn add_all(order: &mut Order, ready: &[u32], rank: u32) -> Result<(), Memory>
     Ok(())
 }
 
-// The ranks of no model yet.
-fn no_ranks(alloc: Global, count: usize) -> Result<Vec<u32>, Memory>
-    requires { count ≤ 4096 }
-    ensures { IfOk result (λ made. made.items ≡ replicate count count) }
+// Gives those that are ready this rank, if there are some.
+fn peel_one(
+    alloc: Global,
+    links: &[Seq<u32>],
+    peeled: &mut Peeled,
+    rank: u32,
+) -> Result<bool, Memory>
+    ensures { IfOk result (λ more. IsRound links.now rank more peeled.old peeled.new) }
 {
-    let mut made = Vec::new(alloc);
-    made.resize(count, count as u32)?;
-    Ok(made)
+    let (ready, later) = sorted_out(
+        alloc,
+        links,
+        peeled.ranks.as_slice(),
+        rank,
+        peeled.rest.as_slice(),
+    )?;
+    if ready.is_empty() {
+        return Ok(false);
+    }
+    add_all(&mut peeled.order, ready.as_slice(), rank)?;
+    rank_all(&mut peeled.ranks, ready.as_slice(), rank);
+    peeled.rest = later;
+    Ok(true)
+}
+
+// The models with no ranks yet: in place of each there is their number.
+fn unpeeled(alloc: Global, count: usize, by_name: Seq<u32>) -> Result<Peeled, Memory>
+    requires { count ≤ 4096 }
+    ensures { IfOk result (λ made. IsUnpeeled count by_name made) }
+{
+    let mut ranks = Vec::new(alloc);
+    ranks.resize(count, count as u32)?;
+    Ok(Peeled {
+        ranks,
+        order: Seq::new(alloc),
+        rest: by_name,
+    })
 }
 
 /// Gives models ranks, from 0 on, until none is left or each that is left reads one that is left.
@@ -108,21 +138,15 @@ pub(crate) fn peel_all(
     requires few { length models.now ≤ 4096 }
     requires links { AreLinks models.now links.now }
     requires by_name { AreByName models.now by_name }
-    ensures { IfOk result (λ made. IsDone models.now links.now made.order made.rest) }
+    ensures { IfOk result (λ made. IsDone models.now links.now made) }
 {
-    let mut ranks = no_ranks(alloc, models.len())?;
-    let mut order = Seq::new(alloc);
-    let mut rest = by_name;
+    let mut peeled = unpeeled(alloc, models.len(), by_name)?;
     let mut rank = 0;
-    while !rest.is_empty() {
-        let (ready, later) = sorted_out(alloc, links, ranks.as_slice(), rank, rest.as_slice())?;
-        if ready.is_empty() {
-            break;
+    'each_rank: while !peeled.rest.is_empty() {
+        if !peel_one(alloc, links, &mut peeled, rank)? {
+            return Ok(peeled);
         }
-        rank_all(&mut ranks, ready.as_slice(), rank);
-        add_all(&mut order, ready.as_slice(), rank)?;
-        rest = later;
         rank += 1;
     }
-    Ok(Peeled { order, rest })
+    Ok(peeled)
 }

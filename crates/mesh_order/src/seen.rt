@@ -1,5 +1,5 @@
 // Which places reach themselves.
-ghost use Rattle.std.specs.Prelude.{◌≡◌, ◌<◌, IsTrue, ◌↔◌, [], ◌∷◌, length, All, IfOk, OnOk};
+ghost use Rattle.std.specs.Prelude.{◌≡◌, ◌<◌, IsTrue, ◌↔◌, [], ◌∷◌, false, length, replicate, All, IfOk, OnOk};
 ghost use Rattle.mesh_order.specs.Order.{Reaches};
 ghost use Rattle.mesh_order.specs.Links.{AreWithin, leads};
 ghost use Rattle.mesh_order.specs.Seen.{AreMarks, AreSeen, IsGrown, some_lead_to};
@@ -42,6 +42,14 @@ fn mark_all(seen: &mut Seen, places: &[u32]) -> Result<(), Memory>
     Ok(())
 }
 
+fn no_marks(alloc: Global, count: usize) -> Result<Vec<bool>, Memory>
+    ensures { IfOk result (λ made. made.items ≡ replicate count false) }
+{
+    let mut marks = Vec::new(alloc);
+    marks.resize(count, false)?;
+    Ok(marks)
+}
+
 // This place alone.
 fn seen_first(alloc: Global, count: usize, at: u32) -> Result<Seen, Memory>
     requires { at < count }
@@ -49,8 +57,7 @@ fn seen_first(alloc: Global, count: usize, at: u32) -> Result<Seen, Memory>
     ensures list { IfOk result (λ seen. seen.list.items ≡ at ∷ []) }
     ensures as_many { IfOk result (λ seen. length seen.marks.items ≡ count) }
 {
-    let mut marks = Vec::new(alloc);
-    marks.resize(count, false)?;
+    let mut marks = no_marks(alloc, count)?;
     marks[at as usize] = true;
     let mut list = Vec::new(alloc);
     list.push(at)?;

@@ -1,5 +1,5 @@
 use Rattle.std.proofs.Common.{◌≡◌, true, take}
-use Rattle.std.specs.Prelude.{nat_lt, slice_index, slice_index_or}
+use Rattle.std.specs.Prelude.{nat_lt, slice_index}
 use Rattle.std.specs.List.{list_all}
 use Rattle.mesh_order.proofs.peel.is_ready.Given as goal
 
