@@ -1,5 +1,3 @@
-pub mod Asking
-pub mod Gathering
+pub mod Folds
 pub mod Listed
-pub mod Reading
 pub mod Unique

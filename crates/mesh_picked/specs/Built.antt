@@ -1,6 +1,6 @@
 -- Which models are of the form that is built: SEEDs, and FULLs that pick different columns of one of these.
 use Rattle.std.specs.Prelude.{ℕ, Bool, true, false, ◌&&◌, not, List, [], ◌∷◌, ◌++◌, codes, Result, Ok, Err, if◌then◌else◌}
-use Rattle.std.specs.List.{list_all, list_any}
+use Rattle.std.specs.List.{fold, list_all, list_any}
 use Rattle.std.specs.Option.{is_some}
 use Rattle.std.specs.declared.option.Option.{Option}
 use Rattle.std.specs.declared.option.Option.TheVariants.{None, Some}
@@ -18,9 +18,10 @@ use Rattle.mesh_files.specs.declared.faults.LoadFault.{LoadFault}
 use Rattle.mesh_picked.specs.declared.gathered.Check.{Check}
 use Rattle.mesh_picked.specs.declared.gathered.Gathered.{Gathered}
 use Rattle.mesh_picked.specs.declared.item.Item.{Item}
-use Rattle.mesh_picked.specs.declared.item.FileSays.{FileSays}
-use Rattle.mesh_picked.specs.declared.item.FileSays.TheVariants.{Nothing, Unbuilt, Says}
 use Rattle.mesh_files.specs.Loading.{outside}
+use Rattle.mesh_files.specs.declared.project.ModelFile.{ModelFile}
+use Rattle.mesh_files.specs.declared.project.ProjectFiles.{ProjectFiles}
+use Rattle.mesh_picked.specs.Items.{item_of}
 
 -- what no file has given to
 abbrev pub nothing : Gathered
@@ -39,10 +40,16 @@ with_item g i =
       is_built = g.is_built;
     }
 
-abbrev pub with_file : Gathered → FileSays → Gathered
-with_file g Nothing = g
-with_file g Unbuilt = unbuilt g
-with_file g (Says i) = with_item g i
+abbrev pub with_file : Gathered → Option Item → Gathered
+with_file g None = unbuilt g
+with_file g (Some i) = with_item g i
+
+abbrev pub with_model : Gathered → ModelFile → Gathered
+with_model g file = with_file g (item_of file)
+
+-- what all files have given
+abbrev pub gathered : List ModelFile → Gathered
+gathered files = fold with_model nothing files
 
 abbrev pub has_column : List Column → List ℕ → Bool
 has_column columns name = list_any (λ (c : Column). same_text c.name name) columns
@@ -123,3 +130,7 @@ are_built sources g =
 -- the models, or that their form isn't built
 abbrev pub built : List Decl → Gathered → Result (List Model) LoadFault
 built sources g = if are_built sources g then Ok g.models else Err (outside (codes "-") (codes "form"))
+
+-- the models of the project's files
+abbrev pub models_of : ProjectFiles → Result (List Model) LoadFault
+models_of files = built files.sources (gathered files.models)

@@ -1,9 +1,10 @@
 // What the files of a project have given so far.
-ghost use Rattle.std.specs.Prelude.{◌≡◌, [], OnOk};
-ghost use Rattle.mesh_picked.specs.Built.{nothing, with_file, with_item};
+ghost use Rattle.std.specs.Prelude.{◌≡◌, [], IfOk, OnOk};
+ghost use Rattle.mesh_picked.specs.Built.{nothing, with_item, with_model, gathered};
 
-use crate::item::{FileSays, Item};
+use crate::item::{Item, item_of};
 use crate::models::Model;
+use mesh_files::ModelFile;
 use mesh_list::{Duplicate, Memory, Seq, Sorted};
 use mesh_values::{Columns, Name};
 use std::alloc::Global;
@@ -23,8 +24,8 @@ pub struct Gathered {
     pub is_built: bool,
 }
 
-/// What no file has given to.
-pub fn nothing(alloc: Global) -> Gathered
+// What no file has given to.
+fn nothing(alloc: Global) -> Gathered
     ensures { result ≡ nothing }
 {
     Gathered {
@@ -48,16 +49,26 @@ fn add_item(gathered: &mut Gathered, item: Item) -> Result<(), Memory>
     Ok(())
 }
 
-/// Adds what a file says.
-pub fn add(gathered: &mut Gathered, says: FileSays) -> Result<(), Memory>
-    ensures { OnOk result (gathered.new ≡ with_file gathered.old says) }
+fn add(alloc: Global, gathered: &mut Gathered, file: ModelFile) -> Result<(), Memory>
+    ensures { OnOk result (gathered.new ≡ with_model gathered.old file) }
 {
-    match says {
-        FileSays::Nothing => Ok(()),
-        FileSays::Unbuilt => {
+    match item_of(alloc, file)? {
+        None => {
             gathered.is_built = false;
             Ok(())
         }
-        FileSays::Says(item) => add_item(gathered, item),
+        Some(item) => add_item(gathered, item),
     }
+}
+
+/// What all files have given.
+#[tactic(auto, using(crate::proofs::Folds::one_more_file))]
+pub fn gather(alloc: Global, files: Seq<ModelFile>) -> Result<Gathered, Memory>
+    ensures { IfOk result (λ g. g ≡ gathered files) }
+{
+    let mut gathered = nothing(alloc);
+    for file in files.into_vec() {
+        add(alloc, &mut gathered, file)?;
+    }
+    Ok(gathered)
 }

@@ -1,39 +1,32 @@
 // Reads a project.
-ghost use Rattle.mesh_files.specs.Loading.{AsksAs};
-ghost use Rattle.mesh_picked.specs.Project.{AreRead, IsLoaded};
-ghost use Rattle.mesh_picked.specs.Built.{nothing};
+ghost use Rattle.std.specs.Prelude.{IsErrOf};
+ghost use Rattle.mesh_files.specs.declared.faults.LoadFault.TheVariants as fault;
+ghost use Rattle.mesh_files.specs.Loading.{Gives, AsksAs};
+ghost use Rattle.mesh_picked.specs.Built.{models_of};
+ghost use Rattle.mesh_picked.specs.Project.{IsLoaded};
 
 use crate::built::built;
-use crate::files::{paths_in, sources_in};
-use crate::gathered::{Gathered, add, nothing};
-use crate::item::file_says;
+use crate::gathered::gather;
 use crate::models::Model;
-use mesh_files::LoadFault;
+use mesh_files::{LoadFault, ProjectFiles, read_files};
 use mesh_io::Folder;
-use mesh_list::Sorted;
-use mesh_values::Str;
+use mesh_list::{Duplicate, Sorted};
 use std::alloc::Global;
 
-// What the files at these paths below `models` give, one after the other.
-fn gather<F: Folder>(alloc: Global, folder: &mut F, paths: &[Str]) -> Result<Gathered, LoadFault>
-    ensures { AsksAs (λ fs. AreRead fs nothing paths.now) (F.told folder.old) (F.told folder.new) result }
+fn models_of(alloc: Global, files: ProjectFiles) -> Result<Sorted<Model>, LoadFault>
+    ensures gives { Gives result (models_of files) }
+    ensures alone { IsErrOf result fault.Folder → ⊥ }
 {
-    let mut gathered = nothing(alloc);
-    for path in paths {
-        let says = file_says(alloc, folder, path)?;
-        add(&mut gathered, says)?;
-    }
-    Ok(gathered)
+    let ProjectFiles { sources, models } = files;
+    let gathered = gather(alloc, models)?;
+    built(alloc, sources.as_slice(), gathered)
 }
 
-/// The models of the project, by name. Its files are those of the folder: `external_models.csv` declares the sources,
-/// each file below `models` that ends in `.sql` is a model, in the order of their paths' bytes, and a SEED names a file
-/// of rows. A listed file that isn't there any more is passed over.
+/// The models of the project that is in the folder itself, by name, where all are of the form that is built.
 pub fn load<F: Folder>(alloc: Global, folder: &mut F) -> Result<Sorted<Model>, LoadFault>
     ensures { AsksAs IsLoaded (F.told folder.old) (F.told folder.new) result }
 {
-    let sources = sources_in(alloc, folder)?;
-    let paths = paths_in(alloc, folder)?;
-    let gathered = gather(alloc, folder, paths.as_slice())?;
-    built(alloc, sources.as_slice(), gathered)
+    let here = u8::copy_items(alloc, b".")?;
+    let files = read_files(alloc, folder, &here)?;
+    models_of(alloc, files)
 }

@@ -10,3 +10,4 @@ mod Loops
 mod Agree
 mod Whole
 mod Meant
+mod Single

@@ -1,26 +1,48 @@
 // Reads a project.
-ghost use Rattle.std.specs.Prelude.{◌≤◌, length, IsErrOf};
 ghost use Rattle.std.specs.List.{AllByRecursion};
+ghost use Rattle.std.specs.Prelude.{IsErrOf};
+ghost use Rattle.mesh_files.specs.Loading.{AsksAs, Gives};
 ghost use Rattle.mesh_files.specs.declared.faults.LoadFault.TheVariants as fault;
 ghost use Rattle.mesh_project.specs.Nodes.{IsWhole};
-ghost use Rattle.mesh_project.specs.Project.{IsMeant};
+ghost use Rattle.mesh_project.specs.Project.{IsLoaded, IsMeant, checked, counted};
 
 use crate::apart::are_apart;
 use crate::nodes::nodes_of;
 use crate::order::ordered;
-use mesh_files::{LoadFault, ProjectFiles};
+use mesh_files::{LoadFault, ModelFile, ProjectFiles, read_files, too_large};
+use mesh_io::Folder;
 use mesh_rules::Project;
+use mesh_values::{MOST_MODELS, Str};
 use std::alloc::Global;
+
+// As many models as a project may have.
+fn counted(alloc: Global, models: &[ModelFile]) -> Result<(), LoadFault>
+    ensures gives { Gives result (counted models.now) }
+    ensures alone { IsErrOf result fault.Folder → ⊥ }
+{
+    if models.len() as u64 <= MOST_MODELS {
+        Ok(())
+    } else {
+        Err(too_large(alloc, b"-", b"models", MOST_MODELS)?)
+    }
+}
+
+fn checked(alloc: Global, files: &ProjectFiles) -> Result<(), LoadFault>
+    ensures gives { Gives result (checked files.now) }
+    ensures alone { IsErrOf result fault.Folder → ⊥ }
+{
+    counted(alloc, files.models.as_slice())?;
+    are_apart(alloc, files)
+}
 
 /// The project that files mean, once they are read, or its first fault: two models of one name or a model and a source,
 /// then models that reach themselves, and then the models by rank and name, each over those before it.
 pub fn project_of(alloc: Global, files: &ProjectFiles) -> Result<Project, LoadFault>
-    requires few { length files.now.models ≤ 4096 }
-    requires whole { AllByRecursion IsWhole files.now.models }
+    requires { AllByRecursion IsWhole files.now.models }
     ensures meant { IsMeant files.now result }
     ensures alone { IsErrOf result fault.Folder → ⊥ }
 {
-    are_apart(alloc, files)?;
+    checked(alloc, files)?;
     let order = ordered(alloc, files.models.as_slice())?;
     let earlier = nodes_of(alloc, files, order.as_slice())?;
     Ok(Project {

@@ -1,8 +1,8 @@
 use Rattle.std.proofs.Common.{◌≡◌, ◌≤◌, drop}
 use Rattle.std.specs.Option.{ForSome}
 use Rattle.mesh_io.specs.Told.{FolderTold}
-use Rattle.mesh_picked.proofs.Reading.{Goes}
-use Rattle.mesh_picked.proofs.project.gather.Given as goal
+use Rattle.mesh_files.proofs.Reading.{Goes}
+use Rattle.mesh_files.proofs.read.gather.Given as goal
 
 abbrev pub invariant-loop-path : goal.invariant-loop-path
 invariant-loop-path g l =
@@ -11,5 +11,5 @@ invariant-loop-path g l =
     record {
       files : now.files ≡ before.files;
       faults : before.faults ≤ now.faults;
-      rest : ForSome before.files (λ fs. Goes fs l.paths (drop l.path-index l.paths) l.gathered);
+      rest : ForSome before.files (λ fs. Goes fs l.dir l.paths (drop l.path-index l.paths) l.models);
     }
