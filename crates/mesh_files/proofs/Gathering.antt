@@ -26,6 +26,11 @@ abbrev From : List ℕ → List (List ℕ) → List (List ℕ) → List File →
 From dir paths left fs (Ok models) = Goes fs dir paths left models
 From dir paths left fs (Err e) = Unit {0}
 
+-- a file was read, and its model, if it is there, stands behind those so far
+pub gather_more : (fs : List File) (dir : List ℕ) (paths left : List (List ℕ)) (models : List ModelFile) (path : List ℕ) (rest : List (List ℕ)) (file : Option ModelFile) → left ≡ path ∷ rest
+    → Goes fs dir paths left models → IsFileRead fs dir path (Ok file) → Goes fs dir paths rest (with_file models file)
+gather_more fs dir paths left models path rest file first goes read r h = goes r (subst (λ l. AreRead fs dir models l r) (sym first) (Ok file, read, h))
+
 module _ (dir : List ℕ) (paths left : List (List ℕ)) (a b : FolderTold) (models : List ModelFile) (same : b.files ≡ a.files) (risen : a.faults ≤ b.faults)
     (goes : ForSome a.files (λ fs. Goes fs dir paths left models)) where
   so_far : AsksAs (From dir paths left) a b (Ok models)

@@ -1,6 +1,9 @@
 pub mod Asking
+pub mod Columns
 pub mod Gathering
+pub mod Kept
 pub mod Making
 pub mod Once
+pub mod Paths
 pub mod Reading
 pub mod Unique

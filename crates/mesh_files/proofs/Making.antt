@@ -1,5 +1,5 @@
 -- What is made of files that were read.
-use Rattle.std.proofs.Common.{◌≡◌, List, Result, Ok, Err, refl}
+use Rattle.std.proofs.Common.{◌≡◌, ℕ, List, Result, Ok, Err, refl}
 use Rattle.std.specs.Prelude.{IsErrOf}
 use Rattle.std.specs.Result.{IsErrAnd}
 use Rattle.mesh_io.specs.declared.files.File.{File}
@@ -12,15 +12,15 @@ use Rattle.mesh_files.specs.Project.{AreFiles, FilesGive}
 use Rattle.mesh_files.proofs.Asking.{asks_err, asks_alone, asks_memory}
 use Rattle.mesh_files.proofs.Reading.{without_sources}
 
-refused : {X : Type 0} (fault : LoadFault) → Refuses {X} fault (Err fault)
-refused (Fault file at kind) = refl
-refused Folder = tt
-refused Memory = tt
+refused : (X : Type 0) (fault : LoadFault) → Refuses {X = X} fault (Err fault)
+refused X (Fault file at kind) = refl
+refused X Folder = tt
+refused X Memory = tt
 
 module _ {X : Type 0} (made : ProjectFiles → Result X LoadFault) (dir : List ℕ) (a b : FolderTold) (result : Result X LoadFault) where
   -- the files weren't read
   pub made_err : (fault : LoadFault) → AsksAs (λ fs. AreFiles fs dir) a b (Err fault) → IsErrAnd result (λ y. y ≡ fault) → AsksAs (λ fs. FilesGive made fs dir) a b result
-  made_err fault asked is = asks_err (λ fs. AreFiles fs dir) (λ fs. FilesGive made fs dir) a b fault result asked is (λ fs h. (Err fault, h, refused fault))
+  made_err fault asked is = asks_err (λ fs. AreFiles fs dir) (λ fs. FilesGive made fs dir) a b fault result asked is (λ fs h. (Err fault, h, refused X fault))
 
   -- they were, and something was made of them
   pub made_then : (files : ProjectFiles) → AsksAs (λ fs. AreFiles fs dir) a b (Ok files) → (IsErrOf result Folder → ⊥) → Gives result (made files) → AsksAs (λ fs. FilesGive made fs dir) a b result

@@ -4,5 +4,7 @@ pub mod Loading
 pub mod Places
 -- Models: what a model's file says, with the seed that it names.
 pub mod Models
+-- Kept: what every model that is read keeps.
+pub mod Kept
 -- Project: what the files of a project say, or their first fault.
 pub mod Project

@@ -1,7 +1,9 @@
 // A file below `models`, with the seed that it names.
-ghost use Rattle.std.specs.Prelude.{◌≡◌, IfOk, IsErrOf};
+ghost use Rattle.std.specs.Prelude.{◌≡◌, true, is_some, IfOk, IfSome, IsErrOf};
+ghost use Rattle.mesh_values.specs.Crons.{is_cron};
 ghost use Rattle.mesh_files.specs.declared.faults.LoadFault.TheVariants as fault;
 ghost use Rattle.mesh_files.specs.Loading.{Gives, Asks, AsksAs};
+ghost use Rattle.mesh_files.specs.Kept.{IsSeedWhere, HasItsSeed, IsReadFile};
 ghost use Rattle.mesh_files.specs.Models.{seed_if_there, seed_at, seed_of, with_seed, IsTextRead, IsModelFileRead, IsFileRead};
 
 use crate::faults::{LoadFault, bad_path, in_file, outside};
@@ -40,25 +42,34 @@ fn seed_at<F: Folder>(
     text: &ModelText,
     path: &Str,
 ) -> Result<Option<Seed>, LoadFault>
-    ensures { Asks (λ fs. seed_at fs dir.now text.now path.now) (F.told folder.old) (F.told folder.new) result }
+    ensures says { Asks (λ fs. seed_at fs dir.now text.now path.now) (F.told folder.old) (F.told folder.new) result }
+    ensures seeded { IfOk result (IsSeedWhere true) }
 {
     let bytes = read_within(alloc, folder, dir, path, b"seed", LARGEST_SEED)?;
     seed_if_there(alloc, text, path, bytes)
 }
 
 // The seed that a model names.
+#[tactic(auto, using(crate::proofs::Kept::no_seed))]
 fn seed_of<F: Folder>(
     alloc: Global,
     folder: &mut F,
     dir: &Str,
     text: &ModelText,
 ) -> Result<Option<Seed>, LoadFault>
-    ensures { Asks (λ fs. seed_of fs dir.now text.now) (F.told folder.old) (F.told folder.new) result }
+    ensures says { Asks (λ fs. seed_of fs dir.now text.now) (F.told folder.old) (F.told folder.new) result }
+    ensures seeded { IfOk result (IsSeedWhere (is_some text.now.path)) }
 {
     match &text.path {
         None => Ok(None),
         Some(path) => seed_at(alloc, folder, dir, text, path),
     }
+}
+
+fn cron_is_one(text: &ModelText)
+    ensures { is_cron text.now.cron ≡ true }
+{
+    text.cron.rule();
 }
 
 fn with_seed<F: Folder>(
@@ -67,8 +78,10 @@ fn with_seed<F: Folder>(
     dir: &Str,
     text: ModelText,
 ) -> Result<Option<ModelFile>, LoadFault>
-    ensures { Asks (λ fs. with_seed fs dir.now text) (F.told folder.old) (F.told folder.new) result }
+    ensures says { Asks (λ fs. with_seed fs dir.now text) (F.told folder.old) (F.told folder.new) result }
+    ensures kept { IfOk result (λ file. IfSome file (HasItsSeed text)) }
 {
+    cron_is_one(&text);
     match seed_of(alloc, folder, dir, &text) {
         Ok(seed) => Ok(Some(ModelFile { text, seed })),
         Err(fault) => Err(fault),
@@ -83,7 +96,8 @@ fn text_file<F: Folder>(
     file: &Str,
     bytes: &Str,
 ) -> Result<Option<ModelFile>, LoadFault>
-    ensures { AsksAs (λ fs. IsTextRead fs dir.now file.now bytes.now) (F.told folder.old) (F.told folder.new) result }
+    ensures says { AsksAs (λ fs. IsTextRead fs dir.now file.now bytes.now) (F.told folder.old) (F.told folder.new) result }
+    ensures kept { IfOk result (λ file. IfSome file IsReadFile) }
 {
     match in_file(file, read_model(file, bytes.as_slice())) {
         Ok(text) => with_seed(alloc, folder, dir, text),
@@ -97,7 +111,8 @@ fn model_file<F: Folder>(
     dir: &Str,
     file: &Str,
 ) -> Result<Option<ModelFile>, LoadFault>
-    ensures { AsksAs (λ fs. IsModelFileRead fs dir.now file.now) (F.told folder.old) (F.told folder.new) result }
+    ensures says { AsksAs (λ fs. IsModelFileRead fs dir.now file.now) (F.told folder.old) (F.told folder.new) result }
+    ensures kept { IfOk result (λ file. IfSome file IsReadFile) }
 {
     match read_within(alloc, folder, dir, file, b"file", LARGEST_FILE)? {
         None => Ok(None),
@@ -112,7 +127,8 @@ pub fn read_file<F: Folder>(
     dir: &Str,
     path: &Str,
 ) -> Result<Option<ModelFile>, LoadFault>
-    ensures { AsksAs (λ fs. IsFileRead fs dir.now path.now) (F.told folder.old) (F.told folder.new) result }
+    ensures says { AsksAs (λ fs. IsFileRead fs dir.now path.now) (F.told folder.old) (F.told folder.new) result }
+    ensures kept { IfOk result (λ file. IfSome file IsReadFile) }
 {
     let file = below_models(alloc, path.as_slice())?;
     if is_python(path) {

@@ -1,5 +1,7 @@
 // Reads the files of a project.
-ghost use Rattle.std.specs.Prelude.{◌≡◌, [], OnOk};
+ghost use Rattle.std.specs.Prelude.{◌≡◌, [], IfOk, OnOk};
+ghost use Rattle.std.specs.List.{All};
+ghost use Rattle.mesh_files.specs.Kept.{IsReadFile};
 ghost use Rattle.mesh_files.specs.Loading.{AsksAs};
 ghost use Rattle.mesh_files.specs.Project.{with_file, AreRead, AreFiles};
 
@@ -28,7 +30,8 @@ fn gather<F: Folder>(
     dir: &Str,
     paths: &[Str],
 ) -> Result<Seq<ModelFile>, LoadFault>
-    ensures { AsksAs (λ fs. AreRead fs dir.now [] paths.now) (F.told folder.old) (F.told folder.new) result }
+    ensures says { AsksAs (λ fs. AreRead fs dir.now [] paths.now) (F.told folder.old) (F.told folder.new) result }
+    ensures kept { IfOk result (All IsReadFile) }
 {
     let mut models = Seq::new(alloc);
     for path in paths {
@@ -47,7 +50,8 @@ pub fn read_files<F: Folder>(
     folder: &mut F,
     dir: &Str,
 ) -> Result<ProjectFiles, LoadFault>
-    ensures { AsksAs (λ fs. AreFiles fs dir.now) (F.told folder.old) (F.told folder.new) result }
+    ensures says { AsksAs (λ fs. AreFiles fs dir.now) (F.told folder.old) (F.told folder.new) result }
+    ensures kept { IfOk result (λ files. All IsReadFile files.models) }
 {
     let sources = read_sources(alloc, folder, dir)?;
     let paths = paths_in(alloc, folder, dir)?;

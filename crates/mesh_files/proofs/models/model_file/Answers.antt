@@ -5,8 +5,8 @@ use Rattle.mesh_files.proofs.Asking.{asks_err}
 use Rattle.mesh_files.proofs.Reading.{content_err}
 use Rattle.mesh_files.proofs.models.model_file.Goals as goal
 
-pub returns-in_err-read_within : goal.returns-in_err-read_within
-returns-in_err-read_within g c =
+pub returns-in_err-read_within-clause-says : goal.returns-in_err-read_within-clause-says
+returns-in_err-read_within-clause-says g c =
     let dir = c.args.dir.now in
     let file = c.args.file.now in
     let fault = c.in_err-read_within.field-0.0 in

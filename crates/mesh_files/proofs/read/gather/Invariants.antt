@@ -1,6 +1,8 @@
 use Rattle.std.proofs.Common.{◌≡◌, ◌≤◌, drop}
+use Rattle.std.specs.List.{All}
 use Rattle.std.specs.Option.{ForSome}
 use Rattle.mesh_io.specs.Told.{FolderTold}
+use Rattle.mesh_files.specs.Kept.{IsReadFile}
 use Rattle.mesh_files.proofs.Reading.{Goes}
 use Rattle.mesh_files.proofs.read.gather.Given as goal
 
@@ -11,5 +13,6 @@ invariant-loop-path g l =
     record {
       files : now.files ≡ before.files;
       faults : before.faults ≤ now.faults;
+      kept : All IsReadFile l.models;
       rest : ForSome before.files (λ fs. Goes fs l.dir l.paths (drop l.path-index l.paths) l.models);
     }
