@@ -11,3 +11,4 @@ mod Agree
 mod Whole
 mod Meant
 mod Single
+mod Kept
