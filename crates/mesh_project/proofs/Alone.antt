@@ -51,7 +51,7 @@ fresh (f ∷ fs) taken end (suc k) e lt =
 first_differs : (f : ModelFile) (fs : List ModelFile) (taken end : Taken) (k : ℕ) → along with_model_name taken (f ∷ fs) ≡ Ok end → k < length fs → f.text.name ≡ name_at (map reader_of fs) k → ⊥
 first_differs f fs taken end k e lt same =
     let apart : is_eq (name_cmp f.text.name (name_at (map reader_of fs) k)) ≡ false =
-        (untaken (is_eq (name_cmp f.text.name (name_at (map reader_of fs) k))) (taken (name_at (map reader_of fs) k)) (fresh fs (with_name taken f.text.name) end k (tail_walks f fs taken end e).1 lt)).0 in
+    (untaken (is_eq (name_cmp f.text.name (name_at (map reader_of fs) k))) (taken (name_at (map reader_of fs) k)) (fresh fs (with_name taken f.text.name) end k (tail_walks f fs taken end e).1 lt)).0 in
     let tied : is_eq (name_cmp f.text.name (name_at (map reader_of fs) k)) ≡ true = ap (λ (x : Name). is_eq (name_cmp f.text.name x)) (sym same) ∙ ap is_eq (tied_itself names_total f.text.name) in
     let clash : true ≡ false = sym tied ∙ apart in cc clash
 

@@ -91,11 +91,11 @@ distinct [] one up = refl
 distinct (n ∷ ns) one up =
     and_both _ _
     (ap not (namesakes ns n.own.name (λ m h e.
-        let less : node_cmp n m ≡ Less = all_below node_cmp node_total node_itself n ns m (and_left _ _ up) (and_right _ _ up) h in
-        let rank : n.rank ≡ m.rank = one n m (inl refl) (inr h) (sym e) in
-        let tied : node_cmp n m ≡ Equal = ap (λ (r : ℕ). ordering_then (nat_cmp n.rank r) (name_cmp n.own.name m.own.name)) (sym rank)
-        ∙ ap (λ (x : Name). ordering_then (nat_cmp n.rank n.rank) (name_cmp n.own.name x)) e ∙ tied_itself node_total n in
-        let clash : Less ≡ Equal = sym less ∙ tied in absurd (cc))))
+    let less : node_cmp n m ≡ Less = all_below node_cmp node_total node_itself n ns m (and_left _ _ up) (and_right _ _ up) h in
+    let rank : n.rank ≡ m.rank = one n m (inl refl) (inr h) (sym e) in
+    let tied : node_cmp n m ≡ Equal = ap (λ (r : ℕ). ordering_then (nat_cmp n.rank r) (name_cmp n.own.name m.own.name)) (sym rank)
+    ∙ ap (λ (x : Name). ordering_then (nat_cmp n.rank n.rank) (name_cmp n.own.name x)) e ∙ tied_itself node_total n in
+    let clash : Less ≡ Equal = sym less ∙ tied in absurd (cc))))
     (distinct ns (λ a b x y. one a b (inr x) (inr y)) (and_right _ _ up))
 
 module _ (models : List Reader) (order : List Ranked) (apart : AreApart models) (is : IsOrder models order) where
@@ -135,11 +135,12 @@ module _ (models : List Reader) (order : List Ranked) (apart : AreApart models) 
   places_differ : (rs : List Ranked) → ((s : Ranked) → In s rs → In s order) → ascends (ranked_cmp models) itself rs ≡ true → IsDistinct eqb (map place rs)
   unfolding IsDistinct
   places_differ [] among up = tt
-  places_differ (r ∷ rs) among up =
-      (others_differ r rs (λ s h e.
-          let less : ranked_cmp models r s ≡ Less = all_below (ranked_cmp models) (ranked_total models order apart is) itself r rs s (and_left _ _ up) (and_right _ _ up) h in
-          let clash : Less ≡ Equal = sym less ∙ same_place r s (among r (inl refl)) (among s (inr h)) e in cc clash),
-      places_differ rs (λ s h. among s (inr h)) (and_right _ _ up))
+  places_differ (r ∷ rs) among up = (
+    others_differ r rs (λ s h e.
+        let less : ranked_cmp models r s ≡ Less = all_below (ranked_cmp models) (ranked_total models order apart is) itself r rs s (and_left _ _ up) (and_right _ _ up) h in
+        let clash : Less ≡ Equal = sym less ∙ same_place r s (among r (inl refl)) (among s (inr h)) e in cc clash),
+    places_differ rs (λ s h. among s (inr h)) (and_right _ _ up),
+  )
 
   in_of_any : (xs : List ℕ) (q : ℕ) → list_any (eqb q) xs ≡ true → In q xs
   in_of_any [] q e = absurd (cc)

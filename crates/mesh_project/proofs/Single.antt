@@ -39,12 +39,12 @@ order_once models (Err Folder) b h k n m = absurd h
 order_once models (Err Memory) b h k n m = absurd n
 
 module _ (files : ProjectFiles) where
+  abbrev behind : Result (Unit {0}) LoadFault → Result (List Ranked) LoadFault → Result ProjectNodes LoadFault
+  behind r order = r >>= λ alone. order >>= λ ranked. nodes_of files.sources files.models ranked >>= λ nodes. Ok (record { nodes = nodes })
+
   meaning_once : (g k : Result (List Ranked) LoadFault) → Once g k → Once (meaning files g) (meaning files k)
   meaning_once g k same = by_check (checked files)
     where
-      abbrev behind : Result (Unit {0}) LoadFault → Result (List Ranked) LoadFault → Result ProjectNodes LoadFault
-      behind r order = r >>= λ alone. order >>= λ ranked. nodes_of files.sources files.models ranked >>= λ nodes. Ok (record { nodes = nodes })
-
       by_check : (r : Result (Unit {0}) LoadFault) → Once (behind r g) (behind r k)
       by_check (Ok u) = once_behind (λ ranked. nodes_of files.sources files.models ranked >>= λ nodes. Ok (record { nodes = nodes })) g k same
       by_check (Err fault) = λ n m. refl

@@ -49,8 +49,8 @@ module _ {S A : Type 0} (step : S → A → Result S LoadFault) where
       → along step s (take i xs) ≡ Ok now → Refuses e (step now x) → Refuses e (along step s xs)
   stops s now xs i x e lt is so_far stop =
       let cut : along step s xs ≡ (step now x >>= λ n. along step n (drop (i + 1) xs)) =
-          ap (along step s) (sym (ap (λ y. take i xs ++ y ∷ drop (i + 1) xs) is ∙ ap (λ l. take i xs ++ l) (sym (drop_more xs i x lt)) ∙ take-append-drop i xs))
-          ∙ along_more s (take i xs) (x ∷ drop (i + 1) xs) ∙ ap (λ r. r >>= λ n. along step n (x ∷ drop (i + 1) xs)) so_far ∙ along_first now x (drop (i + 1) xs) in
+      ap (along step s) (sym (ap (λ y. take i xs ++ y ∷ drop (i + 1) xs) is ∙ ap (λ l. take i xs ++ l) (sym (drop_more xs i x lt)) ∙ take-append-drop i xs))
+      ∙ along_more s (take i xs) (x ∷ drop (i + 1) xs) ∙ ap (λ r. r >>= λ n. along step n (x ∷ drop (i + 1) xs)) so_far ∙ along_first now x (drop (i + 1) xs) in
       subst (Refuses e) (sym cut) (refused_on e (step now x) (λ n. along step n (drop (i + 1) xs)) stop)
 
   pub all_along : (s now : S) (xs : List A) (i : ℕ) → length xs ≤ i → along step s (take i xs) ≡ Ok now → along step s xs ≡ Ok now
@@ -65,6 +65,6 @@ module _ {S A : Type 0} (step : S → A → Result S LoadFault) where
   stops_at s now xs i d e lt so_far stop =
       let x = get_or xs i d in
       let cut : along step s xs ≡ (step now x >>= λ n. along step n (drop (i + 1) xs)) =
-          ap (along step s) (sym (ap (λ l. take i xs ++ l) (sym (drop_more xs i d lt)) ∙ take-append-drop i xs))
-          ∙ along_more s (take i xs) (x ∷ drop (i + 1) xs) ∙ ap (λ r. r >>= λ n. along step n (x ∷ drop (i + 1) xs)) so_far ∙ along_first now x (drop (i + 1) xs) in
+      ap (along step s) (sym (ap (λ l. take i xs ++ l) (sym (drop_more xs i d lt)) ∙ take-append-drop i xs))
+      ∙ along_more s (take i xs) (x ∷ drop (i + 1) xs) ∙ ap (λ r. r >>= λ n. along step n (x ∷ drop (i + 1) xs)) so_far ∙ along_first now x (drop (i + 1) xs) in
       subst (Refuses e) (sym cut) (refused_on e (step now x) (λ n. along step n (drop (i + 1) xs)) stop)

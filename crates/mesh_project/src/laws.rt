@@ -30,7 +30,6 @@ pub fn models_in_order_are_a_project()
 {}
 
 /// The same files in the same place are one project or have one first fault, and never both.
-#[tactic(auto, using(crate::proofs::Single::one_project, crate::proofs::Single::one_fault, crate::proofs::Single::never_faulty))]
 pub fn files_are_one_project()
     ensures one { (files : List Files) (dir : List ℕ) (a b : ProjectNodes) → Loads files dir a → Loads files dir b → a ≡ b }
     ensures one_fault { (files : List Files) (dir : List ℕ) (file other : List ℕ) (at to : ℕ) (kind what : Kinds) → IsFirstFault files dir file at kind → IsFirstFault files dir other to what → (file ≡ other) × (at ≡ to) × (kind ≡ what) }

@@ -155,11 +155,7 @@ fn is_incremental(kind: &Kind) -> bool
 }
 
 // The models that a model's query names, among those before it.
-fn parents_of(
-    alloc: Global,
-    earlier: &Earlier,
-    file: &ModelFile,
-) -> Result<Sorted<Place>, Memory>
+fn parents_of(alloc: Global, earlier: &Earlier, file: &ModelFile) -> Result<Sorted<Place>, Memory>
     ensures { IfOk result (λ places. places ≡ parents_of earlier.now file.now) }
 {
     let names = text_reads(alloc, &file.text.query)?;
@@ -250,11 +246,7 @@ fn add_model(
 
 /// The models in this order, each over those before it, or the first fault of their queries.
 #[tactic(auto, using(crate::proofs::Steps::none_along, crate::proofs::Steps::one_more, crate::proofs::Steps::all_along))]
-pub fn nodes_of(
-    alloc: Global,
-    files: &ProjectFiles,
-    order: &[Ranked],
-) -> Result<Earlier, LoadFault>
+pub fn nodes_of(alloc: Global, files: &ProjectFiles, order: &[Ranked]) -> Result<Earlier, LoadFault>
     requires { AllByRecursion IsWhole files.now.models }
     ensures gives { Gives result (nodes_of files.now.sources files.now.models order.now) }
     ensures alone { IsErrOf result fault.Folder → ⊥ }
@@ -266,7 +258,13 @@ pub fn nodes_of(
         macros: false,
     };
     for next in order {
-        add_model(alloc, &mut known, &mut earlier, files.models.as_slice(), next)?;
+        add_model(
+            alloc,
+            &mut known,
+            &mut earlier,
+            files.models.as_slice(),
+            next,
+        )?;
     }
     Ok(earlier)
 }

@@ -27,6 +27,6 @@ loop-next-preserved c =
     record {
       sources = c.in_ok-add_model.ensures.sources ∙ c.loop-next.invariant.sources;
       so_far = one_more_at (with_model sources models) [] c.loop-next.earlier c.add_model.new.earlier c.args.order.now c.loop-next.next-index none c.loop-next-test.true c.loop-next.invariant.so_far
-      (ap (λ ss. with_model ss models c.loop-next.earlier next) (sym c.loop-next.invariant.sources)
-      ∙ ap (λ ms. with_model c.loop-next.known.sources ms c.loop-next.earlier next) (sym c.as_slice.ensures) ∙ c.in_ok-add_model.ensures.leads);
+          (ap (λ ss. with_model ss models c.loop-next.earlier next) (sym c.loop-next.invariant.sources)
+          ∙ ap (λ ms. with_model c.loop-next.known.sources ms c.loop-next.earlier next) (sym c.as_slice.ensures) ∙ c.in_ok-add_model.ensures.leads);
     }

@@ -40,14 +40,14 @@ pub invariant_of-result : goal.invariant_of-result
 invariant_of-result c =
     let order : IsOrder (map reader_of c.args.files.now.models) c.in_ok-order.order = subst (λ ms. IsOrder (map reader_of ms) c.in_ok-order.order) c.as_slice.ensures c.in_ok-order.ensures in
     let nodes : nodes_of c.args.files.now.sources c.args.files.now.models c.in_ok-order.order ≡ Ok c.in_ok-earlier.earlier =
-        ap (nodes_of c.args.files.now.sources c.args.files.now.models) (sym c.as_slice-2.ensures) ∙ c.in_ok-earlier.ensures.gives in
+    ap (nodes_of c.args.files.now.sources c.args.files.now.models) (sym c.as_slice-2.ensures) ∙ c.in_ok-earlier.ensures.gives in
     let all : is_proper c.in_ok-earlier.earlier ≡ true =
-        proper c.args.files.now c.in_ok-order.order c.requires (readers_apart c.args.files.now.sources c.args.files.now.models (are_alone c.args.files.now c.in_ok-checked.ensures.gives)) order c.in_ok-earlier.earlier nodes (are_few c.args.files.now c.in_ok-checked.ensures.gives) in
+    proper c.args.files.now c.in_ok-order.order c.requires (readers_apart c.args.files.now.sources c.args.files.now.models (are_alone c.args.files.now c.in_ok-checked.ensures.gives)) order c.in_ok-earlier.earlier nodes (are_few c.args.files.now c.in_ok-checked.ensures.gives) in
     ap is_proper c.into_nodes.ensures ∙ all
 
 pub returns-clause-meant : goal.returns-clause-meant
 returns-clause-meant c =
     let order : IsOrder (map reader_of c.args.files.now.models) c.in_ok-order.order = subst (λ ms. IsOrder (map reader_of ms) c.in_ok-order.order) c.as_slice.ensures c.in_ok-order.ensures in
     let nodes : nodes_of c.args.files.now.sources c.args.files.now.models c.in_ok-order.order ≡ Ok c.into_nodes.result =
-        ap (nodes_of c.args.files.now.sources c.args.files.now.models) (sym c.as_slice-2.ensures) ∙ c.in_ok-earlier.ensures.gives ∙ ap (λ ns. Ok ns) (sym c.into_nodes.ensures) in
+    ap (nodes_of c.args.files.now.sources c.args.files.now.models) (sym c.as_slice-2.ensures) ∙ c.in_ok-earlier.ensures.gives ∙ ap (λ ns. Ok ns) (sym c.into_nodes.ensures) in
     all_resolved c.args.files.now c.in_ok-checked.ensures.gives c.in_ok-order.order order c.into_nodes.result nodes
