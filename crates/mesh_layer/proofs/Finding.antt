@@ -72,6 +72,14 @@ module _ {T : Type 0} (given : World → Type 0) (found : World → T → Type 0
     failed = λ y_is. let e_is : Err e ≡ Err fault.Warehouse = cc in rose_later a b c p (h.failed e_is);
   }
 
+  -- a last part answers
+  pub passes_on : (given' : World → Type 0) (found' : World → T → Type 0) (lost' : World → Option Name) (a b c : Told) (r : Result T ShowFault) → IsUntouched a b → Finds given' found' lost' b c r
+      → ((w : World) → a.world ≡ Some w → given w → given' w × ((x : T) → found' w x → found w x) × ((o : Name) → lost' w ≡ Some o → lost w ≡ Some o)) → Finds given found lost a c r
+  passes_on given' found' lost' a b c (Ok x) p h more =
+      answers a c x (and_then a b c p h.untouched) (λ w told g. let here = more w told g in here.1 x (h.ok w (told_later a b w p told) here.0))
+  passes_on given' found' lost' a b c (Err e) p h more =
+      part_fails given' found' lost' a b c e (Err e) p h refl (λ w told g. let here = more w told g in (here.0, here.2))
+
   -- an object dangles
   pub dangles : (a b : Told) (f : ShowFault) (n : Name) → IsUntouched a b → (f ≡ fault.Dangling n) ⊎ (f ≡ fault.Memory) → ((w : World) → a.world ≡ Some w → given w → lost w ≡ Some n) → Finds given found lost a b (Err f)
   dangles a b f n p is here = record {

@@ -1,7 +1,7 @@
 -- What a stored query may name.
 use Rattle.std.proofs.Common.{◌≡◌, Bool, true, false, cond, List, [], ◌∷◌, ◌++◌, map, Some, None, refl, sym, ap, ◌∙◌}
 use Rattle.std.specs.Prelude.{◌||◌}
-use Rattle.std.specs.Option.{is_some}
+use Rattle.std.specs.Option.{is_some, option_map}
 use Rattle.std.specs.Ordering.{is_eq}
 use Rattle.std.specs.declared.option.Option.{Option}
 use Rattle.mesh_values.specs.declared.values.Column.{Column}
@@ -36,3 +36,8 @@ sources_named (d ∷ ds) targets n =
 -- a relation is there where it is a declared source's or a target's name
 pub relation_there : (own : Own) (targets : List Pair) (n : Name) → is_some (relation_columns (stored_relations own targets) n) ≡ (is_declared own.sources n || is_target targets n)
 relation_there own targets n = sources_named own.sources targets n
+
+-- a CTE is there where its place is
+pub cte_there : {A B : Type 0} (f : A → B) (o : Option A) → is_some (option_map f o) ≡ is_some o
+cte_there f None = refl
+cte_there f (Some x) = refl

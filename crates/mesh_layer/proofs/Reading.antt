@@ -43,15 +43,15 @@ source_read w d h =
 -- no source has a name that an object may have
 pub no_source : (n : Name) (sources : List Input) → IsTrue (are_plain sources) → is_physical n ≡ true → found name_cmp input_name n sources ≡ None
 no_source n [] plain h = refl
-no_source n (s ∷ ss) plain h = at (is_eq (name_cmp s.name n)) refl (is_physical s.name) refl plain
+no_source n (s ∷ ss) plain h = at (λ k. no_source n ss k h) (is_eq (name_cmp s.name n)) refl (is_physical s.name) refl plain
   where
-    at : (b : Bool) → is_eq (name_cmp s.name n) ≡ b → (p : Bool) → is_physical s.name ≡ p → IsTrue (not p && are_plain ss) → found name_cmp input_name n (s ∷ ss) ≡ None
-    at true e true f k = absurd (let no : false ≡ true = k in cc)
-    at true e false f k =
+    at : (IsTrue (are_plain ss) → found name_cmp input_name n ss ≡ None) → (b : Bool) → is_eq (name_cmp s.name n) ≡ b → (p : Bool) → is_physical s.name ≡ p → IsTrue (not p && are_plain ss) → found name_cmp input_name n (s ∷ ss) ≡ None
+    at rest true e true f k = absurd (let no : false ≡ true = k in cc)
+    at rest true e false f k =
         let same : s.name ≡ n = names_exact s.name n ((Equal-is (name_cmp s.name n)).0 e) in
         absurd (let both : false ≡ true = sym f ∙ ap is_physical same ∙ h in cc)
-    at false e true f k = absurd (let no : false ≡ true = k in cc)
-    at false e false f k = rw e (no_source n ss k h)
+    at rest false e true f k = absurd (let no : false ≡ true = k in cc)
+    at rest false e false f k = rw e (rest k)
 
 object_kept : (w : World) (n : Name) → is_physical n ≡ true → kept_at w n ≡ object_at w n
 object_kept w n h =

@@ -1,5 +1,5 @@
 -- What is read of a warehouse to show an object.
-use Rattle.std.specs.Prelude.{◌≡◌, ℕ, Bool, if◌then◌else◌, List, [], map, Some, None, IsTrue}
+use Rattle.std.specs.Prelude.{◌≡◌, ℕ, zero, suc, Bool, if◌then◌else◌, List, [], map, Some, None, IsTrue}
 use Rattle.std.specs.List.{list_any}
 use Rattle.std.specs.Ordering.{is_eq}
 use Rattle.std.specs.declared.option.Option.{Option}
@@ -12,10 +12,11 @@ use Rattle.mesh_values.specs.Names.{name_cmp}
 use Rattle.mesh_values.specs.Picked.{picked_rows}
 use Rattle.mesh_rules.specs.Seen.{or_no_columns}
 use Rattle.mesh_scratch.specs.Sources.{has_shape}
+use Rattle.mesh_house.specs.declared.objects.Body.{Body}
 use Rattle.mesh_house.specs.declared.world.World.{World}
 use Rattle.mesh_house.specs.Sources.{are_plain}
-use Rattle.mesh_house.specs.World.{object_at, columns_of}
-use Rattle.mesh_shown.specs.Shown.{rows_through}
+use Rattle.mesh_house.specs.World.{object_at, columns_of, rows_of}
+use Rattle.mesh_shown.specs.Shown.{body_rows, rows_through}
 use Rattle.mesh_layer.specs.declared.known.Entry.{Entry}
 use Rattle.mesh_layer.specs.declared.known.Found.{Found}
 
@@ -24,6 +25,11 @@ abbrev pub read_rows : List Column → Option (List Column) → Option (List (Li
 read_rows declared None rows = []
 read_rows declared (Some columns) None = []
 read_rows declared (Some columns) (Some rows) = if has_shape declared columns then picked_rows (map (λ (d : Column). d.name) declared) columns rows else []
+
+-- what a body shows through so many stored queries, its own among them
+abbrev pub body_through : ℕ → World → Body → Option (List (List Cell))
+body_through zero w b = rows_of (Some b)
+body_through (suc height) w b = body_rows (rows_through height w) w b
 
 -- a name is one of these targets'
 abbrev pub is_target : List Pair → Name → Bool
@@ -45,4 +51,4 @@ AreKnown w known = (name : Name) (e : Entry) → found name_cmp entry_name name 
 -- what a walk over a world begins with: its sources have names that sources may have, and what is kept is so found
 pub record Given (w : World) (known : List Entry) : Type 0 where
   pub plain : IsTrue (are_plain w.sources)
-  pub known : AreKnown w known
+  pub kept : AreKnown w known

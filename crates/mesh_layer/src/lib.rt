@@ -7,12 +7,12 @@ mod faults;
 mod known;
 mod names;
 mod seen;
-mod show;
+mod shown;
 mod sources;
 mod views;
 mod walk;
 
 pub use faults::ShowFault;
-pub use show::{LONGEST_CHAIN, ask, object_rows, show};
+pub use shown::{LONGEST_CHAIN, ask, object_rows, show};
 pub use sources::source_tables;
 pub use views::view_in;

@@ -1,5 +1,5 @@
 // Whether all that a stored query names is there: its sources, its targets and earlier CTEs.
-ghost use Rattle.std.specs.Prelude.{◌≡◌, []};
+ghost use Rattle.std.specs.Prelude.{◌≡◌, ◌||◌, [], slice_get};
 ghost use Rattle.std.specs.Option.{is_some, option_copied};
 ghost use Rattle.mesh_rules.specs.Relations.{is_declared, relation_columns};
 ghost use Rattle.mesh_rules.specs.Seen.{rel_columns, are_there};
@@ -30,13 +30,28 @@ fn is_target(targets: &[Pair], name: &Name) -> bool
     found
 }
 
-/// A stored query may name the relation or CTE, where so many CTEs stand before.
+fn is_known(own: &Own, targets: &[Pair], name: &Name) -> bool
+    ensures { result ≡ (is_declared own.now.sources name.now || is_target targets.now name.now) }
+{
+    is_declared(own.sources.as_slice(), name) || is_target(targets, name)
+}
+
+fn has_cte(ctes: &[Selects], at: u32) -> bool
+    ensures { result ≡ is_some (slice_get ctes.now at) }
+{
+    match ctes.get(at as usize) {
+        Some(_) => true,
+        None => false,
+    }
+}
+
+/// A stored query may name the relation, or the CTE, where these CTEs stand before.
 fn is_there(own: &Own, targets: &[Pair], ctes: &[Selects], rel: &Rel) -> bool
     ensures { result ≡ is_some (rel_columns (stored_relations own.now targets.now) ctes.now rel.now) }
 {
     match rel {
-        Rel::Named(name) => is_declared(own.sources.as_slice(), name) || is_target(targets, name),
-        Rel::Cte(at) => (*at as usize) < ctes.len(),
+        Rel::Named(name) => is_known(own, targets, name),
+        Rel::Cte(at) => has_cte(ctes, *at),
     }
 }
 

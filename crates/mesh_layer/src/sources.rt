@@ -109,6 +109,18 @@ fn rows_of(body: Option<Body>) -> Option<Rows>
     }
 }
 
+fn picked_rows(
+    alloc: Global,
+    declared: &[Column],
+    columns: &[Column],
+    rows: &[Row],
+) -> Result<Rows, Memory>
+    ensures { IfOk result (λ made. made ≡ picked_rows (map (λ (d : Column). d.name) declared.now) columns.now rows.now) }
+{
+    let places = places_of(alloc, columns, declared)?;
+    rows_at(alloc, rows, places.as_slice())
+}
+
 /// A source's rows with the declared columns alone, and none where it has another shape.
 fn read_rows(
     alloc: Global,
@@ -119,9 +131,12 @@ fn read_rows(
     ensures { IfOk result (λ made. made ≡ read_rows declared.now columns.now rows.now) }
 {
     match (columns, rows) {
-        (Some(columns), Some(rows)) if has_shape(declared, columns.as_slice()) => {
-            let places = places_of(alloc, columns.as_slice(), declared)?;
-            rows_at(alloc, rows.as_slice(), places.as_slice())
+        (Some(columns), Some(rows)) => {
+            if has_shape(declared, columns.as_slice()) {
+                picked_rows(alloc, declared, columns.as_slice(), rows.as_slice())
+            } else {
+                Ok(Seq::new(alloc))
+            }
         }
         _ => Ok(Seq::new(alloc)),
     }
@@ -135,8 +150,10 @@ fn source_rows<W: Warehouse>(alloc: Global, house: &mut W, decl: &Decl) -> Resul
         return Ok(Seq::new(alloc));
     }
     let columns = house.head(alloc, &decl.name)?;
-    let rows = rows_of(house.body(alloc, &decl.name)?);
-    Ok(read_rows(alloc, decl.columns.as_slice(), &columns, &rows)?)
+    let body = house.body(alloc, &decl.name)?;
+    let rows = rows_of(body);
+    let read = read_rows(alloc, decl.columns.as_slice(), &columns, &rows)?;
+    Ok(read)
 }
 
 /// A declared source as a table.

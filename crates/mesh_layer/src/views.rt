@@ -1,5 +1,5 @@
 // The names of an environment's views.
-ghost use Rattle.std.specs.Prelude.{◌≡◌, IfOk};
+ghost use Rattle.std.specs.Prelude.{◌≡◌, ◌++◌, codes, IfOk};
 ghost use Rattle.mesh_changes.specs.Environments.{view_in};
 
 use mesh_list::{Duplicate, Memory, Seq};
@@ -7,6 +7,7 @@ use mesh_values::{Name, Str, same_text};
 use std::alloc::Global;
 
 fn schema_in(alloc: Global, env: &Str, schema: &Str) -> Result<Str, Memory>
+    ensures { IfOk result (λ made. made ≡ (schema.now ++ codes "__") ++ env.now) }
 {
     let mut made = Vec::from_slice(alloc, schema.as_slice())?;
     made.extend_from_slice(b"__")?;

@@ -1,5 +1,5 @@
 // The rows behind an object: each object is read and computed once.
-ghost use Rattle.std.specs.Prelude.{◌≡◌, ◌≤◌, ℕ, ◌++◌, ◌∷◌, [], IfOk, OnOk, IsTrue, map, Some, None};
+ghost use Rattle.std.specs.Prelude.{◌≡◌, ◌≤◌, ◌<◌, ◌+◌, ◌^◌, ℕ, ◌++◌, ◌∷◌, [], IfOk, OnOk, IsTrue, map, Some, None};
 ghost use Rattle.mesh_values.specs.declared.values.Pair.{Pair};
 ghost use Rattle.mesh_meaning.specs.Sel.{Sel};
 ghost use Rattle.mesh_rules.specs.Seen.{or_no_columns};
@@ -9,9 +9,9 @@ ghost use Rattle.mesh_house.specs.declared.objects.Body.TheVariants as body;
 ghost use Rattle.mesh_house.specs.House.{Reads};
 ghost use Rattle.mesh_house.specs.Sources.{are_plain};
 ghost use Rattle.mesh_house.specs.World.{object_at, body_of, columns_of};
-ghost use Rattle.mesh_shown.specs.Shown.{body_rows, each_there, rows_through, target_table};
+ghost use Rattle.mesh_shown.specs.Shown.{each_there, rows_through, target_table};
 ghost use Rattle.mesh_layer.specs.Lost.{first_of, lost_in, lost_through};
-ghost use Rattle.mesh_layer.specs.Read.{AreKnown, Given, IsFound};
+ghost use Rattle.mesh_layer.specs.Read.{AreKnown, Given, IsFound, body_through};
 ghost use Rattle.mesh_layer.specs.Shows.{Finds};
 
 use crate::faults::{ShowFault, dangling};
@@ -19,7 +19,7 @@ use crate::known::{Found, Known, keep, known_at};
 use crate::seen::stored_query;
 use crate::sources::source_tables;
 use mesh_base::{Input, Inputs, Own, Query};
-use mesh_eval::eval;
+use mesh_eval::exact_rows;
 use mesh_house::{Body, Warehouse, WhFail};
 use mesh_list::{Duplicate, Memory, Seq};
 use mesh_values::{Bounds, Columns, Name, Pair, Rows, has_two_underscores};
@@ -74,7 +74,8 @@ fn query_rows<W: Warehouse>(
     let mut read = source_tables(alloc, house, own.sources.as_slice())?;
     read.append(tables)?;
     let bounds = Bounds { start: 0, end: 0 };
-    Ok(eval(alloc, query, read.as_slice(), bounds)?)
+    let rows = exact_rows(alloc, query, read.as_slice(), bounds)?;
+    Ok(rows)
 }
 
 /// The greater of two heights.
@@ -125,7 +126,7 @@ pub(crate) fn rows_behind<W: Warehouse>(
             if depth == 0 {
                 return Err(dangling(name));
             }
-            let (height, rows) = stored_behind(
+            stored_behind(
                 alloc,
                 house,
                 depth - 1,
@@ -133,13 +134,12 @@ pub(crate) fn rows_behind<W: Warehouse>(
                 &own,
                 targets.as_slice(),
                 known,
-            )?;
-            Ok((height + 1, rows))
+            )
         }
     }
 }
 
-/// The rows of a stored query over those of its targets, and the height of the tallest.
+/// The rows of a stored query over those of its targets, and how many stored queries stand behind one another with it.
 #[cycle(walk)]
 fn stored_behind<W: Warehouse>(
     alloc: Global,
@@ -150,8 +150,9 @@ fn stored_behind<W: Warehouse>(
     targets: &[Pair],
     known: &mut Known,
 ) -> Result<(u64, Rows), ShowFault>
-    ensures height { IfOk result (λ r. r.0 ≤ depth) }
-    ensures finds { Finds (λ w. Given w known.old) (λ w r. AreKnown w known.new × (body_rows (rows_through r.0 w) w (body.Stored own.now targets.now) ≡ Some r.1))
+    requires { depth + 1 < 2 ^ 64 }
+    ensures height { IfOk result (λ r. r.0 ≤ depth + 1) }
+    ensures finds { Finds (λ w. Given w known.old) (λ w r. AreKnown w known.new × (body_through r.0 w (body.Stored own.now targets.now) ≡ Some r.1))
         (λ w. lost_in (lost_through depth w) name.now (Some (body.Stored own.now targets.now))) (W.told house.old) (W.told house.new) result }
 {
     match stored_query(own, targets) {
@@ -159,7 +160,7 @@ fn stored_behind<W: Warehouse>(
         Some(query) => {
             let (height, tables) = tables_behind(alloc, house, depth, targets, known)?;
             let rows = query_rows(alloc, house, query, own, tables)?;
-            Ok((height, rows))
+            Ok((height + 1, rows))
         }
     }
 }

@@ -68,7 +68,8 @@ fn view_table<W: Warehouse>(
         None => Err(dangling(&name)),
         Some(target) => {
             let found = object_behind(alloc, house, LONGEST_CHAIN, &target, known)?;
-            Ok(table_of(model, found)?)
+            let table = table_of(model, found)?;
+            Ok(table)
         }
     }
 }
@@ -105,5 +106,6 @@ pub fn ask<W: Warehouse>(
     let models = asked_models(alloc, b, env, q)?;
     let tables = view_tables(alloc, house, env, models.as_slice())?;
     let bounds = Bounds { start: 0, end: 0 };
-    Ok(exact_rows(alloc, q, tables.as_slice(), bounds)?)
+    let rows = exact_rows(alloc, q, tables.as_slice(), bounds)?;
+    Ok(rows)
 }

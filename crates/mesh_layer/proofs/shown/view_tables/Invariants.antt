@@ -4,7 +4,7 @@ use Rattle.mesh_shown.specs.Shown.{each_there}
 use Rattle.mesh_layer.specs.Asked.{view_table}
 use Rattle.mesh_layer.specs.Read.{AreKnown}
 use Rattle.mesh_layer.proofs.Finding.{Has}
-use Rattle.mesh_layer.proofs.show.view_tables.Given as goal
+use Rattle.mesh_layer.proofs.shown.view_tables.Given as goal
 
 -- the models so far are tables
 abbrev pub invariant-loop-model : goal.invariant-loop-model
