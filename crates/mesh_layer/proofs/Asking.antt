@@ -1,8 +1,7 @@
 -- What views show: where one is lost, nothing is shown.
-use Rattle.std.proofs.Common.{◌≡◌, ℕ, List, map, Some, None, Ok, Err, Result, IsTrue, refl, sym, ap, ◌∙◌}
+use Rattle.std.proofs.Common.{◌≡◌, ℕ, List, map, Some, None, Ok, Err, Result, IsTrue, refl, ap}
 use Rattle.std.specs.Option.{option_map, option_and_then}
 use Rattle.std.specs.declared.option.Option.{Option}
-use Rattle.mesh_values.specs.declared.values.Cell.{Cell}
 use Rattle.mesh_values.specs.declared.values.Name.{Name}
 use Rattle.mesh_base.specs.declared.jobs.Input.{Input}
 use Rattle.mesh_base.specs.declared.queries.Query.{Query}
@@ -13,12 +12,12 @@ use Rattle.mesh_house.specs.declared.world.World.{World}
 use Rattle.mesh_house.specs.House.{Told}
 use Rattle.mesh_house.specs.Sources.{are_plain}
 use Rattle.mesh_house.specs.World.{view}
-use Rattle.mesh_shown.specs.Shown.{each_there, object_rows, rows_through, target_table}
+use Rattle.mesh_shown.specs.Shown.{each_there, object_rows}
 use Rattle.mesh_changes.specs.Environments.{view_in}
 use Rattle.mesh_layer.specs.declared.faults.ShowFault.{ShowFault}
 use Rattle.mesh_layer.specs.Asked.{asked, asked_models, lost_asked, lost_model, lost_table, lost_view, shown_behind, shown_view, table_behind, view_table}
-use Rattle.mesh_layer.specs.Lost.{first_of, lost_object, lost_through}
-use Rattle.mesh_layer.specs.Shows.{Finds, Shows, Tells}
+use Rattle.mesh_layer.specs.Lost.{first_of, lost_object}
+use Rattle.mesh_layer.specs.Shows.{Finds, Shows}
 use Rattle.mesh_layer.proofs.Heights.{lost_shows_none, none_lost, rows_found, target_found}
 
 -- a call that finds what a world shows

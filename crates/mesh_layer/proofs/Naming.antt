@@ -1,5 +1,5 @@
 -- What a stored query may name.
-use Rattle.std.proofs.Common.{◌≡◌, Bool, true, false, cond, List, [], ◌∷◌, ◌++◌, map, Some, None, refl, sym, ap, ◌∙◌}
+use Rattle.std.proofs.Common.{◌≡◌, Bool, true, false, cond, List, [], ◌∷◌, ◌++◌, map, Some, None, refl, ◌∙◌}
 use Rattle.std.specs.Prelude.{◌||◌}
 use Rattle.std.specs.Option.{is_some, option_map}
 use Rattle.std.specs.Ordering.{is_eq}
@@ -10,7 +10,6 @@ use Rattle.mesh_values.specs.declared.values.Pair.{Pair}
 use Rattle.mesh_values.specs.Names.{name_cmp}
 use Rattle.mesh_base.specs.declared.definitions.Decl.{Decl}
 use Rattle.mesh_base.specs.declared.definitions.Own.{Own}
-use Rattle.mesh_rules.specs.declared.relations.Relation.{Relation}
 use Rattle.mesh_rules.specs.Relations.{is_declared, relation_columns, source_relation}
 use Rattle.mesh_shown.specs.Shown.{stored_relations, target_relation}
 use Rattle.mesh_layer.specs.Read.{is_target}

@@ -1,13 +1,11 @@
 -- What is read of a house, by name.
-use Rattle.std.proofs.Common.{◌≡◌, Bool, true, false, cond, not, List, [], ◌∷◌, map, Some, None, IsTrue, refl, sym, ap, ◌∙◌, subst}
+use Rattle.std.proofs.Common.{◌≡◌, Bool, true, false, cond, not, List, [], ◌∷◌, Some, None, IsTrue, refl, sym, ap, ◌∙◌, subst}
 use Rattle.std.specs.Prelude.{◌&&◌}
-use Rattle.std.specs.List.{list_all}
 use Rattle.std.specs.Ordering.{is_eq}
 use Rattle.std.specs.Cmp.{Equal-is}
 use Rattle.std.specs.declared.option.Option.{Option}
 use Rattle.mesh_list.specs.Keyed.{found, placed}
 use Rattle.mesh_list.proofs.Found.{found-placed}
-use Rattle.mesh_values.specs.declared.values.Cell.{Cell}
 use Rattle.mesh_values.specs.declared.values.Column.{Column}
 use Rattle.mesh_values.specs.declared.values.Name.{Name}
 use Rattle.mesh_values.specs.Names.{name_cmp}
@@ -15,16 +13,13 @@ use Rattle.mesh_values.specs.NameOrder.{names_exact}
 use Rattle.mesh_base.specs.declared.definitions.Decl.{Decl}
 use Rattle.mesh_base.specs.declared.jobs.Input.{Input}
 use Rattle.mesh_base.specs.Keys.{input_name}
-use Rattle.mesh_rules.specs.Seen.{or_no_columns}
 use Rattle.mesh_scratch.specs.Sources.{declared_rows, source_named}
-use Rattle.mesh_house.specs.declared.objects.Body.{Body}
 use Rattle.mesh_house.specs.declared.objects.Object.{Object}
 use Rattle.mesh_house.specs.declared.world.World.{World}
 use Rattle.mesh_house.specs.Objects.{is_physical, object_name}
 use Rattle.mesh_house.specs.Sources.{are_plain}
 use Rattle.mesh_house.specs.World.{as_table, body, body_of, columns_of, head, kept_at, object_at, rows_of, source_at}
 use Rattle.mesh_layer.specs.declared.known.Entry.{Entry}
-use Rattle.mesh_layer.specs.declared.known.Found.{Found}
 use Rattle.mesh_layer.specs.Read.{AreKnown, IsFound, entry_name, read_rows}
 
 table_rows : (declared : List Column) (s : Option Input) → read_rows declared (columns_of (as_table s)) (rows_of (body_of (as_table s))) ≡ declared_rows declared s

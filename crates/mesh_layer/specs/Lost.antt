@@ -1,7 +1,6 @@
 -- Where showing an object stops: the first object of the walk that isn't there, that stores no query whose names are all
 -- there, or that stands behind too many stored queries. A stored query is judged before its targets, which come in order.
 use Rattle.std.specs.Prelude.{ℕ, zero, suc, if◌then◌else◌, List, [], ◌∷◌, map, Some, None}
-use Rattle.std.specs.Option.{option_and_then}
 use Rattle.std.specs.declared.option.Option.{Option}
 use Rattle.mesh_values.specs.declared.values.Name.{Name}
 use Rattle.mesh_values.specs.declared.values.Pair.{Pair}
@@ -12,7 +11,7 @@ use Rattle.mesh_base.specs.declared.queries.Query.{Query}
 use Rattle.mesh_house.specs.declared.objects.Body.{Body}
 use Rattle.mesh_house.specs.declared.objects.Body.TheVariants.{Rows, Stored}
 use Rattle.mesh_house.specs.declared.world.World.{World}
-use Rattle.mesh_house.specs.World.{object_at, body_of, view}
+use Rattle.mesh_house.specs.World.{object_at, body_of}
 use Rattle.mesh_shown.specs.Shown.{is_query_there, stored_relations}
 
 -- the query of a stored definition, where all that it names is there

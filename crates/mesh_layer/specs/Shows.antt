@@ -1,5 +1,5 @@
 -- What a call that shows something answers: what a world shows, or what dangles in it.
-use Rattle.std.specs.Prelude.{◌≡◌, ℕ, ◌≤◌, IsTrue, Some, None, Result, IfOk, IsErrOf}
+use Rattle.std.specs.Prelude.{◌≡◌, ◌≤◌, IsTrue, Some, None, Result, IfOk, IsErrOf}
 use Rattle.std.specs.declared.option.Option.{Option}
 use Rattle.mesh_list.specs.Counts.{Rose}
 use Rattle.mesh_values.specs.declared.values.Name.{Name}

@@ -11,9 +11,7 @@ use mesh_values::Name;
 #[derive(Drop)]
 pub enum ShowFault {
     /// What is named isn't there, stores no query whose names are there, or stands behind too many stored queries.
-    Dangling {
-        object: Name,
-    },
+    Dangling { object: Name },
     Warehouse,
     Memory,
 }

@@ -71,12 +71,7 @@ fn named(alloc: Global, q: &Query, list: &[Ref]) -> Result<Names, Memory>
 }
 
 /// The models of an environment that a query names, in the order of the environment's list.
-pub(crate) fn asked_models(
-    alloc: Global,
-    b: &Book,
-    env: &Str,
-    q: &Query,
-) -> Result<Names, Memory>
+pub(crate) fn asked_models(alloc: Global, b: &Book, env: &Str, q: &Query) -> Result<Names, Memory>
     ensures { IfOk result (λ names. names ≡ asked_models b.now env.now q.now) }
 {
     match b.environments.find(env) {

@@ -1,5 +1,5 @@
 // The sources that a definition declares, as tables that its query reads.
-ghost use Rattle.std.specs.Prelude.{◌≡◌, true, IsTrue, IfOk, map, None};
+ghost use Rattle.std.specs.Prelude.{◌≡◌, IsTrue, IfOk, map, None};
 ghost use Rattle.std.specs.List.{find};
 ghost use Rattle.std.specs.Option.{option_copied};
 ghost use Rattle.mesh_values.specs.Picked.{same_text, picked_rows};

@@ -26,11 +26,7 @@ use mesh_values::{Bounds, Columns, Name, Pair, Rows, has_two_underscores};
 use std::alloc::Global;
 
 /// What the object of that name keeps.
-fn body_at<W: Warehouse>(
-    alloc: Global,
-    house: &mut W,
-    name: &Name,
-) -> Result<Option<Body>, WhFail>
+fn body_at<W: Warehouse>(alloc: Global, house: &mut W, name: &Name) -> Result<Option<Body>, WhFail>
     ensures { Reads (λ w. body_of (object_at w name.now)) (W.told house.old) (W.told house.new) result }
 {
     if has_two_underscores(name.schema.as_slice()) {

@@ -1,5 +1,4 @@
 use Rattle.std.proofs.Common.{sym, subst}
-use Rattle.mesh_layer.specs.declared.known.Found.{Found}
 use Rattle.mesh_layer.specs.Read.{IsFound}
 use Rattle.mesh_layer.proofs.known.known_at.Goals as goal
 

@@ -10,4 +10,4 @@ pub returns-in_err-tables : goal.returns-in_err-tables
 returns-in_err-tables g c =
     shows _ _ _ _ _ (asked_lost c.args.b.now c.args.env.now c.args.q.now)
     (part_fails _ _ _ _ _ _ _ _ _ c.in_err-tables.field-0.0 c.from_residual-in_err-tables.result (stays _) c.in_err-tables.ensures c.from_residual-in_err-tables.ensures.1
-        (λ w told plain. (plain, λ o is. subst (λ (l : List Name). first_of (map (lost_model c.args.env.now w) l) ≡ Some o) (c.as_slice.ensures ∙ c.in_ok-models.ensures) is)))
+    (λ w told plain. (plain, λ o is. subst (λ (l : List Name). first_of (map (lost_model c.args.env.now w) l) ≡ Some o) (c.as_slice.ensures ∙ c.in_ok-models.ensures) is)))

@@ -9,4 +9,4 @@ pub returns-in_err-rows-in-Some : goal.returns-in_err-rows-in-Some
 returns-in_err-rows-in-Some g c =
     shows _ _ _ _ _ (view_lost c.args.view.now)
     (part_fails _ _ _ _ _ _ _ _ _ c.in_err-rows-in-Some.field-0.0 c.from_residual-in_err-rows-in-Some.result (by_read _ _ _ _ c.in_ok-view.ensures) (finds _ _ _ _ _ c.in_err-rows-in-Some.ensures) c.from_residual-in_err-rows-in-Some.ensures.1
-        (λ w told plain. (plain, λ o is. ap (option_and_then (lost_object w)) (sym (read_is _ _ _ _ c.in_ok-view.ensures w told) ∙ c.in-Some.is) ∙ is)))
+    (λ w told plain. (plain, λ o is. ap (option_and_then (lost_object w)) (sym (read_is _ _ _ _ c.in_ok-view.ensures w told) ∙ c.in-Some.is) ∙ is)))

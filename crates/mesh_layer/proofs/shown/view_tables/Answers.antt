@@ -12,10 +12,11 @@ returns-in_err-table g c =
     let env = c.args.env.now in
     part_fails _ _ _ _ _ _ _ _ _ c.in_err-table.field-0.0 c.from_residual.result so_far.untouched c.in_err-table.ensures c.from_residual.ensures.1
     (λ w told plain.
-        let here = so_far.told w told plain in
-        (record { plain = plain; kept = here.0 },
-        λ o is. first_at (lost_model env w) c.args.models.now i c.model-item.result o (omega arith) c.model-item.is
-            (none_lost (view_table env w) (lost_model env w) (view_found env w) (take i c.args.models.now) c.loop-model.tables here.1) is))
+    let here = so_far.told w told plain in (
+      record { plain = plain; kept = here.0 },
+      λ o is. first_at (lost_model env w) c.args.models.now i c.model-item.result o (omega arith) c.model-item.is
+          (none_lost (view_table env w) (lost_model env w) (view_found env w) (take i c.args.models.now) c.loop-model.tables here.1) is,
+    ))
 
 pub loop-model-preserved : goal.loop-model-preserved
 loop-model-preserved g c =
@@ -25,8 +26,9 @@ loop-model-preserved g c =
       untouched = and_then _ _ _ so_far.untouched there.untouched;
       told = λ w told plain.
           let here = so_far.told w told plain in
-          let found = there.ok w (told_later _ _ w so_far.untouched told) (record { plain = plain; kept = here.0 }) in
-          (found.0,
-          each_step (view_table c.args.env.now w) c.args.models.now c.loop-model.model-index c.model-item.result c.loop-model.tables c.in_ok-table.table (omega arith) c.model-item.is here.1 found.1
-          ∙ ap Some (sym c.in_ok-push.ensures.ok));
+          let found = there.ok w (told_later _ _ w so_far.untouched told) (record { plain = plain; kept = here.0 }) in (
+            found.0,
+            each_step (view_table c.args.env.now w) c.args.models.now c.loop-model.model-index c.model-item.result c.loop-model.tables c.in_ok-table.table (omega arith) c.model-item.is here.1 found.1
+                ∙ ap Some (sym c.in_ok-push.ensures.ok),
+          );
     }

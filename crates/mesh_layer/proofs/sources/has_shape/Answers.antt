@@ -1,4 +1,4 @@
-use Rattle.std.proofs.Common.{◌≡◌, ℕ, ◌+◌, ◌<◌, Bool, true, List, length, take, get_or, sym, ◌∙◌, ap, arith}
+use Rattle.std.proofs.Common.{◌≡◌, ℕ, ◌+◌, ◌<◌, Bool, true, List, length, take, get_or, sym, ◌∙◌, ap}
 use Rattle.std.specs.Prelude.{◌&&◌}
 use Rattle.std.specs.List.{find, list_all}
 use Rattle.std.proofs.lemmas.List.Folds.{list_all_kept, list_all_more}

@@ -2,7 +2,7 @@ use Rattle.std.proofs.Common.{◌≡◌, true, sym, ap, ◌∙◌}
 use Rattle.mesh_values.specs.Names.{has_two_underscores}
 use Rattle.mesh_scratch.specs.Sources.{declared_rows}
 use Rattle.mesh_layer.proofs.Finding.{answers, stays}
-use Rattle.mesh_layer.proofs.Reading.{no_source, source_read}
+use Rattle.mesh_layer.proofs.Reading.{no_source}
 use Rattle.mesh_layer.proofs.sources.source_rows.Goals as goal
 
 pub returns-then-has_two_underscores : goal.returns-then-has_two_underscores
