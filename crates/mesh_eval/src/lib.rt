@@ -16,4 +16,4 @@ mod queries;
 mod tables;
 mod ties;
 
-pub use queries::eval;
+pub use queries::{eval, exact_rows};

@@ -1,0 +1,86 @@
+use Rattle.std.proofs.Common.{◌≡◌, List, Some, map, take, sym, ap, ◌∙◌, subst, arith}
+use Rattle.std.proofs.lemmas.List.{take_all}
+use Rattle.mesh_values.specs.declared.values.Pair.{Pair}
+use Rattle.mesh_house.specs.declared.objects.Body.TheVariants.{Stored}
+use Rattle.mesh_house.specs.World.{object_at, body_of}
+use Rattle.mesh_shown.specs.Shown.{each_there, rows_through, target_table}
+use Rattle.mesh_layer.specs.Lost.{lost_behind, lost_through}
+use Rattle.mesh_layer.specs.Read.{IsFound}
+use Rattle.mesh_layer.proofs.Finding.{answers, and_then, by_read, part_fails, passes_on, read_is, stays, told_later}
+use Rattle.mesh_layer.proofs.Heights.{body_shown, first_at, lost_deeper, stored_shown, tables_found, tables_higher, tables_more}
+use Rattle.mesh_layer.proofs.walk.+walk.Goals as goal
+
+pub object_behind-returns-clause-finds : goal.object_behind-returns-clause-finds
+object_behind-returns-clause-finds g t c =
+    let there = c.in_ok-height.ensures.finds in
+    answers _ _ _ _ _ _ (and_then _ _ _ there.untouched (by_read _ _ _ _ c.in_ok-columns.ensures)) (λ w told given.
+    let here = there.ok w told given in
+    let columns = read_is _ _ _ _ c.in_ok-columns.ensures w (told_later _ _ w there.untouched told) in
+    let is : IsFound w c.args.name.now (record { height = c.in_ok-height.height; columns = c.in_ok-columns.columns; rows = c.in_ok-height.rows }) = record { rows = here.1; columns = sym columns } in
+    (c.in_ok-keep.ensures w here.0 is, is))
+
+pub rows_behind-returns-else-depth-eq0-clause-finds : goal.rows_behind-returns-else-depth-eq0-clause-finds
+rows_behind-returns-else-depth-eq0-clause-finds g t c =
+    passes_on _ _ _ _ _ _ _ _ _ c.stored_behind.result (by_read _ _ _ _ c.in_ok-body_at.ensures) c.stored_behind.ensures.finds (λ w told given.
+    let read = read_is _ _ _ _ c.in_ok-body_at.ensures w told in
+    let stored = c.in-Some-Stored.is in
+    let parts = c.in-Some-Stored.field-0-is in
+    let list = c.as_slice.ensures in
+    let here : body_of (object_at w c.args.name.now) ≡ Some (Stored c.in-Some-Stored.own c.as_slice.result.now) = cc in (
+      given,
+      λ x found. (found.0, body_shown w x.0 c.args.name.now (Stored c.in-Some-Stored.own c.as_slice.result.now) x.1 here found.1),
+      λ o is. lost_deeper w c.args.depth c.args.name.now (Stored c.in-Some-Stored.own c.as_slice.result.now) o (omega arith) here is,
+    ))
+
+pub stored_behind-returns-in_err-height-in-Some-clause-finds : goal.stored_behind-returns-in_err-height-in-Some-clause-finds
+stored_behind-returns-in_err-height-in-Some-clause-finds g t c =
+    part_fails _ _ _ _ _ _ _ _ _ c.in_err-height-in-Some.field-0.0 c.from_residual.result (stays _) c.in_err-height-in-Some.ensures.finds c.from_residual.ensures.1
+    (λ w told given. (given, λ o is. ap (lost_behind (lost_through c.args.depth w) c.args.name.now c.args.targets.now) (sym c.in-Some.ensures) ∙ is))
+
+pub stored_behind-returns-in_ok-rows-in-Some-clause-finds : goal.stored_behind-returns-in_ok-rows-in-Some-clause-finds
+stored_behind-returns-in_ok-rows-in-Some-clause-finds g t c =
+    let tables = c.in_ok-height-in-Some.ensures.finds in
+    let rows = c.in_ok-rows-in-Some.ensures in
+    answers _ _ _ _ _ _ (and_then _ _ _ tables.untouched rows.untouched) (λ w told given.
+    let here = tables.ok w told given in
+    let is = rows.ok w (told_later _ _ w tables.untouched told) given.plain in
+    (here.0, stored_shown w c.args.own.now c.args.targets.now _ c.in_ok-height-in-Some.height _ _ (sym c.in-Some.ensures) here.1 is))
+
+pub tables_behind-returns-in_err-found-clause-finds : goal.tables_behind-returns-in_err-found-clause-finds
+tables_behind-returns-in_err-found-clause-finds g t c =
+    let so_far = c.loop-target.invariant.1 in
+    let i = c.loop-target.target-index in
+    let targets = c.args.targets.now in
+    part_fails _ _ _ _ _ _ _ _ _ c.in_err-found.field-0.0 c.from_residual.result so_far.untouched c.in_err-found.ensures.finds c.from_residual.ensures.1
+    (λ w told given.
+    let here = so_far.told w told given in (
+      record { plain = given.plain; kept = here.0 },
+      λ o is. first_at (λ (p : Pair). lost_through c.args.depth w p.second) targets i c.target-item.result o (omega arith) c.target-item.is
+          (tables_found w c.args.depth (take i targets) c.loop-target.tables (tables_higher w c.loop-target.height c.args.depth c.loop-target.invariant.0 (take i targets) c.loop-target.tables here.1)) is,
+    ))
+
+pub tables_behind-loop-target-preserved : goal.tables_behind-loop-target-preserved
+tables_behind-loop-target-preserved g t c =
+    let so_far = c.loop-target.invariant.1 in
+    let i = c.loop-target.target-index in
+    let targets = c.args.targets.now in
+    let there = c.in_ok-found.ensures.finds in (
+      c.taller-height.ensures.least c.args.depth c.loop-target.invariant.0 c.in_ok-found.ensures.height,
+      record {
+        untouched = and_then _ _ _ so_far.untouched there.untouched;
+        told = λ w told given.
+            let here = so_far.told w told given in
+            let found = there.ok w (told_later _ _ w so_far.untouched told) (record { plain = given.plain; kept = here.0 }) in (
+              found.0,
+              tables_more w c.loop-target.height c.taller-height.result targets i c.target-item.result c.loop-target.tables c.in_ok-found.found c.taller-height.ensures.first c.taller-height.ensures.second (omega arith) c.target-item.is here.1 found.1
+                  ∙ ap Some (sym c.in_ok-push_table.ensures),
+            );
+      },
+    )
+
+pub tables_behind-returns-clause-finds : goal.tables_behind-returns-clause-finds
+tables_behind-returns-clause-finds g t c =
+    let so_far = c.loop-target.invariant.1 in
+    answers _ _ _ _ _ _ so_far.untouched (λ w told given.
+    let here = so_far.told w told given in
+    (here.0, subst (λ (l : List Pair). each_there (map (target_table (rows_through c.loop-target.height w) w) l) ≡ Some c.loop-target.tables) (take_all c.loop-target.target-index c.args.targets.now (omega arith)) here.1))

@@ -1,0 +1,18 @@
+//! What a warehouse shows. Its contract: `object_rows`, `show` and `ask` answer the rows that `mesh_shown` says a world
+//! shows, or the object that dangles, and change nothing; each object is read and computed once a call. It stands on
+//! `mesh_house`, `mesh_shown`, `mesh_eval` and the names of views in `mesh_changes`.
+#![tactic(auto)]
+
+mod faults;
+mod known;
+mod names;
+mod seen;
+mod shown;
+mod sources;
+mod views;
+mod walk;
+
+pub use faults::ShowFault;
+pub use shown::{LONGEST_CHAIN, ask, object_rows, show};
+pub use sources::source_tables;
+pub use views::view_in;

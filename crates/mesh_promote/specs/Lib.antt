@@ -1,0 +1,2 @@
+-- Promotion: the changes that give an environment its list and its views.
+pub mod Promotion
