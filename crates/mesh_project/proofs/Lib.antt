@@ -3,7 +3,6 @@ mod Among
 mod In
 mod Ranks
 mod Fits
-mod NameSets
 mod Steps
 mod Alone
 mod Loops
