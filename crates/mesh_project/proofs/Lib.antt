@@ -11,3 +11,5 @@ mod Whole
 mod Meant
 mod Single
 mod Kept
+mod Local
+mod Tables

@@ -45,6 +45,14 @@ known_to sources nodes places kind = record {
   macros = is_incremental kind;
 }
 
+-- the same over all models before it
+abbrev pub known_before : List Decl → List Node → Kind → Known
+known_before sources nodes kind = record {
+  models = map input_of nodes;
+  sources = sources;
+  macros = is_incremental kind;
+}
+
 abbrev pub ref_at : Option Node → List Ref
 ref_at None = []
 ref_at (Some n) = (record { name = n.own.name; fingerprint = n.fingerprint }) ∷ []
