@@ -1,12 +1,10 @@
 -- What a query means depends on what it names alone.
-use Rattle.std.proofs.Common.{◌≡◌, ℕ, suc, Bool, true, false, not, ◌&&◌, ◌||◌, cond, List, [], ◌∷◌, ◌++◌, map, fold, Option, None, Some, Result, Ok, Err, refl, sym, ap, ◌∙◌, subst}
-use Rattle.std.specs.List.{AllByRecursion, filter, flat_map, list_all, list_any, slice_get}
+use Rattle.std.proofs.Common.{◌≡◌, ℕ, Bool, true, false, not, ◌&&◌, ◌||◌, cond, List, [], ◌∷◌, ◌++◌, map, Option, None, Some, Result, Ok, Err, refl, sym, ap, ◌∙◌, subst}
+use Rattle.std.specs.List.{AllByRecursion, filter, flat_map, list_any}
 use Rattle.std.specs.Option.{is_some, option_map}
 use Rattle.std.specs.Ordering.{is_eq}
-use Rattle.mesh_list.specs.Keyed.{found, placed}
-use Rattle.mesh_list.proofs.Found.{found-placed}
-use Rattle.mesh_values.specs.Kinds.{is_incremental, time_column}
-use Rattle.mesh_values.specs.NameOrder.{names_exact}
+use Rattle.mesh_list.specs.Keyed.{found}
+use Rattle.mesh_values.specs.Kinds.{time_column}
 use Rattle.mesh_values.specs.Names.{name_cmp}
 use Rattle.mesh_values.specs.declared.kinds.Kind.{Kind}
 use Rattle.mesh_values.specs.declared.values.Column.{Column}
@@ -16,13 +14,11 @@ use Rattle.mesh_base.specs.Keys.{input_name}
 use Rattle.mesh_base.specs.Outputs.{select_columns}
 use Rattle.mesh_base.specs.declared.definitions.Decl.{Decl}
 use Rattle.mesh_base.specs.declared.definitions.Defn.TheVariants as body
-use Rattle.mesh_base.specs.declared.definitions.Own.{Own}
 use Rattle.mesh_base.specs.declared.jobs.Input.{Input}
 use Rattle.mesh_base.specs.declared.queries.Join.{Join}
 use Rattle.mesh_base.specs.declared.queries.Join.TheVariants as join
 use Rattle.mesh_base.specs.declared.queries.Query.{Query}
 use Rattle.mesh_base.specs.declared.queries.Select.{Select}
-use Rattle.mesh_base.specs.declared.snapshots.Node.{Node}
 use Rattle.mesh_rules.specs.Proper.{defn_names, is_among}
 use Rattle.mesh_model.specs.declared.model.ModelText.{ModelText}
 use Rattle.mesh_surface.specs.declared.expressions.OrExpr.{OrExpr}
@@ -37,7 +33,7 @@ use Rattle.mesh_surface.specs.declared.queries.SurfaceUnion.{SurfaceUnion}
 use Rattle.mesh_tokens.specs.Gives.{◌>>=◌}
 use Rattle.mesh_tokens.specs.Walk.{along, provided}
 use Rattle.mesh_tokens.specs.declared.faults.ReadFault.{ReadFault}
-use Rattle.mesh_types.specs.Faults.{duplicate, unwritten}
+use Rattle.mesh_types.specs.Faults.{duplicate}
 use Rattle.mesh_resolve.specs.declared.drawn.Drawing.{Drawing}
 use Rattle.mesh_resolve.specs.declared.known.Common.{Common}
 use Rattle.mesh_resolve.specs.declared.known.Known.{Known}
@@ -45,7 +41,7 @@ use Rattle.mesh_resolve.specs.Keys.{keys}
 use Rattle.mesh_resolve.specs.Outputs.{items}
 use Rattle.mesh_resolve.specs.Owns.{Behind, as_declared, body_of, in_order, is_read, own, query_body, sources_read, timed, with_body}
 use Rattle.mesh_resolve.specs.Queries.{cte, is_cte, one_select, resolved, selects, with_sides_alike}
-use Rattle.mesh_resolve.specs.Relations.{Found, columns_named, condition, conditional, dotted, drawing, drawn_from, found_relation, joined, model_columns, nothing_drawn, or_else, or_unknown, relation, relation_by, seeing_relation, selects_of, source_columns, unconditional}
+use Rattle.mesh_resolve.specs.Relations.{columns_named, condition, conditional, dotted, drawing, drawn_from, found_relation, joined, model_columns, nothing_drawn, or_else, or_unknown, relation, relation_by, seeing_relation, selects_of, source_columns, unconditional}
 use Rattle.mesh_resolve.specs.Selects.{is_grouped, resolved_as, right_keys, select, some_condition, walked}
 use Rattle.mesh_project.specs.Reads.{cte_reads, from_reads, join_reads, of_two_parts, query_reads, rel_reads, select_reads, text_reads, union_reads}
 use Rattle.mesh_project.proofs.Agree.{names_agree}

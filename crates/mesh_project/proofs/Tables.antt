@@ -3,11 +3,10 @@ use Rattle.std.proofs.Common.{◌≡◌, ℕ, suc, Bool, true, false, cond, List
 use Rattle.std.specs.List.{AllByRecursion, slice_get}
 use Rattle.std.specs.Option.{option_map}
 use Rattle.std.specs.Ordering.{is_eq}
-use Rattle.mesh_list.specs.Keyed.{found, placed}
+use Rattle.mesh_list.specs.Keyed.{found}
 use Rattle.mesh_list.proofs.Found.{found-placed}
 use Rattle.mesh_values.specs.NameOrder.{names_exact}
 use Rattle.mesh_values.specs.Names.{name_cmp}
-use Rattle.mesh_values.specs.declared.kinds.Kind.{Kind}
 use Rattle.mesh_values.specs.declared.values.Name.{Name}
 use Rattle.mesh_base.specs.Keys.{input_name}
 use Rattle.mesh_base.specs.declared.definitions.Decl.{Decl}
@@ -75,9 +74,11 @@ module _ (sources : List Decl) (nodes : List Node) (f : ModelFile) where
   each_alike : (names : List Name) → AllByRecursion (λ name. is_among (text_reads f.text.query) name ≡ true) names
       → AllByRecursion (Alike (known_to sources nodes (parents_of nodes f) f.text.kind) (known_before sources nodes f.text.kind) refl) names
   each_alike [] all = tt
-  each_alike (n ∷ ns) all =
-      (of_places nodes (text_reads f.text.query) n (named nodes (text_reads f.text.query)) (named_stand nodes (text_reads f.text.query))
-      ∙ ap (table_at nodes) (same_place nodes (text_reads f.text.query) n (place_of nodes n) refl all.0) ∙ sym (of_all nodes n), each_alike ns all.1)
+  each_alike (n ∷ ns) all = (
+    of_places nodes (text_reads f.text.query) n (named nodes (text_reads f.text.query)) (named_stand nodes (text_reads f.text.query))
+        ∙ ap (table_at nodes) (same_place nodes (text_reads f.text.query) n (place_of nodes n) refl all.0) ∙ sym (of_all nodes n),
+    each_alike ns all.1,
+  )
 
   pub named_suffice : own f.text f.seed (known_to sources nodes (parents_of nodes f) f.text.kind) ≡ own f.text f.seed (known_before sources nodes f.text.kind)
   named_suffice = own_same (known_to sources nodes (parents_of nodes f) f.text.kind) (known_before sources nodes f.text.kind) refl refl f.text f.seed (each_alike (text_reads f.text.query) (each_among (text_reads f.text.query)))
