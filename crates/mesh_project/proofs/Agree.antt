@@ -1,5 +1,5 @@
 -- A resolved query names the relations of two parts that its text names.
-use Rattle.std.proofs.Common.{◌≡◌, ℕ, suc, Bool, true, false, not, ◌&&◌, cond, List, [], ◌∷◌, ◌++◌, map, Option, None, Some, Result, Ok, Err, refl, sym, ap, ◌∙◌, append_assoc}
+use Rattle.std.proofs.Common.{◌≡◌, ℕ, suc, Bool, true, false, not, ◌&&◌, cond, List, [], ◌∷◌, ◌++◌, map, Option, None, Some, Result, Ok, refl, sym, ap, ◌∙◌, append_assoc}
 use Rattle.std.proofs.lemmas.List.{append-nil, map-append}
 use Rattle.std.specs.List.{flat_map, list_all, list_any}
 use Rattle.std.specs.Option.{option_map}
@@ -11,9 +11,9 @@ use Rattle.mesh_base.specs.declared.definitions.Defn.TheVariants as body
 use Rattle.mesh_base.specs.declared.queries.Join.{Join}
 use Rattle.mesh_base.specs.declared.queries.Join.TheVariants as join
 use Rattle.mesh_base.specs.declared.queries.Query.{Query}
-use Rattle.mesh_base.specs.declared.queries.Rel.TheVariants.{Named, Cte}
+use Rattle.mesh_base.specs.declared.queries.Rel.TheVariants.{Cte}
 use Rattle.mesh_base.specs.declared.queries.Select.{Select}
-use Rattle.mesh_rules.specs.Proper.{defn_names, from_names, names_of_all, rel_names, select_names, selects_names}
+use Rattle.mesh_rules.specs.Proper.{defn_names, names_of_all, rel_names, select_names, selects_names}
 use Rattle.mesh_surface.specs.declared.expressions.OrExpr.{OrExpr}
 use Rattle.mesh_surface.specs.declared.queries.Surface.{Surface}
 use Rattle.mesh_surface.specs.declared.queries.SurfaceCte.{SurfaceCte}

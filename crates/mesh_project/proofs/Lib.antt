@@ -3,7 +3,6 @@ mod Among
 mod In
 mod Ranks
 mod Fits
-mod NameSets
 mod Steps
 mod Alone
 mod Loops
@@ -12,3 +11,5 @@ mod Whole
 mod Meant
 mod Single
 mod Kept
+mod Local
+mod Tables

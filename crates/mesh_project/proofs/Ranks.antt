@@ -1,17 +1,16 @@
 -- What a model reads stands before it, and its rank is above that of each of its parents.
-use Rattle.std.proofs.Common.{◌≡◌, ◌⊎◌, inl, inr, ℕ, ◌+◌, ◌<◌, ◌≤◌, max, Bool, true, false, ◌&&◌, ◌||◌, cond, List, [], ◌∷◌, ◌++◌, map, length, Option, None, Some, refl, sym, ap, ◌∙◌, subst, arith}
-use Rattle.std.proofs.Math.Dec.{ltb}
+use Rattle.std.proofs.Common.{◌≡◌, ◌⊎◌, inl, inr, ℕ, ◌+◌, ◌<◌, ◌≤◌, max, Bool, true, false, ◌||◌, List, [], ◌∷◌, ◌++◌, map, length, Option, None, Some, refl, sym, ap, ◌∙◌, subst, arith}
 use Rattle.std.proofs.Math.Nat.{le-max_left, le-max_right, max-le}
 use Rattle.std.proofs.lemmas.Bool.{ltb-true, lt-ltb}
 use Rattle.std.proofs.lemmas.Cmp.{nat_cmp_total, on_total, then_total, tied_itself}
-use Rattle.std.specs.List.{AllByRecursion, AllZip, filter, flat_map, list_any, range_with_len, slice_get}
-use Rattle.std.proofs.lemmas.List.Elements.{All-get_or, recursion_from_All}
+use Rattle.std.specs.List.{AllByRecursion, AllZip, range_with_len, slice_get}
+use Rattle.std.proofs.lemmas.List.Elements.{recursion_from_All}
 use Rattle.std.specs.Option.{is_some}
 use Rattle.std.specs.Cmp.{IsTotalOrder, nat_cmp_is}
 use Rattle.std.specs.Ordering.{is_eq, nat_cmp, ordering_then}
 use Rattle.std.specs.declared.cmp.Ordering.{Ordering}
 use Rattle.std.specs.declared.cmp.Ordering.TheVariants.{Less, Equal, Greater}
-use Rattle.mesh_list.specs.Keyed.{ascends, found}
+use Rattle.mesh_list.specs.Keyed.{ascends}
 use Rattle.mesh_list.proofs.Ascends.{and_both, and_left, and_right}
 use Rattle.mesh_values.specs.NameOrder.{names_total}
 use Rattle.mesh_values.specs.Names.{name_cmp}
@@ -24,8 +23,8 @@ use Rattle.mesh_order.specs.declared.readers.Ranked.{Ranked}
 use Rattle.mesh_order.specs.declared.readers.Reader.{Reader}
 use Rattle.mesh_order.specs.Order.{AreApart, IsOrder, above, itself, name_at, parents, place, ranked_cmp, reader_at, reads}
 use Rattle.mesh_project.specs.declared.earlier.Place.{Place}
-use Rattle.mesh_project.specs.Earlier.{named, node_name, place_at, place_name, place_of}
-use Rattle.mesh_project.proofs.In.{In, all_below, all_of, fits_left, fits_right, in_contained, in_either, in_filter, in_found, in_got, in_left, in_map, in_range, in_right, below_range, of_all, of_filter, of_map}
+use Rattle.mesh_project.specs.Earlier.{named, place_at, place_name, place_of}
+use Rattle.mesh_project.proofs.In.{In, all_below, all_of, fits_left, fits_right, in_contained, in_either, in_filter, in_found, in_got, in_left, in_map, in_range, in_right, of_all, of_filter, of_map}
 use Rattle.mesh_project.proofs.Among.{IsAt, at_place_of, Stands, named_found, named_stand, names_of, place_is_there}
 
 -- one more than the greatest

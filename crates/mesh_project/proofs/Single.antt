@@ -1,5 +1,5 @@
 -- Files mean one thing: one project, or one first fault. Only want of memory and a failing folder say nothing.
-use Rattle.std.proofs.Common.{◌≡◌, ℕ, ◌<◌, List, [], length, get_or, map, Result, Ok, Err, refl, sym, ◌∙◌, ap, subst}
+use Rattle.std.proofs.Common.{◌≡◌, ℕ, List, [], get_or, map, Result, Ok, Err, refl, sym, ◌∙◌, ap, subst}
 use Rattle.std.proofs.lemmas.List.Elements.{Contains-get_or}
 use Rattle.mesh_values.specs.declared.values.Name.{Name}
 use Rattle.mesh_io.specs.declared.files.File.{File}
@@ -13,11 +13,10 @@ use Rattle.mesh_files.specs.declared.faults.LoadFault.{LoadFault}
 use Rattle.mesh_files.specs.declared.faults.LoadFault.TheVariants.{Fault, Folder, Memory}
 use Rattle.mesh_files.specs.declared.project.ProjectFiles.{ProjectFiles}
 use Rattle.mesh_files.specs.Loading.{◌>>=◌, Gives}
-use Rattle.mesh_files.specs.Project.{AreFiles}
 use Rattle.mesh_files.proofs.Once.{IsNews, Once, given, once, once_behind}
 use Rattle.mesh_files.proofs.Unique.{all_once}
 use Rattle.mesh_project.specs.Nodes.{nodes_of}
-use Rattle.mesh_project.specs.Project.{IsLoaded, IsMade, IsMeant, IsOrdered, TellsCycle, checked, cycle, meaning, reader_of}
+use Rattle.mesh_project.specs.Project.{IsLoaded, IsMade, IsMeant, IsOrdered, checked, cycle, meaning, reader_of}
 
 -- an order and a cycle don't go together
 never_both : (models : List Reader) (order : List Ranked) (names : List Name) → IsOrder models order → AreCyclic models names → ⊥

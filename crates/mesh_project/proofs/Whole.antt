@@ -1,8 +1,8 @@
 -- The models of files in order, each over those before it, are a proper project.
-use Rattle.std.proofs.Common.{◌≡◌, inl, ℕ, zero, suc, ◌<◌, ◌≤◌, Bool, true, false, ◌&&◌, ◌||◌, not, cond, List, [], ◌∷◌, ◌++◌, map, length, Option, None, Some, Result, Ok, Err, refl, sym, ap, ◌∙◌, subst, append_assoc, arith}
+use Rattle.std.proofs.Common.{◌≡◌, inl, ℕ, zero, suc, ◌<◌, ◌≤◌, Bool, true, false, ◌||◌, not, cond, List, [], ◌∷◌, ◌++◌, map, length, Option, None, Some, Result, Ok, Err, refl, sym, ap, ◌∙◌, subst, append_assoc, arith}
 use Rattle.std.proofs.lemmas.List.{append-nil, length-map}
 use Rattle.std.proofs.lemmas.Bool.{le-leb}
-use Rattle.std.specs.List.{AllByRecursion, AllZip, flat_map, list_all, slice_get, slice_index_or}
+use Rattle.std.specs.List.{AllByRecursion, AllZip, list_all, slice_get, slice_index_or}
 use Rattle.std.specs.Option.{is_some}
 use Rattle.std.specs.Ordering.{is_eq, is_lt}
 use Rattle.mesh_list.specs.Keyed.{ascends, below_first, found}
@@ -10,7 +10,6 @@ use Rattle.mesh_list.proofs.Ascends.{and_both, and_left, and_right}
 use Rattle.mesh_list.proofs.Each.{each_found}
 use Rattle.mesh_values.specs.NameOrder.{names_total}
 use Rattle.mesh_values.specs.Names.{name_cmp}
-use Rattle.mesh_values.specs.declared.values.Column.{Column}
 use Rattle.mesh_values.specs.declared.values.Name.{Name}
 use Rattle.mesh_values.specs.declared.values.Seed.{Seed}
 use Rattle.mesh_values.specs.Kinds.{time_column}
@@ -18,35 +17,33 @@ use Rattle.mesh_base.specs.Outputs.{select_columns}
 use Rattle.mesh_base.specs.declared.definitions.Decl.{Decl}
 use Rattle.mesh_base.specs.declared.definitions.Defn.TheVariants as body
 use Rattle.mesh_base.specs.declared.definitions.Own.{Own}
-use Rattle.mesh_base.specs.declared.queries.Query.{Query}
 use Rattle.mesh_base.specs.declared.snapshots.Node.{Node}
 use Rattle.mesh_rules.specs.declared.relations.Parent.{Parent}
 use Rattle.mesh_rules.specs.declared.relations.Relation.{Relation}
-use Rattle.mesh_rules.specs.Proper.{as_parent, defn_names, is_among, is_fit, is_proper, is_well_formed, parent_at, parents_at}
+use Rattle.mesh_rules.specs.Proper.{as_parent, defn_names, is_among, is_fit, is_proper, parent_at}
 use Rattle.mesh_rules.specs.Relations.{is_parent, parent_name, parent_relation, rank_over, relation_columns}
 use Rattle.mesh_model.specs.declared.model.ModelText.{ModelText}
 use Rattle.mesh_surface.specs.declared.queries.Surface.{Surface}
 use Rattle.mesh_tokens.specs.declared.faults.ReadFault.{ReadFault}
-use Rattle.mesh_tokens.specs.Gives.{◌>>=◌ as ◌onto◌}
 use Rattle.mesh_types.specs.Faults.{unwritten}
 use Rattle.mesh_resolve.specs.declared.known.Known.{Known}
-use Rattle.mesh_resolve.specs.Owns.{Behind, as_declared, body_of, is_seed, own, query_body, sources_read, timed, with_body}
+use Rattle.mesh_resolve.specs.Owns.{Behind, as_declared, body_of, own, query_body, sources_read, timed, with_body}
 use Rattle.mesh_resolve.specs.Queries.{resolved}
-use Rattle.mesh_resolve_laws.specs.Formed.{AreParentsAmong, IsReadModel, SaysAsItsFile}
+use Rattle.mesh_resolve_laws.specs.Formed.{AreParentsAmong, IsReadModel}
 use Rattle.mesh_resolve_laws.specs.Sight.{model_relation}
 use Rattle.mesh_resolve_laws.proofs.Files.{as_file}
 use Rattle.mesh_resolve_laws.proofs.Good.{Good, given, refused, then_good}
 use Rattle.mesh_resolve_laws.proofs.Whole.{well_formed}
 use Rattle.mesh_order.specs.declared.readers.Ranked.{Ranked}
 use Rattle.mesh_order.specs.declared.readers.Reader.{Reader}
-use Rattle.mesh_order.specs.Order.{AreApart, IsOrder, name_at, reader_at}
+use Rattle.mesh_order.specs.Order.{AreApart, IsOrder, reader_at}
 use Rattle.mesh_files.specs.declared.faults.LoadFault.{LoadFault}
 use Rattle.mesh_files.specs.declared.project.ModelFile.{ModelFile}
 use Rattle.mesh_files.specs.declared.project.ProjectFiles.{ProjectFiles}
 use Rattle.mesh_files.specs.Loading.{◌>>=◌, in_file}
 use Rattle.mesh_project.specs.declared.earlier.Place.{Place}
-use Rattle.mesh_project.specs.Earlier.{named, place_at, place_name}
-use Rattle.mesh_project.specs.Nodes.{IsWhole, input_at, inputs_at, known_to, model_over, node_over, nodes_of, own_over, parents_of, with_file, with_model}
+use Rattle.mesh_project.specs.Earlier.{named, place_name}
+use Rattle.mesh_project.specs.Nodes.{IsWhole, known_before, input_at, inputs_at, known_to, node_over, nodes_of, own_over, parents_of, with_file, with_model}
 use Rattle.mesh_project.specs.Project.{reader_of}
 use Rattle.mesh_project.specs.Reads.{text_reads}
 use Rattle.mesh_project.specs.Walk.{along}
@@ -54,6 +51,7 @@ use Rattle.mesh_project.proofs.Agree.{names_agree}
 use Rattle.mesh_project.proofs.Among.{IsAt, Stands, named_ascend, named_stand}
 use Rattle.mesh_project.proofs.Fits.{names_differ, new_fits, nodes_ascend, nodes_few, one_more_fits}
 use Rattle.mesh_project.proofs.In.{In, fits_push, in_got, in_right, of_all}
+use Rattle.mesh_project.proofs.Tables.{named_suffice}
 use Rattle.mesh_project.proofs.Ranks.{Fits, IsOf, each_of, parents_named, rank_fits, within}
 
 -- the names in a definition are those in its file
@@ -191,7 +189,7 @@ module _ (files : ProjectFiles) (order : List Ranked) (whole : AllByRecursion Is
     is_whole = of_all IsWhole files.models f whole (in_got files.models r.at f at)
 
     own_is : own f.text f.seed known ≡ Ok o
-    own_is = read_ok f.text.file (own f.text f.seed known) o given
+    own_is = named_suffice files.sources nodes f ∙ read_ok f.text.file (own f.text f.seed (known_before files.sources nodes f.text.kind)) o given
 
     abbrev node : Node
     node = node_over nodes r.rank (parents_of nodes f) o

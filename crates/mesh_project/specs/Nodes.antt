@@ -37,7 +37,15 @@ input_at (Some n) = input_of n ∷ []
 abbrev pub inputs_at : List Node → List Place → List Input
 inputs_at nodes places = flat_map (λ (p : Place). input_at (slice_get nodes p.at)) places
 
--- what the query of a model may read: the models that it names and the declared sources, with macros for an incremental model
+-- what the query of a model may read: the models before it and the declared sources, with macros for an incremental model
+abbrev pub known_before : List Decl → List Node → Kind → Known
+known_before sources nodes kind = record {
+  models = map input_of nodes;
+  sources = sources;
+  macros = is_incremental kind;
+}
+
+-- the same of the models at these places alone
 abbrev pub known_to : List Decl → List Node → List Place → Kind → Known
 known_to sources nodes places kind = record {
   models = inputs_at nodes places;
@@ -66,9 +74,9 @@ node_over nodes rank places own = record {
 abbrev pub parents_of : List Node → ModelFile → List Place
 parents_of nodes f = named nodes (text_reads f.text.query)
 
--- a model's own definition, over the models that it names and the declared sources
+-- a model's own definition, over the models before it and the declared sources
 abbrev pub own_over : List Decl → List Node → ModelFile → Result Own LoadFault
-own_over sources nodes f = in_file f.text.file (own f.text f.seed (known_to sources nodes (parents_of nodes f) f.text.kind))
+own_over sources nodes f = in_file f.text.file (own f.text f.seed (known_before sources nodes f.text.kind))
 
 abbrev pub model_over : List Decl → List Node → ℕ → ModelFile → Result Node LoadFault
 model_over sources nodes rank f = own_over sources nodes f >>= λ o. Ok (node_over nodes rank (parents_of nodes f) o)

@@ -1,6 +1,7 @@
 // The laws of projects. These functions compute nothing.
 ghost use Rattle.std.specs.Prelude.{◌≡◌, ◌≤◌, ℕ, List, length, map, Ok, true};
 ghost use Rattle.std.specs.List.{AllByRecursion};
+ghost use Rattle.mesh_base.specs.declared.definitions.Decl.{Decl};
 ghost use Rattle.mesh_base.specs.declared.definitions.Defn.TheVariants as body;
 ghost use Rattle.mesh_base.specs.declared.queries.Query.{Query};
 ghost use Rattle.mesh_base.specs.declared.snapshots.Node.{Node};
@@ -9,11 +10,13 @@ ghost use Rattle.mesh_tokens.specs.declared.faults.FaultKind.{FaultKind as Kinds
 ghost use Rattle.mesh_rules.specs.Proper.{ProjectNodes, defn_names, is_proper};
 ghost use Rattle.mesh_surface.specs.declared.queries.Surface.{Surface};
 ghost use Rattle.mesh_resolve.specs.declared.known.Known.{Known};
+ghost use Rattle.mesh_resolve.specs.Owns.{own};
 ghost use Rattle.mesh_resolve.specs.Queries.{resolved};
 ghost use Rattle.mesh_order.specs.declared.readers.Ranked.{Ranked};
 ghost use Rattle.mesh_order.specs.Order.{AreApart, IsOrder};
+ghost use Rattle.mesh_files.specs.declared.project.ModelFile.{ModelFile};
 ghost use Rattle.mesh_files.specs.declared.project.ProjectFiles.{ProjectFiles};
-ghost use Rattle.mesh_project.specs.Nodes.{IsWhole, nodes_of};
+ghost use Rattle.mesh_project.specs.Nodes.{IsWhole, known_before, known_to, nodes_of, parents_of};
 ghost use Rattle.mesh_project.specs.Project.{IsFirstFault, Loads, reader_of};
 ghost use Rattle.mesh_project.specs.Reads.{query_reads};
 
@@ -21,6 +24,12 @@ ghost use Rattle.mesh_project.specs.Reads.{query_reads};
 #[tactic(auto, using(crate::proofs::Agree::names_agree))]
 pub fn resolved_names_are_those_of_the_text()
     ensures { (known : Known) (surface : Surface) (query : Query) → resolved known surface ≡ Ok query → defn_names (body.Sql query) ≡ query_reads surface }
+{}
+
+/// A model's definition over the models that its query names is that over all models before it.
+#[tactic(auto, using(crate::proofs::Tables::named_suffice))]
+pub fn models_that_are_named_suffice()
+    ensures { (sources : List Decl) (nodes : List Node) (f : ModelFile) → own f.text f.seed (known_to sources nodes (parents_of nodes f) f.text.kind) ≡ own f.text f.seed (known_before sources nodes f.text.kind) }
 {}
 
 /// The models of files whose names differ, by rank and name, each over those before it, are a proper project.

@@ -170,7 +170,7 @@ fn learn(
     places: &[Place],
     kind: &Kind,
 ) -> Result<(), Memory>
-    ensures known { OnOk result (known.new ≡ known_to known.old.sources nodes.now places.now kind.now) }
+    ensures { OnOk result (known.new ≡ known_to known.old.sources nodes.now places.now kind.now) }
 {
     known.models = inputs_at(alloc, nodes, places)?;
     known.macros = is_incremental(kind);
@@ -187,6 +187,24 @@ fn own_in_file(alloc: Global, known: &Known, file: &ModelFile) -> Result<Own, Lo
     in_file(&file.text.file, own_of(alloc, &file.text, seed, known))
 }
 
+// A model's own definition, over the models that it names, which is that over all models before it.
+fn own_over(
+    alloc: Global,
+    known: &mut Known,
+    earlier: &Earlier,
+    places: &[Place],
+    file: &ModelFile,
+) -> Result<Own, LoadFault>
+    requires whole { IsWhole file.now }
+    requires named { places.now ≡ parents_of earlier.now file.now }
+    ensures gives { Gives result (own_over known.old.sources earlier.now file.now) }
+    ensures sources { OnOk result (known.new.sources ≡ known.old.sources) }
+    ensures alone { IsErrOf result fault.Folder → ⊥ }
+{
+    learn(alloc, known, earlier.as_slice(), places, &file.text.kind)?;
+    own_in_file(alloc, known, file)
+}
+
 // A model's node over those of the models before it.
 fn model_over(
     alloc: Global,
@@ -201,10 +219,8 @@ fn model_over(
     ensures alone { IsErrOf result fault.Folder → ⊥ }
 {
     let places = parents_of(alloc, earlier, file)?;
-    let nodes = earlier.as_slice();
-    learn(alloc, known, nodes, places.as_slice(), &file.text.kind)?;
-    let own = own_in_file(alloc, known, file)?;
-    Ok(node_over(alloc, nodes, rank, places.as_slice(), own)?)
+    let own = own_over(alloc, known, earlier, places.as_slice(), file)?;
+    Ok(node_over(alloc, earlier.as_slice(), rank, places.as_slice(), own)?)
 }
 
 // One model more behind those so far.

@@ -1,11 +1,10 @@
-use Rattle.std.proofs.Common.{◌≡◌, ◌≤◌, length, ◌∙◌, true, map, sym, ap, subst, List, Ok}
+use Rattle.std.proofs.Common.{◌≡◌, ◌≤◌, length, ◌∙◌, true, map, sym, ap, subst, Ok}
 use Rattle.std.proofs.lemmas.Result.{err_from_is_err_and}
-use Rattle.mesh_base.specs.declared.snapshots.Node.{Node}
 use Rattle.mesh_rules.specs.Proper.{is_proper}
 use Rattle.mesh_order.specs.Order.{AreApart, IsOrder}
 use Rattle.mesh_files.specs.Loading.{Refuses}
 use Rattle.mesh_project.specs.Nodes.{nodes_of}
-use Rattle.mesh_project.specs.Project.{IsOrdered, TellsCycle, reader_of}
+use Rattle.mesh_project.specs.Project.{TellsCycle, reader_of}
 use Rattle.mesh_project.proofs.Alone.{readers_apart}
 use Rattle.mesh_project.proofs.Meant.{are_alone, are_few, not_checked, not_ordered, not_resolved, all_resolved}
 use Rattle.mesh_project.proofs.Whole.{proper}

@@ -1,4 +1,3 @@
-use Rattle.std.proofs.Common.{◌∙◌, sym, ap}
 use Rattle.mesh_project.proofs.Places.{pushed_right, undone_right}
 use Rattle.mesh_project.proofs.earlier.Earlier.push.Goals as goal
 
