@@ -29,7 +29,8 @@ pub fn object_rows<W: Warehouse>(
     house: &mut W,
     name: &Name,
 ) -> Result<Rows, ShowFault>
-    ensures { Shows (λ w. object_rows w name.now) (λ w. lost_object w name.now) (W.told house.old) (W.told house.new) result }
+    ensures { Shows (λ w. object_rows w name.now) (λ w. lost_object w name.now)
+        (W.told house.old) (W.told house.new) result }
 {
     let mut known = Known::new(alloc);
     let (_, rows) = rows_behind(alloc, house, LONGEST_CHAIN, name, &mut known)?;
@@ -42,7 +43,8 @@ pub fn show<W: Warehouse>(
     house: &mut W,
     view: &Name,
 ) -> Result<Option<Rows>, ShowFault>
-    ensures { Shows (λ w. shown_view w view.now) (λ w. lost_view w view.now) (W.told house.old) (W.told house.new) result }
+    ensures { Shows (λ w. shown_view w view.now) (λ w. lost_view w view.now)
+        (W.told house.old) (W.told house.new) result }
 {
     match house.view(alloc, view)? {
         None => Ok(None),
@@ -61,7 +63,9 @@ fn view_table<W: Warehouse>(
     model: &Name,
     known: &mut Known,
 ) -> Result<Input, ShowFault>
-    ensures { Finds (λ w. Given w known.old) (λ w table. AreKnown w known.new × (view_table env.now w model.now ≡ Some table)) (λ w. lost_model env.now w model.now) (W.told house.old) (W.told house.new) result }
+    ensures { Finds (λ w. Given w known.old)
+        (λ w table. AreKnown w known.new × (view_table env.now w model.now ≡ Some table))
+        (λ w. lost_model env.now w model.now) (W.told house.old) (W.told house.new) result }
 {
     let name = view_in(alloc, env, model)?;
     match house.view(alloc, &name)? {
@@ -81,7 +85,9 @@ fn view_tables<W: Warehouse>(
     env: &Str,
     models: &[Name],
 ) -> Result<Inputs, ShowFault>
-    ensures { Finds (λ w. IsTrue (are_plain w.sources)) (λ w tables. each_there (map (view_table env.now w) models.now) ≡ Some tables) (λ w. first_of (map (lost_model env.now w) models.now)) (W.told house.old) (W.told house.new) result }
+    ensures { Finds (λ w. IsTrue (are_plain w.sources))
+        (λ w tables. each_there (map (view_table env.now w) models.now) ≡ Some tables)
+        (λ w. first_of (map (lost_model env.now w) models.now)) (W.told house.old) (W.told house.new) result }
 {
     let mut known = Known::new(alloc);
     let mut tables = Seq::new(alloc);
@@ -93,7 +99,8 @@ fn view_tables<W: Warehouse>(
 }
 
 /// The rows of a query over the views of an environment's models, by the book's list of it. The columns of each are those
-/// of the object that the view points at.
+/// of the object that the view points at. A relation that is none of these models, and a CTE that doesn't stand earlier,
+/// has neither columns nor rows.
 pub fn ask<W: Warehouse>(
     alloc: Global,
     house: &mut W,

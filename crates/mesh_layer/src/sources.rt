@@ -144,7 +144,9 @@ fn read_rows(
 
 /// The declared rows of a source, as the warehouse has it.
 fn source_rows<W: Warehouse>(alloc: Global, house: &mut W, decl: &Decl) -> Result<Rows, ShowFault>
-    ensures { Finds (λ w. IsTrue (are_plain w.sources)) (λ w rows. rows ≡ declared_rows decl.now.columns (source_named w.sources decl.now)) (λ w. None) (W.told house.old) (W.told house.new) result }
+    ensures { Finds (λ w. IsTrue (are_plain w.sources))
+        (λ w rows. rows ≡ declared_rows decl.now.columns (source_named w.sources decl.now))
+        (λ w. None) (W.told house.old) (W.told house.new) result }
 {
     if has_two_underscores(decl.name.schema.as_slice()) {
         return Ok(Seq::new(alloc));
@@ -158,7 +160,9 @@ fn source_rows<W: Warehouse>(alloc: Global, house: &mut W, decl: &Decl) -> Resul
 
 /// A declared source as a table.
 fn source_table<W: Warehouse>(alloc: Global, house: &mut W, decl: &Decl) -> Result<Input, ShowFault>
-    ensures { Finds (λ w. IsTrue (are_plain w.sources)) (λ w table. table ≡ declared w.sources decl.now) (λ w. None) (W.told house.old) (W.told house.new) result }
+    ensures { Finds (λ w. IsTrue (are_plain w.sources))
+        (λ w table. table ≡ declared w.sources decl.now)
+        (λ w. None) (W.told house.old) (W.told house.new) result }
 {
     let (name, columns) = both(&decl.name, &decl.columns)?;
     let rows = source_rows(alloc, house, decl)?;
@@ -175,7 +179,9 @@ pub fn source_tables<W: Warehouse>(
     house: &mut W,
     sources: &[Decl],
 ) -> Result<Inputs, ShowFault>
-    ensures { Finds (λ w. IsTrue (are_plain w.sources)) (λ w tables. tables ≡ map (declared w.sources) sources.now) (λ w. None) (W.told house.old) (W.told house.new) result }
+    ensures { Finds (λ w. IsTrue (are_plain w.sources))
+        (λ w tables. tables ≡ map (declared w.sources) sources.now)
+        (λ w. None) (W.told house.old) (W.told house.new) result }
 {
     let mut tables = Seq::new(alloc);
     for decl in sources {

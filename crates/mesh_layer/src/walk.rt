@@ -65,7 +65,9 @@ fn query_rows<W: Warehouse>(
     own: &Own,
     tables: Inputs,
 ) -> Result<Rows, ShowFault>
-    ensures { Finds (λ w. IsTrue (are_plain w.sources)) (λ w rows. rows ≡ Sel query.now (inputs w.sources own.now tables) no_bounds) (λ w. None) (W.told house.old) (W.told house.new) result }
+    ensures { Finds (λ w. IsTrue (are_plain w.sources))
+        (λ w rows. rows ≡ Sel query.now (inputs w.sources own.now tables) no_bounds)
+        (λ w. None) (W.told house.old) (W.told house.new) result }
 {
     let mut read = source_tables(alloc, house, own.sources.as_slice())?;
     read.append(tables)?;
@@ -113,7 +115,9 @@ pub(crate) fn rows_behind<W: Warehouse>(
     known: &mut Known,
 ) -> Result<(u64, Rows), ShowFault>
     ensures height { IfOk result (λ r. r.0 ≤ depth) }
-    ensures finds { Finds (λ w. Given w known.old) (λ w r. AreKnown w known.new × (rows_through r.0 w name.now ≡ Some r.1)) (λ w. lost_through depth w name.now) (W.told house.old) (W.told house.new) result }
+    ensures finds { Finds (λ w. Given w known.old)
+        (λ w r. AreKnown w known.new × (rows_through r.0 w name.now ≡ Some r.1))
+        (λ w. lost_through depth w name.now) (W.told house.old) (W.told house.new) result }
 {
     match body_at(alloc, house, name)? {
         None => Err(dangling(name)),
@@ -148,7 +152,8 @@ fn stored_behind<W: Warehouse>(
 ) -> Result<(u64, Rows), ShowFault>
     requires { depth + 1 < 2 ^ 64 }
     ensures height { IfOk result (λ r. r.0 ≤ depth + 1) }
-    ensures finds { Finds (λ w. Given w known.old) (λ w r. AreKnown w known.new × (body_through r.0 w (body.Stored own.now targets.now) ≡ Some r.1))
+    ensures finds { Finds (λ w. Given w known.old)
+        (λ w r. AreKnown w known.new × (body_through r.0 w (body.Stored own.now targets.now) ≡ Some r.1))
         (λ w. lost_in (lost_through depth w) name.now (Some (body.Stored own.now targets.now))) (W.told house.old) (W.told house.new) result }
 {
     match stored_query(own, targets) {
@@ -171,7 +176,8 @@ fn tables_behind<W: Warehouse>(
     known: &mut Known,
 ) -> Result<(u64, Inputs), ShowFault>
     ensures height { IfOk result (λ r. r.0 ≤ depth) }
-    ensures finds { Finds (λ w. Given w known.old) (λ w r. AreKnown w known.new × (each_there (map (target_table (rows_through r.0 w) w) targets.now) ≡ Some r.1))
+    ensures finds { Finds (λ w. Given w known.old)
+        (λ w r. AreKnown w known.new × (each_there (map (target_table (rows_through r.0 w) w) targets.now) ≡ Some r.1))
         (λ w. first_of (map (λ (t : Pair). lost_through depth w t.second) targets.now)) (W.told house.old) (W.told house.new) result }
 {
     let mut height = 0;
@@ -194,7 +200,9 @@ pub(crate) fn object_behind<W: Warehouse>(
     known: &mut Known,
 ) -> Result<Found, ShowFault>
     ensures height { IfOk result (λ f. f.height ≤ depth) }
-    ensures finds { Finds (λ w. Given w known.old) (λ w f. AreKnown w known.new × IsFound w name.now f) (λ w. lost_through depth w name.now) (W.told house.old) (W.told house.new) result }
+    ensures finds { Finds (λ w. Given w known.old)
+        (λ w f. AreKnown w known.new × IsFound w name.now f)
+        (λ w. lost_through depth w name.now) (W.told house.old) (W.told house.new) result }
 {
     if let Some(found) = known_at(known, depth, name)? {
         return Ok(found);
