@@ -1,0 +1,13 @@
+mod Places
+mod Among
+mod In
+mod Ranks
+mod Fits
+mod Steps
+mod Alone
+mod Loops
+mod Agree
+mod Whole
+mod Meant
+mod Single
+mod Kept

@@ -1,0 +1,53 @@
+-- The relations of two parts that the text of a query names, in its order.
+use Rattle.std.specs.Prelude.{ℕ, List, [], ◌∷◌, ◌++◌}
+use Rattle.std.specs.List.{flat_map}
+use Rattle.std.specs.declared.option.Option.{Option}
+use Rattle.std.specs.declared.option.Option.TheVariants.{None, Some}
+use Rattle.mesh_values.specs.declared.values.Name.{Name}
+use Rattle.mesh_surface.specs.declared.queries.Surface.{Surface}
+use Rattle.mesh_surface.specs.declared.queries.SurfaceCte.{SurfaceCte}
+use Rattle.mesh_surface.specs.declared.queries.SurfaceFrom.{SurfaceFrom}
+use Rattle.mesh_surface.specs.declared.queries.SurfaceJoin.{SurfaceJoin}
+use Rattle.mesh_surface.specs.declared.queries.SurfaceJoin.TheVariants.{Comma, Cross, Inner, Left}
+use Rattle.mesh_surface.specs.declared.queries.SurfaceRel.{SurfaceRel}
+use Rattle.mesh_surface.specs.declared.queries.SurfaceSelect.{SurfaceSelect}
+use Rattle.mesh_surface.specs.declared.queries.SurfaceUnion.{SurfaceUnion}
+
+-- a name of two parts, and nothing of one part, which is that of a CTE
+abbrev pub of_two_parts : Option (List ℕ) → List ℕ → List Name
+of_two_parts None name = []
+of_two_parts (Some schema) name = (record { schema = schema; model = name }) ∷ []
+
+abbrev pub rel_reads : SurfaceRel → List Name
+rel_reads r = of_two_parts r.schema r.name
+
+abbrev pub join_rel : SurfaceJoin → SurfaceRel
+join_rel (Comma at rel) = rel
+join_rel (Cross at rel) = rel
+join_rel (Inner at rel on) = rel
+join_rel (Left at rel on) = rel
+
+abbrev pub join_reads : SurfaceJoin → List Name
+join_reads j = rel_reads (join_rel j)
+
+abbrev pub from_reads : Option SurfaceFrom → List Name
+from_reads None = []
+from_reads (Some from) = rel_reads from.first ++ flat_map join_reads from.joins
+
+abbrev pub select_reads : SurfaceSelect → List Name
+select_reads s = from_reads s.from
+
+abbrev pub union_reads : SurfaceUnion → List Name
+union_reads u = flat_map select_reads u.selects
+
+abbrev pub cte_reads : SurfaceCte → List Name
+cte_reads c = union_reads c.body
+
+-- those in the CTEs, and then those in what is selected
+abbrev pub query_reads : Surface → List Name
+query_reads q = flat_map cte_reads q.ctes ++ union_reads q.body
+
+-- the same of a model, which has no query where it is a SEED
+abbrev pub text_reads : Option Surface → List Name
+text_reads None = []
+text_reads (Some query) = query_reads query

@@ -1,0 +1,25 @@
+//! Whole projects: the files of a folder, whatever forms their models have, as models by rank and name. Its contract: `load`
+//! gives the project that the relation `IsLoaded` says of the files of a folder, or their first fault with its file and
+//! place, and a project is proper by its type's rule: that a resolved query names the relations that its text names, and
+//! that the models in order are a proper project, are laws. It stands on `mesh_files` for the files, on `mesh_order` for
+//! ranks and cycles, on `mesh_resolve` with `mesh_resolve_laws` for definitions, and on `mesh_canon_text` and
+//! `mesh_fingerprint` for fingerprints.
+#![tactic(auto)]
+
+mod apart;
+mod earlier;
+mod laws;
+mod nodes;
+mod order;
+mod project;
+mod reads;
+
+pub use apart::are_apart;
+pub use earlier::{Earlier, Place, named};
+pub use laws::{
+    files_are_one_project, models_in_order_are_a_project, resolved_names_are_those_of_the_text,
+};
+pub use nodes::nodes_of;
+pub use order::ordered;
+pub use project::{load, project_of};
+pub use reads::text_reads;
