@@ -30,8 +30,7 @@ def layers(width, height):
     made = []
     for rank in range(height):
         for place in range(width):
-            names = [f"s.m{rank - 1:02}_{(place * k + k) % width:02}" for k in (1, 3, 5)]
-            names = sorted(set(names))
+            names = [f"s.m{rank - 1:02}_{(place + k) % width:02}" for k in (0, 1, 7)]
             joins = " CROSS JOIN ".join(f"{name} AS p{k}" for k, name in enumerate(names))
             made.append(text(f"m{rank:02}_{place:02}", f"SELECT p0.x AS x FROM {joins}" if rank else "SELECT 1 AS x"))
     return made
