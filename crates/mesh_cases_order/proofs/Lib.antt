@@ -1,2 +1,0 @@
--- Different: names that differ.
-pub mod Different
