@@ -1,5 +1,5 @@
-// The changes are made one by one.
-ghost use Rattle.std.specs.Prelude.{◌≡◌, length, IfOk, OnOk, IsTrue};
+// The changes of a promotion are made.
+ghost use Rattle.std.specs.Prelude.{◌≡◌, length, IfOk, IsTrue};
 ghost use Rattle.mesh_list.specs.Counts.{risen};
 ghost use Rattle.mesh_book.specs.WellFormed.{is_moment};
 ghost use Rattle.mesh_house.specs.Runs.{Makes};
@@ -8,25 +8,10 @@ ghost use Rattle.mesh_promote.specs.Promotion.{promotion};
 use crate::changes::promotion;
 use mesh_base::Refs;
 use mesh_book::Book;
-use mesh_house::{Change, Warehouse, WhFail};
+use mesh_house::{Warehouse, WhFail};
+use mesh_making::make_counted;
 use mesh_values::{Names, Str};
 use std::alloc::Global;
-
-/// Makes the changes of a list, each once and in its order, up to the first that fails, and answers their number.
-fn make_counted<W: Warehouse>(
-    alloc: Global,
-    house: &mut W,
-    list: &[Change],
-) -> Result<u64, WhFail>
-    ensures makes { Makes (λ w. list.now) (W.told house.old) (W.told house.new) result }
-    ensures number { IfOk result (λ made. made ≡ length list.now) }
-    ensures calls { IfOk result (λ made. (W.told house.new).calls ≡ risen made (W.told house.old).calls) }
-{
-    for change in list {
-        house.change(alloc, change)?;
-    }
-    Ok(list.len() as u64)
-}
 
 /// Gives the environment the list, points the view of each of its models at that model's object, drops the views of the
 /// models that it had before and has no more, and finalizes it. The environment's record is that of this book, which was
