@@ -1,5 +1,5 @@
 //! What a warehouse shows. Its contract: `object_rows`, `show` and `ask` answer the rows that `mesh_shown` says a world
-//! shows, or the object that dangles, and change nothing; each object is read and computed once a call. It stands on
+//! shows, or the object that dangles, and change nothing. It stands on
 //! `mesh_house`, `mesh_shown`, `mesh_eval` and the names of views in `mesh_changes`.
 #![tactic(auto)]
 
