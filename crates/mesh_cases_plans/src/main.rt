@@ -1,10 +1,13 @@
-//! Projects as data: what their models read, which aren't steady, which may be evaluated for several units at once, and how
-//! they stand to the models of another project. Each line of `data/cases.txt` is a call, but for empty lines and those that
+//! Projects as data: whether they load, what their models read, which aren't steady, which may be evaluated for several units
+//! at once, and how they stand to the models of another project. Each line of `data/cases.txt` is a call, but for empty lines and those that
 //! begin with `#`; what must be printed stands in the crate's `stdout`, and was worked out by hand. In a line `\n` is a line
 //! feed and `{N TEXT}` a text N times, in which `#` is the number of the copy.
-//! - `sources | FILE` makes the sources known that a file declares;
-//! - `project` begins a project, which is compared with the one before it;
-//! - `model | FILE` adds a model by the text of its file; a seed has no rows, and the models stand by rank and name;
+//! - `file PATH | TEXT` puts a file into the folder, and `gone PATH` takes one out; `empty` begins with no file;
+//! - `sources | FILE` puts the file there that declares the sources;
+//! - `model | FILE` puts a further model there, by the text of its file;
+//! - `project` begins a project that is compared with the one before it; files that `file` put there stay;
+//! - `load DIR` loads the project in a folder, `.` where there is no DIR, and shows how many models it has, or its first fault;
+//! - `changed` shows the models that the project before doesn't have with the same fingerprint;
 //! - `lattice W H` adds W times H incremental models in H ranks, each over all of the rank below it, which are joined and
 //!   bound to the unit, and `wider W H` the same with a column more in each;
 //! - `reads NAME` shows the columns that a model reads, `joinable NAME` whether several of its units are evaluated at once;
@@ -12,14 +15,14 @@
 //! - `categories` shows the category of each model, and the models that are gone;
 //! - `count` shows how many models of each category there are, and `readings` how many columns all models read.
 //!
-//! A number behind one of the last four makes it be asked so often, of one project.
+//! A number behind one of the last four makes it be asked so often, of one project. `read DIR` is `load DIR` of a folder that
+//! lies beside the cases.
 //!
-//! `bench/plan.py` runs the program where its own cases lie.
+//! `bench/plan.py` and `bench/project.py` run the program where their own cases lie.
 #![tactic(auto)]
 
 mod lattice;
-mod models;
-mod nodes;
+mod loads;
 mod shown;
 mod stage;
 
@@ -37,7 +40,7 @@ fn run(
 ) -> Result<(), Trouble> {
     let file = file_of(alloc, data, b"cases.txt")?;
     for line in cases_of(alloc, file.as_slice())? {
-        stage.line(alloc, line, report)?;
+        stage.line(alloc, data, line, report)?;
     }
     Ok(())
 }

@@ -1,6 +1,7 @@
 // How names and categories are shown.
 use mesh_base::{Categories, Category, Node, Reading};
 use mesh_cases::{Trouble, put_count};
+use mesh_rules::Project;
 use mesh_values::{Name, Pair};
 use std::alloc::Global;
 
@@ -81,6 +82,38 @@ pub fn put_categories(
     }
     for name in found.removed.as_slice() {
         put_removed(report, name)?;
+    }
+    Ok(())
+}
+
+/// Whether one of these models has the name and the fingerprint of this one.
+fn is_there(nodes: &[Node], node: &Node) -> bool {
+    for other in nodes {
+        if other.own.name.compare(&node.own.name).is_eq() {
+            return other.fingerprint == node.fingerprint;
+        }
+    }
+    false
+}
+
+fn is_as_before(base: Option<&Project>, node: &Node) -> bool {
+    match base {
+        Some(base) => is_there(base.as_slice(), node),
+        None => false,
+    }
+}
+
+/// Adds the models that the project before doesn't have with the same fingerprint.
+pub fn put_changed(
+    report: &mut Vec<u8>,
+    nodes: &[Node],
+    base: Option<&Project>,
+) -> Result<(), Trouble> {
+    for node in nodes {
+        if !is_as_before(base, node) {
+            put_begin(report)?;
+            put_name(report, &node.own.name)?;
+        }
     }
     Ok(())
 }

@@ -1,30 +1,38 @@
 // What the lines of the cases act on, one after another.
 use crate::lattice::{model_text, sizes};
-use crate::models::definition;
-use crate::nodes::{Places, node_of};
-use crate::shown::{put_categories, put_counts, put_pairs, put_readings};
-use mesh_base::{Categories, Node, Nodes, Own, Sources};
+use crate::loads::{loaded, put_loaded};
+use crate::shown::{put_categories, put_changed, put_counts, put_pairs, put_readings};
+use mesh_base::{Categories, Node, Own};
 use mesh_cases::{Trouble, filled, front_word, number_of, put_count};
 use mesh_category::categorize;
-use mesh_external::read_external;
+use mesh_io::{DirFolder, File, MemFolder};
 use mesh_lineage::{joinable, reads, unsteady};
-use mesh_list::{Duplicate, Seq};
+use mesh_list::{Duplicate, Memory, Seq};
 use mesh_rules::Project;
-use mesh_values::{Name, Str};
+use mesh_values::Str;
 use std::alloc::Global;
-use std::collections::BTreeMap;
 
-/// The declared sources, the models so far, and the project before them.
+/// The files of a project, how many models are numbered, the project once it was loaded, and the one before it.
 #[derive(Drop)]
 pub struct Stage {
-    sources: Sources,
-    nodes: Nodes,
-    places: Places,
+    folder: MemFolder,
+    models: i64,
+    made: Option<Project>,
     base: Option<Project>,
 }
 
 fn is(word: &[u8], other: &[u8]) -> bool {
     word == other
+}
+
+fn empty_folder(alloc: Global) -> MemFolder {
+    MemFolder::new(Seq::new(alloc), Seq::new(alloc))
+}
+
+/// The file of a model by its number.
+fn path_of(alloc: Global, number: i64) -> Result<Str, Trouble> {
+    let path = format!(in alloc; "models/m{number:06}.sql")?;
+    Ok(u8::copy_items(alloc, path.as_bytes())?)
 }
 
 /// Adds how many columns all models read.
@@ -46,10 +54,19 @@ fn is_named(own: &Own, text: &[u8]) -> bool {
     }
 }
 
-/// Where the rank begins that so many models end with.
-fn place_of_rank(models: usize, width: i64) -> Result<usize, Trouble> {
-    let width = usize::try_from(width).map_err(|_| Trouble::Case)?;
-    Ok(models.saturating_sub(width))
+/// The model of that name.
+fn model<'a>(project: &'a Project, text: &[u8]) -> Result<&'a Node, Trouble> {
+    for node in project.as_slice() {
+        if is_named(&node.own, text) {
+            return Ok(node);
+        }
+    }
+    Err(Trouble::Case)
+}
+
+fn put_joinable(report: &mut Vec<u8>, own: &Own) -> Result<(), Trouble> {
+    let word: &[u8] = if joinable(own)? { b" yes" } else { b" no" };
+    Ok(report.extend_from_slice(word)?)
 }
 
 /// How often a line asks: once where it doesn't say.
@@ -61,6 +78,11 @@ fn times_of(text: &[u8]) -> Result<i64, Trouble> {
     }
 }
 
+/// The folder that a line names: the folder itself where it names none.
+fn dir_of(text: &[u8]) -> &[u8] {
+    if text.is_empty() { b"." } else { text }
+}
+
 /// What stands behind the bar of a line.
 fn behind_bar(text: &[u8]) -> Result<&[u8], Trouble> {
     text.strip_prefix(b"| ").ok_or(Trouble::Case)
@@ -69,50 +91,42 @@ fn behind_bar(text: &[u8]) -> Result<&[u8], Trouble> {
 impl Stage {
     pub fn new(alloc: Global) -> Stage {
         Stage {
-            sources: Sources::new(alloc),
-            nodes: Nodes::new(alloc),
-            places: BTreeMap::new(alloc),
+            folder: empty_folder(alloc),
+            models: 0,
+            made: None,
             base: None,
         }
     }
 
-    /// The model of that name.
-    fn model(&self, text: &[u8]) -> Result<&Node, Trouble> {
-        for node in self.nodes.as_slice() {
-            if is_named(&node.own, text) {
-                return Ok(node);
-            }
-        }
-        Err(Trouble::Case)
-    }
-
-    /// Adds a model over those from a place on.
-    fn add_over(&mut self, alloc: Global, from: usize, text: &[u8]) -> Result<(), Trouble> {
-        let nodes = self.nodes.as_slice();
-        let seen = nodes.get(from..).ok_or(Trouble::Case)?;
-        let own = definition(alloc, seen, &self.sources, text)?;
-        let node = node_of(alloc, nodes, &self.places, own)?;
-        self.push(node)
-    }
-
-    fn note(&mut self, name: &Name) -> Result<(), Trouble> {
-        let place = u32::try_from(self.nodes.len()).map_err(|_| Trouble::Case)?;
-        self.places.insert(name.copy()?, place)?;
-        Ok(())
-    }
-
-    fn push(&mut self, node: Node) -> Result<(), Trouble> {
-        self.note(&node.own.name)?;
-        Ok(self.nodes.push(node)?)
+    fn write(&mut self, path: Str, bytes: Str) -> Result<(), Memory> {
+        self.made = None;
+        self.folder.write(File { path, bytes })
     }
 
     fn add(&mut self, alloc: Global, text: &[u8]) -> Result<(), Trouble> {
-        self.add_over(alloc, 0, text)
+        let path = path_of(alloc, self.models)?;
+        let bytes = u8::copy_items(alloc, text)?;
+        self.models = self.models.saturating_add(1);
+        Ok(self.write(path, bytes)?)
+    }
+
+    fn add_file(&mut self, alloc: Global, text: &[u8]) -> Result<(), Trouble> {
+        let (path, rest) = front_word(text);
+        let bytes = u8::copy_items(alloc, behind_bar(rest)?)?;
+        let path = u8::copy_items(alloc, path)?;
+        Ok(self.write(path, bytes)?)
     }
 
     fn add_sources(&mut self, alloc: Global, text: &[u8]) -> Result<(), Trouble> {
-        let text: Str = Seq::from_vec(Vec::from_slice(alloc, text)?);
-        self.sources = read_external(&text).map_err(|_| Trouble::Case)?;
+        let path = u8::copy_items(alloc, b"external_models.csv")?;
+        let bytes = u8::copy_items(alloc, text)?;
+        Ok(self.write(path, bytes)?)
+    }
+
+    fn take_out(&mut self, alloc: Global, path: &[u8]) -> Result<(), Trouble> {
+        let path = u8::copy_items(alloc, path)?;
+        self.made = None;
+        self.folder.delete(&path);
         Ok(())
     }
 
@@ -123,10 +137,9 @@ impl Stage {
         rank: i64,
         is_wider: bool,
     ) -> Result<(), Trouble> {
-        let seen = place_of_rank(self.nodes.len(), width)?;
         for place in 0..width {
             let text = model_text(alloc, width, rank, place, is_wider)?;
-            self.add_over(alloc, seen, text.as_slice())?;
+            self.add(alloc, text.as_slice())?;
         }
         Ok(())
     }
@@ -139,25 +152,30 @@ impl Stage {
         Ok(())
     }
 
-    /// The project of the models so far.
+    /// The project, which is loaded where it wasn't yet.
     fn project(&mut self, alloc: Global) -> Result<Project, Trouble> {
-        let nodes = std::mem::replace(&mut self.nodes, Nodes::new(alloc));
-        Project::new(nodes)?.ok_or(Trouble::Case)
+        match self.made.take() {
+            Some(project) => Ok(project),
+            None => loaded(alloc, &mut self.folder),
+        }
     }
 
-    /// Asks something of the project, which stays.
-    fn asked(
-        &mut self,
-        alloc: Global,
-        word: &[u8],
-        text: &[u8],
-        report: &mut Vec<u8>,
-    ) -> Result<(), Trouble> {
-        let times = times_of(text)?;
-        let project = self.project(alloc)?;
-        let done = self.put_often(alloc, word, times, &project, report);
-        self.nodes = project.nodes;
-        done
+    /// Begins a project that is compared with this one. Its numbered models are gone, other files stay.
+    fn begin(&mut self, alloc: Global) -> Result<(), Trouble> {
+        self.base = Some(self.project(alloc)?);
+        for number in 0..self.models {
+            let path = path_of(alloc, number)?;
+            self.folder.delete(&path);
+        }
+        self.models = 0;
+        Ok(())
+    }
+
+    fn begin_empty(&mut self, alloc: Global) {
+        self.folder = empty_folder(alloc);
+        self.models = 0;
+        self.made = None;
+        self.base = None;
     }
 
     fn categories(&self, project: &Project) -> Result<Categories, Trouble> {
@@ -193,6 +211,8 @@ impl Stage {
             put_read(alloc, report, project.as_slice())
         } else if is(word, b"count") {
             put_counts(alloc, report, &self.categories(project)?)
+        } else if is(word, b"changed") {
+            put_changed(report, project.as_slice(), self.base.as_ref())
         } else {
             Err(Trouble::Case)
         }
@@ -204,13 +224,18 @@ impl Stage {
             self.add_sources(alloc, behind_bar(text)?)?;
         } else if is(word, b"model") {
             self.add(alloc, behind_bar(text)?)?;
+        } else if is(word, b"file") {
+            self.add_file(alloc, text)?;
+        } else if is(word, b"gone") {
+            self.take_out(alloc, text)?;
         } else if is(word, b"lattice") {
             self.add_lattice(alloc, text, false)?;
         } else if is(word, b"wider") {
             self.add_lattice(alloc, text, true)?;
         } else if is(word, b"project") {
-            self.base = Some(self.project(alloc)?);
-            self.places = BTreeMap::new(alloc);
+            self.begin(alloc)?;
+        } else if is(word, b"empty") {
+            self.begin_empty(alloc);
         } else {
             return Ok(false);
         }
@@ -219,21 +244,49 @@ impl Stage {
 
     /// Adds what a line asks of one model, or of the project.
     fn answer(
+        &self,
+        alloc: Global,
+        word: &[u8],
+        text: &[u8],
+        project: &Project,
+        report: &mut Vec<u8>,
+    ) -> Result<(), Trouble> {
+        if is(word, b"reads") {
+            put_readings(report, reads(&model(project, text)?.own)?.as_slice())
+        } else if is(word, b"joinable") {
+            put_joinable(report, &model(project, text)?.own)
+        } else {
+            self.put_often(alloc, word, times_of(text)?, project, report)
+        }
+    }
+
+    /// Asks something of the project, which stays.
+    fn asked(
         &mut self,
         alloc: Global,
         word: &[u8],
         text: &[u8],
         report: &mut Vec<u8>,
     ) -> Result<(), Trouble> {
-        if is(word, b"reads") {
-            put_readings(report, reads(&self.model(text)?.own)?.as_slice())
-        } else if is(word, b"joinable") {
-            let word: &[u8] = if joinable(&self.model(text)?.own)? {
-                b" yes"
-            } else {
-                b" no"
-            };
-            Ok(report.extend_from_slice(word)?)
+        let project = self.project(alloc)?;
+        let done = self.answer(alloc, word, text, &project, report);
+        self.made = Some(project);
+        done
+    }
+
+    /// Adds what loading a project gives, that of these files or one of the data.
+    fn says(
+        &mut self,
+        alloc: Global,
+        data: &mut DirFolder,
+        word: &[u8],
+        text: &[u8],
+        report: &mut Vec<u8>,
+    ) -> Result<(), Trouble> {
+        if is(word, b"load") {
+            put_loaded(alloc, &mut self.folder, dir_of(text), report)
+        } else if is(word, b"read") {
+            put_loaded(alloc, data, dir_of(text), report)
         } else {
             self.asked(alloc, word, text, report)
         }
@@ -243,6 +296,7 @@ impl Stage {
     pub fn line(
         &mut self,
         alloc: Global,
+        data: &mut DirFolder,
         line: &[u8],
         report: &mut Vec<u8>,
     ) -> Result<(), Trouble> {
@@ -252,7 +306,7 @@ impl Stage {
             return Ok(());
         }
         report.extend_from_slice(line)?;
-        self.answer(alloc, word, text.as_slice(), report)?;
+        self.says(alloc, data, word, text.as_slice(), report)?;
         report.push(b'\n')?;
         Ok(())
     }

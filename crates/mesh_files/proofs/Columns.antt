@@ -1,9 +1,8 @@
 -- No two columns of a seed have one name.
-use Rattle.std.proofs.Common.{◌≡◌, ℕ, ◌+◌, Bool, true, false, cond, ◌&&◌, ◌||◌, not, nat_le, List, [], ◌∷◌, ◌++◌, map, length, Result, Ok, refl, sym, ◌∙◌, ap, subst}
+use Rattle.std.proofs.Common.{◌≡◌, ℕ, ◌+◌, Bool, true, false, cond, ◌&&◌, ◌||◌, not, nat_le, List, [], ◌∷◌, ◌++◌, map, length, Ok, refl, sym, ◌∙◌, ap, subst}
 use Rattle.std.proofs.lemmas.List.{append_assoc}
 use Rattle.std.proofs.lemmas.List.Folds.{list_any-append}
 use Rattle.std.specs.List.{list_any}
-use Rattle.std.specs.declared.option.Option.{Option}
 use Rattle.std.specs.declared.option.Option.TheVariants.{None, Some}
 use Rattle.csv.specs.Reading.{default_config, records, strip_bom}
 use Rattle.mesh_list.proofs.Ascends.{and_left, and_right, and_both}
@@ -12,7 +11,6 @@ use Rattle.mesh_values.specs.declared.values.ColType.{ColType}
 use Rattle.mesh_values.specs.declared.values.Seed.{Seed}
 use Rattle.mesh_values.specs.Picked.{same_text}
 use Rattle.mesh_rules.specs.Seen.{has_column, are_distinct}
-use Rattle.mesh_tokens.specs.declared.faults.ReadFault.{ReadFault}
 use Rattle.mesh_csv.specs.Cells.{Record}
 use Rattle.mesh_values.specs.Names.{is_identifier}
 use Rattle.mesh_csv.specs.Headers.{bad_row, long_name, longest_name, many_columns, most_columns, name_fault, names_fault, header_fault, header_names, is_among, lowered}

@@ -1,9 +1,9 @@
 -- Each model's file that is read keeps what it has to.
-use Rattle.std.proofs.Common.{◌≡◌, ℕ, Bool, true, false, cond, ◌&&◌, not, nat_eq, List, [], ◌∷◌, ◌++◌, Result, Ok, Err, IfOk, refl, sym, ◌∙◌, ap, subst}
+use Rattle.std.proofs.Common.{◌≡◌, ℕ, Bool, true, false, cond, ◌&&◌, not, nat_eq, List, [], ◌∷◌, Result, Ok, Err, IfOk, refl, sym, ◌∙◌, ap, subst}
 use Rattle.std.proofs.lemmas.List.Elements.{All-push}
 use Rattle.std.specs.Prelude.{IfSome}
 use Rattle.std.specs.List.{All, ends_with}
-use Rattle.std.specs.Option.{ForSome, is_some}
+use Rattle.std.specs.Option.{is_some}
 use Rattle.std.specs.declared.option.Option.{Option}
 use Rattle.std.specs.declared.option.Option.TheVariants.{None, Some}
 use Rattle.mesh_list.proofs.Ascends.{and_left, and_right, and_both}
@@ -18,7 +18,7 @@ use Rattle.mesh_rules.specs.Seen.{are_distinct}
 use Rattle.mesh_model.specs.declared.model.ModelText.{ModelText}
 use Rattle.mesh_tokens.specs.declared.faults.ReadFault.{ReadFault}
 use Rattle.mesh_tokens.specs.declared.faults.ReadFault.TheVariants as read
-use Rattle.mesh_text.specs.Complete.{is_word, is_model_name, has_its_query, has_its_start, looks_back_shortly, is_complete}
+use Rattle.mesh_text.specs.Complete.{is_word, is_model_name, has_its_query, has_its_start, is_complete}
 use Rattle.mesh_text.specs.ModelTexts.{is_seed_kind, is_timed}
 use Rattle.mesh_text.specs.Reads.{IsModelRead}
 use Rattle.mesh_text.proofs.Completed.{model_complete}

@@ -2,7 +2,6 @@
 use Rattle.std.proofs.Common.{◌≡◌, ℕ, List, Result, Ok, Err, refl}
 use Rattle.std.specs.Prelude.{IsErrOf}
 use Rattle.std.specs.Result.{IsErrAnd}
-use Rattle.mesh_io.specs.declared.files.File.{File}
 use Rattle.mesh_io.specs.Told.{FolderTold}
 use Rattle.mesh_files.specs.declared.faults.LoadFault.{LoadFault}
 use Rattle.mesh_files.specs.declared.faults.LoadFault.TheVariants.{Fault, Folder, Memory}

@@ -1,5 +1,5 @@
 -- A model's file names a path exactly where its kind is SEED.
-use Rattle.std.proofs.Common.{◌≡◌, ℕ, Bool, true, false, cond, not, List, [], ◌∷◌, codes, length, take, drop, Result, Ok, Err, IfOk, ℤ, refl, subst}
+use Rattle.std.proofs.Common.{◌≡◌, ℕ, Bool, true, false, cond, not, List, [], ◌∷◌, codes, take, Result, Ok, Err, IfOk, ℤ, refl, subst}
 use Rattle.std.specs.Option.{is_some, unwrap_or}
 use Rattle.std.specs.Str.{bytes_eq}
 use Rattle.std.specs.declared.option.Option.{Option}
@@ -15,7 +15,7 @@ use Rattle.mesh_statement.specs.declared.kinds.KindText.{KindText}
 use Rattle.mesh_statement.specs.declared.kinds.KindWord.{KindWord}
 use Rattle.mesh_statement.specs.declared.kinds.KindWord.TheVariants as the_kind
 use Rattle.mesh_statement.specs.declared.parts.Parts.{Parts}
-use Rattle.mesh_statement.specs.Brackets.{or_fault, value_len}
+use Rattle.mesh_statement.specs.Brackets.{or_fault}
 use Rattle.mesh_statement.specs.Faults.{broken, bad}
 use Rattle.mesh_statement.specs.Kinds.{kind_or_fault, first_at, is_one_of, formed, entries_in, whole, kind_value}
 use Rattle.mesh_statement.specs.Statement.{Read, is_free, is_property, put, admitted, value_size, property, statement}

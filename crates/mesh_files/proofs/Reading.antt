@@ -13,7 +13,7 @@ use Rattle.mesh_files.specs.declared.project.ProjectFiles.{ProjectFiles}
 use Rattle.mesh_files.specs.Loading.{◌>>=◌, Gives, Refuses}
 use Rattle.mesh_files.specs.Places.{below_models, is_python}
 use Rattle.mesh_files.specs.Models.{file_within, IsTextRead, IsContentRead, IsReadAs, IsFileRead}
-use Rattle.mesh_files.specs.Project.{AreRead, AreFiles, with_file, sources_in, paths_in, model_paths, meaning}
+use Rattle.mesh_files.specs.Project.{AreRead, AreFiles, sources_in, paths_in, model_paths}
 
 -- a refusal of one step refuses what would go on behind it
 pub refused_first : {A B : Type 0} (fault : LoadFault) (first : Result A LoadFault) (next : A → Result B LoadFault) → Refuses fault first → Refuses fault (first >>= next)

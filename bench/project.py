@@ -1,0 +1,69 @@
+#!/usr/bin/env python3
+"""Times `mesh_cases_plans` on loading whole projects from a folder, of models of 300 bytes each: a chain, a star, and 64 layers of 64
+models that read three of the layer before. Prints seconds of processor and growth.
+
+Usage: bench/project.py [PROGRAM], where PROGRAM is crates/mesh_cases_plans/out/mesh_cases_plans if left out (`rt run` makes it)."""
+import os
+import subprocess
+import sys
+import tempfile
+
+from measured import TOP
+
+BYTES = 300
+
+
+def text(name, query):
+    front = f"MODEL (name s.{name}, kind FULL); {query} "
+    return front + "-- " + "x" * (BYTES - len(front) - 3)
+
+
+def chain(count):
+    return [text(f"m{i:04}", f"SELECT x + 1 AS x FROM s.m{i - 1:04}" if i else "SELECT 1 AS x") for i in range(count)]
+
+
+def star(count):
+    return [text(f"m{i:04}", "SELECT x + 1 AS x FROM s.m0000" if i else "SELECT 1 AS x") for i in range(count)]
+
+
+def layers(width, height):
+    made = []
+    for rank in range(height):
+        for place in range(width):
+            names = [f"s.m{rank - 1:02}_{(place + k) % width:02}" for k in (0, 1, 7)]
+            joins = " CROSS JOIN ".join(f"{name} AS p{k}" for k, name in enumerate(names))
+            made.append(text(f"m{rank:02}_{place:02}", f"SELECT p0.x AS x FROM {joins}" if rank else "SELECT 1 AS x"))
+    return made
+
+
+def seconds(program, models):
+    with tempfile.TemporaryDirectory() as folder:
+        os.makedirs(f"{folder}/project/models")
+        for number, model in enumerate(models):
+            with open(f"{folder}/project/models/m{number:04}.sql", "w") as file:
+                file.write(model)
+        with open(f"{folder}/cases.txt", "w") as file:
+            file.write("read project\n")
+        best = None
+        for _ in range(3):
+            child = subprocess.Popen([program], stdout=subprocess.PIPE, cwd=folder)
+            said = child.stdout.read()
+            _, status, used = os.wait4(child.pid, 0)
+            assert status == 0, status
+            assert said == f"read project {len(models)}\n".encode(), said
+            passed = used.ru_utime + used.ru_stime
+            best = passed if best is None else min(best, passed)
+    return best
+
+
+def main():
+    program = os.path.abspath(sys.argv[1]) if len(sys.argv) > 1 else f"{TOP}/crates/mesh_cases_plans/out/mesh_cases_plans"
+    for name, made in (("chain", chain), ("star", star)):
+        few, half, full = seconds(program, made(1000)), seconds(program, made(2048)), seconds(program, made(4096))
+        print(f"{name}: 1,000 models {few:.3f} s, 2,048 models {half:.3f} s, 4,096 models {full:.3f} s, growth {full / max(half, 1e-9):.2f}")
+    half, full = seconds(program, layers(64, 32)), seconds(program, layers(64, 64))
+    print(f"layers: 2,048 models {half:.3f} s, 4,096 models {full:.3f} s, growth {full / max(half, 1e-9):.2f}")
+
+
+if __name__ == "__main__":
+    main()
