@@ -17,6 +17,7 @@ use Rattle.mesh_order.specs.declared.readers.OrderFault.TheVariants.{Cycle, Memo
 abbrev pub reader_at : List Reader → ℕ → Reader
 reader_at models at = slice_index_or models at (record { name = record { schema = []; model = [] }; reads = [] })
 
+-- its name
 abbrev pub name_at : List Reader → ℕ → Name
 name_at models at = (reader_at models at).name
 
@@ -49,9 +50,11 @@ AreRanks models ranks = (at : ℕ) → at < length models → ranks at ≡ above
 abbrev pub ranked_cmp : List Reader → Ranked → Ranked → Ordering
 ranked_cmp models a b = ordering_then (nat_cmp a.rank b.rank) (name_cmp (name_at models a.at) (name_at models b.at))
 
+-- where an item's model stands
 abbrev pub place : Ranked → ℕ
 place r = r.at
 
+-- what is its own key
 abbrev pub itself : {A : Type 0} → A → A
 itself a = a
 
@@ -90,6 +93,7 @@ abbrev pub MeansCycle : List Reader → OrderFault → Type 0
 MeansCycle models (Cycle names) = AreCyclic models names
 MeansCycle models Memory = ⊤
 
+-- an order, or the models that reach themselves
 abbrev pub MeansOutcome : List Reader → Outcome → Type 0
 MeansOutcome models (Ordered order) = IsOrder models order
 MeansOutcome models (Cyclic names) = AreCyclic models names

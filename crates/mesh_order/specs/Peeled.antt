@@ -47,10 +47,11 @@ abbrev pub ranks_with : List ℕ → List ℕ → ℕ → List ℕ
 ranks_with ranks [] rank = ranks
 ranks_with ranks (at ∷ ats) rank = ranks_with (slice_set ranks at rank) ats rank
 
--- those that are ready for a rank, and the others
+-- those that are ready for a rank
 abbrev pub ready_of : List (List ℕ) → List ℕ → ℕ → List ℕ → List ℕ
 ready_of links ranks rank rest = filter (is_ready links ranks rank) rest
 
+-- the others
 abbrev pub later_of : List (List ℕ) → List ℕ → ℕ → List ℕ → List ℕ
 later_of links ranks rank rest = filter (λ at. not (is_ready links ranks rank at)) rest
 
@@ -74,6 +75,7 @@ pub record IsEnd (links : List (List ℕ)) (rank : ℕ) (before after : Peeled) 
   pub order : after.order ≡ before.order
   pub rest : after.rest ≡ before.rest
 
+-- one rank more, or the end
 abbrev pub IsRound : List (List ℕ) → ℕ → Bool → Peeled → Peeled → Type 0
 IsRound links rank true before after = AreRanked links rank before after
 IsRound links rank false before after = IsEnd links rank before after

@@ -1,0 +1,2 @@
+-- Different: names that differ.
+pub mod Different
