@@ -17,12 +17,15 @@ use Rattle.mesh_project.specs.Walk.{along}
 abbrev pub Taken : Type 0
 Taken = Name → Bool
 
+-- one name more
 abbrev pub with_name : Taken → Name → Taken
 with_name taken name other = if is_eq (name_cmp name other) then true else taken other
 
+-- a model whose name is taken, as a fault of its file
 abbrev pub duplicate : ModelFile → LoadFault
 duplicate f = Fault f.text.file 0 (DuplicateModel f.text.name)
 
+-- the name of a model is taken, where it is new
 abbrev pub with_model_name : Taken → ModelFile → Result Taken LoadFault
 with_model_name taken f = if taken f.text.name then Err (duplicate f) else Ok (with_name taken f.text.name)
 

@@ -17,6 +17,7 @@ node_name n = n.own.name
 abbrev pub place_of : List Node → Name → Option ℕ
 place_of nodes name = first_at name_cmp node_name name nodes
 
+-- the first of two places, where it is one
 abbrev pub or_else : Option ℕ → Option ℕ → Option ℕ
 or_else None other = other
 or_else (Some place) other = Some place
@@ -29,9 +30,11 @@ new_place name place other = if is_eq (name_cmp name other) then Some place else
 abbrev pub place_name : Place → Name
 place_name p = p.name
 
+-- where a parent stands
 abbrev pub place_at : Place → ℕ
 place_at p = p.at
 
+-- a name with its place, put in the order of the names
 abbrev pub put_at : Name → Option ℕ → List Place → List Place
 put_at name None made = made
 put_at name (Some at) made = placed name_cmp place_name (record { name = name; at = at }) made

@@ -29,6 +29,7 @@ use Rattle.mesh_project.specs.Walk.{along}
 abbrev pub input_of : Node → Input
 input_of n = record { name = n.own.name; columns = columns_of n.own; rows = [] }
 
+-- the same where there is a model
 abbrev pub input_at : Option Node → List Input
 input_at None = []
 input_at (Some n) = input_of n ∷ []
@@ -53,6 +54,7 @@ known_to sources nodes places kind = record {
   macros = is_incremental kind;
 }
 
+-- a model at its fingerprint, where there is one
 abbrev pub ref_at : Option Node → List Ref
 ref_at None = []
 ref_at (Some n) = (record { name = n.own.name; fingerprint = n.fingerprint }) ∷ []
@@ -78,9 +80,11 @@ parents_of nodes f = named nodes (text_reads f.text.query)
 abbrev pub own_over : List Decl → List Node → ModelFile → Result Own LoadFault
 own_over sources nodes f = in_file f.text.file (own f.text f.seed (known_before sources nodes f.text.kind))
 
+-- a model of this rank over those before it
 abbrev pub model_over : List Decl → List Node → ℕ → ModelFile → Result Node LoadFault
 model_over sources nodes rank f = own_over sources nodes f >>= λ o. Ok (node_over nodes rank (parents_of nodes f) o)
 
+-- one model more, where there is a file
 abbrev pub with_file : List Decl → List Node → ℕ → Option ModelFile → Result (List Node) LoadFault
 with_file sources nodes rank None = Ok nodes
 with_file sources nodes rank (Some f) = model_over sources nodes rank f >>= λ n. Ok (nodes ++ n ∷ [])

@@ -26,6 +26,7 @@ counted models = if nat_le (length models) 4096 then Ok tt else Err (too_large (
 abbrev pub reader_of : ModelFile → Reader
 reader_of f = record { name = f.text.name; reads = text_reads f.text.query }
 
+-- a fault of no one file: these models reach themselves
 abbrev pub cycle : List Name → LoadFault
 cycle names = Fault (codes "-") 0 (Cycle names)
 

@@ -18,28 +18,35 @@ abbrev pub of_two_parts : Option (List ℕ) → List ℕ → List Name
 of_two_parts None name = []
 of_two_parts (Some schema) name = (record { schema = schema; model = name }) ∷ []
 
+-- what a relation names
 abbrev pub rel_reads : SurfaceRel → List Name
 rel_reads r = of_two_parts r.schema r.name
 
+-- the relation of a join
 abbrev pub join_rel : SurfaceJoin → SurfaceRel
 join_rel (Comma at rel) = rel
 join_rel (Cross at rel) = rel
 join_rel (Inner at rel on) = rel
 join_rel (Left at rel on) = rel
 
+-- what a join names
 abbrev pub join_reads : SurfaceJoin → List Name
 join_reads j = rel_reads (join_rel j)
 
+-- what the FROM items name, from left to right
 abbrev pub from_reads : Option SurfaceFrom → List Name
 from_reads None = []
 from_reads (Some from) = rel_reads from.first ++ flat_map join_reads from.joins
 
+-- what a SELECT names
 abbrev pub select_reads : SurfaceSelect → List Name
 select_reads s = from_reads s.from
 
+-- what the SELECTs name, in their order
 abbrev pub union_reads : SurfaceUnion → List Name
 union_reads u = flat_map select_reads u.selects
 
+-- what the body of a CTE names
 abbrev pub cte_reads : SurfaceCte → List Name
 cte_reads c = union_reads c.body
 
