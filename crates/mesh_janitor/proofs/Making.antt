@@ -1,0 +1,40 @@
+-- What a call that makes a list leaves of a house, as the janitor tells it.
+use Rattle.std.proofs.Common.{◌≡◌, ℤ, List, [], Ok, Err, Result, refl, sym, ◌∙◌, ap, arith, IsErrOf}
+use Rattle.std.specs.Result.{IsErrAnd}
+use Rattle.mesh_house.specs.declared.world.Change.{Change}
+use Rattle.mesh_house.specs.declared.house.WhFail.{WhFail}
+use Rattle.mesh_house.specs.declared.house.WhFail.TheVariants.{Failed, Memory}
+use Rattle.mesh_house.specs.House.{Told}
+use Rattle.mesh_house.specs.Runs.{Makes, Stopped}
+use Rattle.mesh_janitor.specs.declared.faults.SweepFault.{SweepFault}
+use Rattle.mesh_janitor.specs.declared.faults.SweepFault.TheVariants.{Moment, EnvUnknown, Warehouse, Memory as NoMemory}
+use Rattle.mesh_janitor.specs.Sweeping.{Sweeps, as_fault}
+
+pub sweeps_ok : {T U : Type 0} (list : List Change) (a b : Told) (x : T) (y : U) → Makes (λ w. list) a b (Ok x) → Sweeps list a b (Ok y)
+sweeps_ok list a b x y m = record { ok = m.ok; err = tt; failed = λ is. cc }
+
+pub sweeps_err : {T U : Type 0} (list : List Change) (a b : Told) (e : WhFail) → Makes {T = T} (λ w. list) a b (Err e) → Sweeps {T = U} list a b (Err (as_fault e))
+sweeps_err list a b Failed m = record { ok = tt; err = m.err; failed = λ is. m.failed refl }
+sweeps_err list a b Memory m = record { ok = tt; err = m.err; failed = λ is. cc }
+
+not_begun : (list : List Change) (a : Told) → Stopped (λ w. list) a a
+not_begun list a = record {
+  faults = omega arith;
+  told = λ w is. record { made = []; rest = list; parts = refl; world = is; sure = []; tail = []; cut = refl; more = 0; one = omega arith; next = omega arith; calls = omega arith };
+}
+
+-- where nothing was called for
+pub sweeps_behind : {T : Type 0} (list : List Change) (a : Told) (given kept : ℤ) → Sweeps {T = T} list a a (Err (Moment given kept))
+sweeps_behind list a given kept = record { ok = tt; err = not_begun list a; failed = λ is. cc }
+
+pub sweeps_unknown : {T : Type 0} (list : List Change) (a : Told) → Sweeps {T = T} list a a (Err EnvUnknown)
+sweeps_unknown list a = record { ok = tt; err = not_begun list a; failed = λ is. cc }
+
+-- no failure of a warehouse is one of the refusals
+pub no_moment : (e : WhFail) (given kept : ℤ) → as_fault e ≡ Moment given kept → ⊥
+no_moment Failed given kept h = absurd (cc)
+no_moment Memory given kept h = absurd (cc)
+
+pub no_unknown : (e : WhFail) → as_fault e ≡ EnvUnknown → ⊥
+no_unknown Failed h = absurd (cc)
+no_unknown Memory h = absurd (cc)
