@@ -51,7 +51,7 @@ its_own (t ∷ ts) up s (inr h) =
     ∙ its_own ts later s h
 
 pub is_there : (ss : List Snapshot) (r : Ref) (s : Snapshot) → snapshot_at ss r ≡ Some s → Has s ss
-is_there [] r s e = absurd (let no : None ≡ Some s = e in cc)
+is_there [] r s e = absurd (let clash : None ≡ Some s = e in cc)
 is_there (t ∷ ts) r s e = go (is_eq (ref_cmp (snapshot_ref t) r)) e (is_there ts r s)
   where
     go : (b : Bool) → cond b (Some t) (found ref_cmp snapshot_ref r ts) ≡ Some s → (snapshot_at ts r ≡ Some s → Has s ts) → Has s (t ∷ ts)

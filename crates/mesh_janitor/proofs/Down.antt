@@ -2,6 +2,7 @@
 use Rattle.std.proofs.Common.{◌≡◌, ℕ, ℤ, not, map, zero, suc, ◌≤◌, ◌<◌, Bool, true, false, cond, ◌&&◌, nat_eq, ◌⊎◌, inl, inr, List, [], ◌∷◌, ◌++◌, refl, sym, ap, ◌∙◌, subst, arith, eqb-true}
 use Rattle.std.specs.List.{All, filter, flat_map}
 use Rattle.std.specs.Cmp.{nat_cmp_is}
+use Rattle.std.proofs.lemmas.Bool.{eq-eqb}
 use Rattle.std.proofs.lemmas.List.{map-append}
 use Rattle.std.specs.Ordering.{nat_cmp, ordering_reverse, ordering_then}
 use Rattle.std.specs.declared.cmp.Ordering.{Ordering}
@@ -32,32 +33,28 @@ below_or (suc a) (suc n) l = go (below_or a n (omega arith))
     go (inl m) = inl (omega (arith, m))
     go (inr e) = inr (ap suc e)
 
-pub eq_itself : (n : ℕ) → nat_eq n n ≡ true
-eq_itself zero = refl
-eq_itself (suc n) = eq_itself n
-
 pub differs : (a n : ℕ) → (a ≡ n → ⊥) → nat_eq a n ≡ false
-differs a n no = go (nat_eq a n) refl
+differs a n isnt = go (nat_eq a n) refl
   where
     go : (b : Bool) → nat_eq a n ≡ b → nat_eq a n ≡ false
-    go true e = absurd (no (eqb-true a n e))
+    go true e = absurd (isnt (eqb-true a n e))
     go false e = e
 
 module _ (p : Snapshot → Bool) (s : Snapshot) (ss : List Snapshot) where
-  -- a snapshot that fails the test, or of another rank, makes no difference
+  -- a snapshot that fails the test, or of another rank, makes isnt difference
   skip_layer : (rank : ℕ) → (nat_eq s.rank rank && p s) ≡ false → gone_layer p rank (s ∷ ss) ≡ gone_layer p rank ss
-  skip_layer rank no = ap (λ (b : Bool). cond b (s ∷ gone_layer p rank ss) (gone_layer p rank ss)) no
+  skip_layer rank isnt = ap (λ (b : Bool). cond b (s ∷ gone_layer p rank ss) (gone_layer p rank ss)) isnt
 
   fails : (b : Bool) → p s ≡ false → (b && p s) ≡ false
-  fails true no = no
-  fails false no = refl
+  fails true isnt = isnt
+  fails false isnt = refl
 
   skip_failing : (n : ℕ) → p s ≡ false → by_layers p n (s ∷ ss) ≡ by_layers p n ss
-  skip_failing zero no = refl
-  skip_failing (suc n) no = λ i. skip_layer n (fails (nat_eq s.rank n) no) i ++ skip_failing n no i
+  skip_failing zero isnt = refl
+  skip_failing (suc n) isnt = λ i. skip_layer n (fails (nat_eq s.rank n) isnt) i ++ skip_failing n isnt i
 
   other : (rank : ℕ) → (s.rank ≡ rank → ⊥) → (nat_eq s.rank rank && p s) ≡ false
-  other rank no = ap (λ (b : Bool). b && p s) (differs s.rank rank no)
+  other rank isnt = ap (λ (b : Bool). b && p s) (differs s.rank rank isnt)
 
   skip_higher : (n : ℕ) → n ≤ s.rank → by_layers p n (s ∷ ss) ≡ by_layers p n ss
   skip_higher zero l = refl
@@ -71,11 +68,11 @@ module _ (p : Snapshot → Bool) (s : Snapshot) (ss : List Snapshot) where
 
   in_layers : (n : ℕ) (x : Snapshot) → Has x (by_layers p n ss) → Has x ss × (x.rank < n)
   in_layers zero x h = absurd h
-  in_layers (suc n) x h = go (Has_cases x (gone_layer p n ss) (by_layers p n ss) h)
+  in_layers (suc n) x h = go (Has_cases x (gone_layer p n ss) (by_layers p n ss) h) (in_layers n x)
     where
-      go : Has x (gone_layer p n ss) ⊎ Has x (by_layers p n ss) → Has x ss × (x.rank < suc n)
-      go (inl k) = let a = in_layer n x k in (a.0, omega (arith, a.1))
-      go (inr k) = let a = in_layers n x k in (a.0, omega (arith, a.1))
+      go : Has x (gone_layer p n ss) ⊎ Has x (by_layers p n ss) → (Has x (by_layers p n ss) → Has x ss × (x.rank < n)) → Has x ss × (x.rank < suc n)
+      go (inl k) more = let a = in_layer n x k in (a.0, omega (arith, a.1))
+      go (inr k) more = let a = more k in (a.0, omega (arith, a.1))
 
   by_order : (o : Ordering) (x : Snapshot) (xs : List Snapshot) → down_cmp x s ≡ o → placed down_cmp snapshot_itself s (x ∷ xs) ≡ put_by o x s xs (placed down_cmp snapshot_itself s xs)
   by_order o x xs is = ap (λ (r : Ordering). put_by r x s xs (placed down_cmp snapshot_itself s xs)) is
@@ -110,7 +107,7 @@ module _ (p : Snapshot → Bool) (s : Snapshot) (ss : List Snapshot) where
     one_more (suc n) l = go (below_or s.rank n l) (one_more n)
       where
         taken : s.rank ≡ n → (nat_eq s.rank n && p s) ≡ true
-        taken e = (λ i. nat_eq (e i) n && passes i) ∙ ap (λ (b : Bool). b && true) (eq_itself n)
+        taken e = (λ i. nat_eq (e i) n && passes i) ∙ ap (λ (b : Bool). b && true) (eq-eqb n n refl)
 
         go : (s.rank < n) ⊎ (s.rank ≡ n) → (s.rank < n → by_layers p n (s ∷ ss) ≡ placed down_cmp snapshot_itself s (by_layers p n ss)) → by_layers p (suc n) (s ∷ ss) ≡ placed down_cmp snapshot_itself s (by_layers p (suc n) ss)
         go (inl m) more =
@@ -136,11 +133,12 @@ layers_down p n (s ∷ ss) up low =
 -- and the changes that take them out
 layer_deletes : (p : Snapshot → Bool) (rank : ℕ) (ss : List Snapshot) → flat_map (deletes_of p rank) ss ≡ map deletes (gone_layer p rank ss)
 layer_deletes p rank [] = refl
-layer_deletes p rank (s ∷ ss) = go (nat_eq s.rank rank && p s)
+layer_deletes p rank (s ∷ ss) = go (nat_eq s.rank rank && p s) (layer_deletes p rank ss)
   where
-    go : (b : Bool) → cond b (deletes s ∷ []) [] ++ flat_map (deletes_of p rank) ss ≡ map deletes (cond b (s ∷ gone_layer p rank ss) (gone_layer p rank ss))
-    go true = ap (λ (l : List Change). deletes s ∷ l) (layer_deletes p rank ss)
-    go false = layer_deletes p rank ss
+    go : (b : Bool) → flat_map (deletes_of p rank) ss ≡ map deletes (gone_layer p rank ss)
+        → cond b (deletes s ∷ []) [] ++ flat_map (deletes_of p rank) ss ≡ map deletes (cond b (s ∷ gone_layer p rank ss) (gone_layer p rank ss))
+    go true more = ap (λ (l : List Change). deletes s ∷ l) more
+    go false more = more
 
 all_deletes : (p : Snapshot → Bool) (n : ℕ) (ss : List Snapshot) → deletes_by p n ss ≡ map deletes (by_layers p n ss)
 all_deletes p zero ss = refl

@@ -7,6 +7,7 @@ use Rattle.std.specs.List.{All, filter, flat_map, list_any}
 use Rattle.std.specs.Option.{is_some, option_to_list}
 use Rattle.std.specs.Ordering.{is_eq}
 use Rattle.std.specs.declared.option.Option.{Option}
+use Rattle.std.proofs.lemmas.Bool.{eq-eqb}
 use Rattle.std.proofs.lemmas.Cmp.{tied_itself}
 use Rattle.mesh_list.specs.Keyed.{ascends, found, placed}
 use Rattle.mesh_list.proofs.Found.{found-placed}
@@ -25,7 +26,7 @@ use Rattle.mesh_changes.specs.Environments.{is_over}
 use Rattle.mesh_changes.specs.Kept.{both_lists, is_kept, kept, line, roots, staying}
 use Rattle.mesh_janitor.specs.Walk.{after, env_after, envs_after, layer, layers, limit_from, stays}
 use Rattle.mesh_janitor.proofs.Books.{all_from, below_limit, is_there, its_own, snapshots_ascend}
-use Rattle.mesh_janitor.proofs.Down.{below_or, eq_itself}
+use Rattle.mesh_janitor.proofs.Down.{below_or}
 
 or_right : (a b : Bool) → b ≡ true → (a || b) ≡ true
 or_right true b h = refl
@@ -95,7 +96,7 @@ any_has (r ∷ rs) k (inl e) = or_left (is_eq (ref_cmp r k)) _ (eq_self r k e)
 any_has (r ∷ rs) k (inr h) = or_right (is_eq (ref_cmp r k)) _ (any_has rs k h)
 
 has_any : (rs : List Ref) (k : Ref) → list_any (λ r. is_eq (ref_cmp r k)) rs ≡ true → Has k rs
-has_any [] k h = absurd (let no : false ≡ true = h in cc)
+has_any [] k h = absurd (let clash : false ≡ true = h in cc)
 has_any (r ∷ rs) k h = or_cases (is_eq (ref_cmp r k)) (list_any (λ x. is_eq (ref_cmp x k)) rs) h (λ e. inl (eq_same r k e)) (λ i. inr (has_any rs k i))
 
 module _ (t : ℤ) where
@@ -114,7 +115,7 @@ module _ (t : ℤ) where
       go false = h
 
   after_adds : (s : Snapshot) (wanted : List Ref) (k : Ref) → stays t wanted s ≡ true → Has k s.parents → is_listed (after t s wanted) k ≡ true
-  after_adds s wanted k yes h = ap (λ (b : Bool). is_listed (cond b (with_refs wanted s.parents) wanted) k) yes ∙ with_adds s.parents wanted k h
+  after_adds s wanted k sure h = ap (λ (b : Bool). is_listed (cond b (with_refs wanted s.parents) wanted) k) sure ∙ with_adds s.parents wanted k h
 
   after_only : (P : Ref → Type 0) (s : Snapshot) (wanted : List Ref) → ((k : Ref) → is_listed wanted k ≡ true → P k) → (stays t wanted s ≡ true → (k : Ref) → Has k s.parents → P k) → (k : Ref) → is_listed (after t s wanted) k ≡ true → P k
   after_only P s wanted f g k h = go (stays t wanted s) refl h
@@ -138,13 +139,13 @@ module _ (t : ℤ) where
   layer_keeps rank (s ∷ ss) wanted k h = layer_keeps rank ss (next rank s wanted) k (next_keeps rank s wanted k h)
 
   layer_adds : (rank : ℕ) (ss : List Snapshot) (wanted : List Ref) (x : Snapshot) → Has x ss → x.rank ≡ rank → stays t wanted x ≡ true → (k : Ref) → Has k x.parents → is_listed (layer t rank ss wanted) k ≡ true
-  layer_adds rank [] wanted x h is yes k p = absurd h
-  layer_adds rank (s ∷ ss) wanted x (inl e) is yes k p =
-      let here : nat_eq s.rank rank ≡ true = ap (λ (u : Snapshot). nat_eq u.rank rank) e ∙ ap (λ (n : ℕ). nat_eq n rank) is ∙ eq_itself rank in
-      let its : is_listed (after t s wanted) k ≡ true = after_adds s wanted k (ap (stays t wanted) e ∙ yes) (subst (λ (u : Snapshot). Has k u.parents) (sym e) p) in
+  layer_adds rank [] wanted x h is sure k p = absurd h
+  layer_adds rank (s ∷ ss) wanted x (inl e) is sure k p =
+      let here : nat_eq s.rank rank ≡ true = ap (λ (u : Snapshot). nat_eq u.rank rank) e ∙ ap (λ (n : ℕ). nat_eq n rank) is ∙ eq-eqb rank rank refl in
+      let its : is_listed (after t s wanted) k ≡ true = after_adds s wanted k (ap (stays t wanted) e ∙ sure) (subst (λ (u : Snapshot). Has k u.parents) (sym e) p) in
       layer_keeps rank ss (next rank s wanted) k (ap (λ (b : Bool). is_listed (cond b (after t s wanted) wanted) k) here ∙ its)
-  layer_adds rank (s ∷ ss) wanted x (inr h) is yes k p =
-      layer_adds rank ss (next rank s wanted) x h is (stays_more wanted (next rank s wanted) x (next_keeps rank s wanted (snapshot_ref x)) yes) k p
+  layer_adds rank (s ∷ ss) wanted x (inr h) is sure k p =
+      layer_adds rank ss (next rank s wanted) x h is (stays_more wanted (next rank s wanted) x (next_keeps rank s wanted (snapshot_ref x)) sure) k p
 
   -- what is wanted after a layer: what was, and parents of what stays
   layer_only : (P : Ref → Type 0) (rank : ℕ) (ss : List Snapshot) (wanted : List Ref) → ((k : Ref) → is_listed wanted k ≡ true → P k)
@@ -154,7 +155,7 @@ module _ (t : ℤ) where
     where
       more : (b : Bool) → nat_eq s.rank rank ≡ b → (j : Ref) → is_listed (cond b (after t s wanted) wanted) j ≡ true → P j
       more true e j i =
-          after_only P s wanted f (λ yes. step s (inl refl) (eqb-true s.rank rank e) (or_cases (young s) (is_listed wanted (snapshot_ref s)) yes inl (λ l. inr (f (snapshot_ref s) l)))) j i
+          after_only P s wanted f (λ sure. step s (inl refl) (eqb-true s.rank rank e) (or_cases (young s) (is_listed wanted (snapshot_ref s)) sure inl (λ l. inr (f (snapshot_ref s) l)))) j i
       more false e j i = f j i
 
   layers_keep : (n : ℕ) (all : List Snapshot) (wanted : List Ref) (k : Ref) → is_listed wanted k ≡ true → is_listed (layers t n all wanted) k ≡ true
@@ -196,12 +197,12 @@ module _ (b : Book) (well : is_well_formed_book b ≡ true) (t : ℤ) where
       absurd (omega (arith, l, m, ap (λ (u : Snapshot). u.rank) q_is))
 
   layers_close : (n : ℕ) (wanted : List Ref) (x : Snapshot) → Has x all → x.rank < n → stays t (layers t n all wanted) x ≡ true → (k : Ref) → Has k x.parents → is_listed (layers t n all wanted) k ≡ true
-  layers_close zero wanted x h l yes k p = absurd (omega (arith, l))
-  layers_close (suc n) wanted x h l yes k p = go (below_or x.rank n l) (layers_close n (layer t n all wanted) x h)
+  layers_close zero wanted x h l sure k p = absurd (omega (arith, l))
+  layers_close (suc n) wanted x h l sure k p = go (below_or x.rank n l) (layers_close n (layer t n all wanted) x h)
     where
       go : (x.rank < n) ⊎ (x.rank ≡ n) → (x.rank < n → stays t (layers t n all (layer t n all wanted)) x ≡ true → (j : Ref) → Has j x.parents → is_listed (layers t n all (layer t n all wanted)) j ≡ true)
           → is_listed (layers t n all (layer t n all wanted)) k ≡ true
-      go (inl m) more = more m yes k p
+      go (inl m) more = more m sure k p
       go (inr e) more =
           let later : is_listed (layers t n all (layer t n all wanted)) (snapshot_ref x) ≡ true → is_listed (layer t n all wanted) (snapshot_ref x) ≡ true =
               λ i. wanted_before (layer t n all wanted) n x h (omega (arith, e))
@@ -209,7 +210,7 @@ module _ (b : Book) (well : is_well_formed_book b ≡ true) (t : ℤ) where
           let now : is_listed (layer t n all wanted) (snapshot_ref x) ≡ true → is_listed wanted (snapshot_ref x) ≡ true =
               λ i. wanted_before wanted n x h (omega (arith, e))
                   (layer_only t (Lower wanted n) n all wanted (λ j w. inl w) (λ s c m y. parents_lower wanted n s c (omega (arith, m))) (snapshot_ref x) i) in
-          let first = stays_more t (layers t n all (layer t n all wanted)) wanted x (λ i. now (later i)) yes in
+          let first = stays_more t (layers t n all (layer t n all wanted)) wanted x (λ i. now (later i)) sure in
           layers_keep t n all (layer t n all wanted) k (layer_adds t n all wanted x h e first k p)
 
   abbrev listed_refs : List Ref
@@ -261,13 +262,13 @@ module _ (b : Book) (well : is_well_formed_book b ≡ true) (t : ℤ) where
 
   -- what the line of something that stays has is wanted
   reached : (d : ℕ) (x : Snapshot) → Has x all → stays t final x ≡ true → (s : Snapshot) → IsSnapshot all s → Has (snapshot_ref s) (line all d x) → stays t final s ≡ true
-  reached zero x has yes s own (inr h) = absurd h
-  reached zero x has yes s own (inl e) = subst (λ (u : Snapshot). stays t final u ≡ true) (one x s (its_own all up x has) own e) yes
-  reached (suc d) x has yes s own (inl e) = subst (λ (u : Snapshot). stays t final u ≡ true) (one x s (its_own all up x has) own e) yes
-  reached (suc d) x has yes s own (inr h) =
+  reached zero x has sure s own (inr h) = absurd h
+  reached zero x has sure s own (inl e) = subst (λ (u : Snapshot). stays t final u ≡ true) (one x s (its_own all up x has) own e) sure
+  reached (suc d) x has sure s own (inl e) = subst (λ (u : Snapshot). stays t final u ≡ true) (one x s (its_own all up x has) own e) sure
+  reached (suc d) x has sure s own (inr h) =
       let (q, i, j) = Has_flat_from (line all d) (named all x.parents) (snapshot_ref s) h in
       let (r, c, e) = named_from x.parents q i in
-      let listed : is_listed final r ≡ true = layers_close limit start x has (below_limit all 0 x has) yes r c in
+      let listed : is_listed final r ≡ true = layers_close limit start x has (below_limit all 0 x has) sure r c in
       let its : is_listed final (snapshot_ref q) ≡ true = ap (is_listed final) (its_ref all r q e) ∙ listed in
       reached d q (is_there all r q e) (or_right (young t q) (is_listed final (snapshot_ref q)) its) s own j
 
@@ -296,7 +297,7 @@ module _ (b : Book) (well : is_well_formed_book b ≡ true) (t : ℤ) where
   Sound k = (s : Snapshot) → snapshot_at all k ≡ Some s → Has k (kept b t)
 
   start_sound : (k : Ref) → is_listed start k ≡ true → Sound k
-  start_sound = with_only Sound listed_refs [] (λ k h. absurd (let no : false ≡ true = h in cc)) each
+  start_sound = with_only Sound listed_refs [] (λ k h. absurd (let clash : false ≡ true = h in cc)) each
     where
       each : (k : Ref) → Has k listed_refs → Sound k
       each k h s e =
@@ -319,11 +320,11 @@ module _ (b : Book) (well : is_well_formed_book b ≡ true) (t : ℤ) where
   stays_exactly s h = same_truth (stays t final s) (is_kept b t s) there back
     where
       there : stays t final s ≡ true → is_kept b t s ≡ true
-      there yes = any_has (kept b t) (snapshot_ref s) (its_kept s h (or_cases (young t s) (is_listed final (snapshot_ref s)) yes inl (λ l. inr (final_sound (snapshot_ref s) l))))
+      there sure = any_has (kept b t) (snapshot_ref s) (its_kept s h (or_cases (young t s) (is_listed final (snapshot_ref s)) sure inl (λ l. inr (final_sound (snapshot_ref s) l))))
 
       back : is_kept b t s ≡ true → stays t final s ≡ true
-      back yes =
-          let (x, root, i) = kept_from (snapshot_ref s) (has_any (kept b t) (snapshot_ref s) yes) in
+      back sure =
+          let (x, root, i) = kept_from (snapshot_ref s) (has_any (kept b t) (snapshot_ref s) sure) in
           let a = is_root x root in
           reached x.rank x a.0 a.1 s (its_own all up s h) i
 

@@ -51,15 +51,15 @@ swap false true c = refl
 swap false false c = refl
 
 module _ (t : ℤ) (wanted : List Ref) (n : Name) where
+  abbrev rest : List Snapshot → Bool
+  rest ss = list_any (λ (s : Snapshot). same_name s.object n) (filter (stays t wanted) ss)
+
   used : (ss : List Snapshot) (names : List Name) → has_name (objects_after t wanted ss names) n ≡ (list_any (λ (s : Snapshot). same_name s.object n) (filter (stays t wanted) ss) || has_name names n)
   used [] names = refl
   used (s ∷ ss) names = used ss (object_after t wanted s names) ∙ go (stays t wanted s)
     where
-      abbrev rest : Bool
-      rest = list_any (λ (s : Snapshot). same_name s.object n) (filter (stays t wanted) ss)
-
-      go : (b : Bool) → (rest || has_name (cond b (placed name_cmp name_itself s.object names) names) n) ≡ (list_any (λ (s : Snapshot). same_name s.object n) (cond b (s ∷ filter (stays t wanted) ss) (filter (stays t wanted) ss)) || has_name names n)
-      go true = ap (λ (b : Bool). rest || b) (with_one s.object n names) ∙ swap rest (same_name s.object n) (has_name names n)
+      go : (b : Bool) → (rest ss || has_name (cond b (placed name_cmp name_itself s.object names) names) n) ≡ (list_any (λ (s : Snapshot). same_name s.object n) (cond b (s ∷ filter (stays t wanted) ss) (filter (stays t wanted) ss)) || has_name names n)
+      go true = ap (λ (b : Bool). rest ss || b) (with_one s.object n names) ∙ swap (rest ss) (same_name s.object n) (has_name names n)
       go false = refl
 
 or_false : (b : Bool) → (b || false) ≡ b

@@ -91,5 +91,6 @@ pub(crate) fn gone_tables(alloc: Global, b: &Book, t: i64, wanted: &Register<Ref
     let mut used = Sorted::new(alloc);
     add_used(t, wanted, b.snapshots.as_slice(), &mut used)?;
     let all = tables(alloc, b)?;
-    absent(alloc, &used, all.as_slice())
+    let gone = absent(alloc, &used, all.as_slice())?;
+    Ok(gone)
 }
