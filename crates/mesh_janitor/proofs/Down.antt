@@ -1,5 +1,5 @@
 -- Snapshots by descending rank are those of each rank, one rank after another.
-use Rattle.std.proofs.Common.{◌≡◌, ℕ, ℤ, not, map, zero, suc, ◌≤◌, ◌<◌, Bool, true, false, cond, ◌&&◌, nat_eq, ◌⊎◌, inl, inr, List, [], ◌∷◌, ◌++◌, refl, sym, ap, ◌∙◌, subst, arith, eqb-true}
+use Rattle.std.proofs.Common.{◌≡◌, ℕ, ℤ, not, map, zero, suc, ◌≤◌, ◌<◌, Bool, true, false, cond, ◌&&◌, nat_eq, ◌⊎◌, inl, inr, List, [], ◌∷◌, ◌++◌, refl, sym, ap, ◌∙◌, arith, eqb-true}
 use Rattle.std.specs.List.{All, filter, flat_map}
 use Rattle.std.specs.Cmp.{nat_cmp_is}
 use Rattle.std.proofs.lemmas.Bool.{eq-eqb}
@@ -92,7 +92,7 @@ module _ (p : Snapshot → Bool) (s : Snapshot) (ss : List Snapshot) where
     above : (x : Snapshot) → Has x ss → ref_cmp (snapshot_ref x) (snapshot_ref s) ≡ Greater
     above x h =
         let less = below_each ref_cmp refs_total snapshot_ref (snapshot_ref s) ss (and_left (below_first ref_cmp snapshot_ref (snapshot_ref s) ss) (ascends ref_cmp snapshot_ref ss) up)
-            (and_right (below_first ref_cmp snapshot_ref (snapshot_ref s) ss) (ascends ref_cmp snapshot_ref ss) up) x h in
+        (and_right (below_first ref_cmp snapshot_ref (snapshot_ref s) ss) (ascends ref_cmp snapshot_ref ss) up) x h in
         refs_total.antisymm (snapshot_ref x) (snapshot_ref s) ∙ ap ordering_reverse less
 
     behind : (n : ℕ) → s.rank ≡ n → (x : Snapshot) → Has x (gone_layer p n ss ++ by_layers p n ss) → down_cmp x s ≡ Greater
@@ -149,5 +149,5 @@ pub gone_deletes : (b : Book) → is_well_formed_book b ≡ true → (t : ℤ) (
 gone_deletes b well t wanted same =
     all_deletes (goes t wanted) (limit_from 0 b.snapshots) b.snapshots
     ∙ ap (map deletes)
-        (layers_down (goes t wanted) (limit_from 0 b.snapshots) b.snapshots (snapshots_ascend b well) (below_limit b.snapshots 0)
-        ∙ ap downwards (filter_same (goes t wanted) (λ s. not (is_kept b t s)) b.snapshots (λ k d l. ap not (same k d l))))
+    (layers_down (goes t wanted) (limit_from 0 b.snapshots) b.snapshots (snapshots_ascend b well) (below_limit b.snapshots 0)
+    ∙ ap downwards (filter_same (goes t wanted) (λ s. not (is_kept b t s)) b.snapshots (λ k d l. ap not (same k d l))))

@@ -1,5 +1,5 @@
 -- What a call that makes a list leaves of a house, as the janitor tells it.
-use Rattle.std.proofs.Common.{◌≡◌, ℕ, ℤ, subst, List, [], ◌∷◌, Ok, Err, Result, refl, sym, ◌∙◌, ap, arith, IsErrOf}
+use Rattle.std.proofs.Common.{◌≡◌, ℕ, ℤ, subst, List, [], ◌∷◌, Ok, Err, Result, refl, arith}
 use Rattle.std.specs.Result.{IsErrAnd}
 use Rattle.mesh_house.specs.declared.world.Change.{Change}
 use Rattle.mesh_house.specs.declared.world.Change.TheVariants.{Expire}
@@ -8,8 +8,7 @@ use Rattle.mesh_house.specs.declared.house.WhFail.TheVariants.{Failed, Memory}
 use Rattle.mesh_house.specs.House.{Told, Changes}
 use Rattle.mesh_house.specs.Runs.{Makes, Stopped}
 use Rattle.mesh_house.proofs.Runs.{change_makes, makes_ok, memory_then, ran_nothing}
-use Rattle.mesh_janitor.specs.declared.faults.SweepFault.{SweepFault}
-use Rattle.mesh_janitor.specs.declared.faults.SweepFault.TheVariants.{Moment, EnvUnknown, Warehouse, Memory as NoMemory}
+use Rattle.mesh_janitor.specs.declared.faults.SweepFault.TheVariants.{Moment, EnvUnknown}
 use Rattle.mesh_janitor.specs.Sweeping.{Sweeps, as_fault}
 
 pub sweeps_ok : {T U : Type 0} (list : List Change) (a b : Told) (x : T) (y : U) → Makes (λ w. list) a b (Ok x) → Sweeps list a b (Ok y)

@@ -205,11 +205,11 @@ module _ (b : Book) (well : is_well_formed_book b ≡ true) (t : ℤ) where
       go (inl m) more = more m sure k p
       go (inr e) more =
           let later : is_listed (layers t n all (layer t n all wanted)) (snapshot_ref x) ≡ true → is_listed (layer t n all wanted) (snapshot_ref x) ≡ true =
-              λ i. wanted_before (layer t n all wanted) n x h (omega (arith, e))
-                  (layers_only t (Lower (layer t n all wanted) n) n all (layer t n all wanted) (λ j w. inl w) (λ s c m y. parents_lower (layer t n all wanted) n s c (omega (arith, m))) (snapshot_ref x) i) in
+          λ i. wanted_before (layer t n all wanted) n x h (omega (arith, e))
+          (layers_only t (Lower (layer t n all wanted) n) n all (layer t n all wanted) (λ j w. inl w) (λ s c m y. parents_lower (layer t n all wanted) n s c (omega (arith, m))) (snapshot_ref x) i) in
           let now : is_listed (layer t n all wanted) (snapshot_ref x) ≡ true → is_listed wanted (snapshot_ref x) ≡ true =
-              λ i. wanted_before wanted n x h (omega (arith, e))
-                  (layer_only t (Lower wanted n) n all wanted (λ j w. inl w) (λ s c m y. parents_lower wanted n s c (omega (arith, m))) (snapshot_ref x) i) in
+          λ i. wanted_before wanted n x h (omega (arith, e))
+          (layer_only t (Lower wanted n) n all wanted (λ j w. inl w) (λ s c m y. parents_lower wanted n s c (omega (arith, m))) (snapshot_ref x) i) in
           let first = stays_more t (layers t n all (layer t n all wanted)) wanted x (λ i. now (later i)) sure in
           layers_keep t n all (layer t n all wanted) k (layer_adds t n all wanted x h e first k p)
 

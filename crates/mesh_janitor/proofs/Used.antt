@@ -1,5 +1,5 @@
 -- An object is used where a snapshot that stays has it; and names by their order.
-use Rattle.std.proofs.Common.{◌≡◌, ℤ, Bool, true, false, cond, not, List, [], ◌∷◌, ◌++◌, map, Some, refl, sym, ap, ◌∙◌}
+use Rattle.std.proofs.Common.{◌≡◌, ℤ, Bool, true, false, cond, not, List, [], ◌∷◌, ◌++◌, Some, refl, ap, ◌∙◌}
 use Rattle.std.specs.Prelude.{◌||◌}
 use Rattle.std.specs.List.{All, filter, list_any}
 use Rattle.std.specs.Option.{is_some}
@@ -35,7 +35,6 @@ filter_same p q (x ∷ xs) same = λ i. cond (All-head (λ x. p x ≡ q x) x xs 
 
 abbrev has_name : List Name → Name → Bool
 has_name names n = is_some (found name_cmp name_itself n names)
-
 
 some_or : (b : Bool) (m : Name) (o : Option Name) → is_some (cond b (Some m) o) ≡ (b || is_some o)
 some_or true m o = refl

@@ -226,7 +226,12 @@ fn push_layers(
 }
 
 // The snapshots that don't stay go, and their number is answered.
-fn push_deletes(changes: &mut Changes, b: &Book, t: i64, wanted: &Register<Ref>) -> Result<u64, Memory>
+fn push_deletes(
+    changes: &mut Changes,
+    b: &Book,
+    t: i64,
+    wanted: &Register<Ref>,
+) -> Result<u64, Memory>
     requires fit { is_well_formed_book b.now ≡ true }
     requires exact { All (λ (s : Snapshot). stays t wanted.now s ≡ is_kept b.now t s) b.now.snapshots }
     ensures { IfOk result (λ gone. (changes.new ≡ changes.old ++ map deletes (gone_snapshots b.now t)) × (gone ≡ length (gone_snapshots b.now t))) }

@@ -122,7 +122,12 @@ fn higher(limit: u64, rank: u32) -> u64
 }
 
 // The same for all ranks below the limit, from the highest down.
-fn add_layers(t: i64, limit: u64, all: &[Snapshot], wanted: &mut Register<Ref>) -> Result<(), Memory>
+fn add_layers(
+    t: i64,
+    limit: u64,
+    all: &[Snapshot],
+    wanted: &mut Register<Ref>,
+) -> Result<(), Memory>
     ensures { OnOk result (wanted.new ≡ layers t limit all.now wanted.old) }
 {
     let mut left = limit;

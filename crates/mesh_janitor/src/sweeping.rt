@@ -31,12 +31,7 @@ fn as_fault(fail: WhFail) -> SweepFault
 }
 
 // Makes the whole list.
-fn sweep_all<W: Warehouse>(
-    alloc: Global,
-    house: &mut W,
-    b: &Book,
-    t: i64,
-) -> Result<Swept, WhFail>
+fn sweep_all<W: Warehouse>(alloc: Global, house: &mut W, b: &Book, t: i64) -> Result<Swept, WhFail>
     requires { is_well_formed_book b.now ≡ true }
     ensures makes { Makes (λ w. sweeps b.now t) (W.told house.old) (W.told house.new) result }
     ensures numbers { IfOk result (λ swept. swept ≡ numbers b.now t) }

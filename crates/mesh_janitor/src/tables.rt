@@ -51,7 +51,12 @@ fn tables(alloc: Global, b: &Book) -> Result<Sorted<Name>, Memory>
 }
 
 // Where a snapshot stays, its object is used.
-fn add_object(t: i64, wanted: &Register<Ref>, s: &Snapshot, names: &mut Sorted<Name>) -> Result<(), Memory>
+fn add_object(
+    t: i64,
+    wanted: &Register<Ref>,
+    s: &Snapshot,
+    names: &mut Sorted<Name>,
+) -> Result<(), Memory>
     ensures { OnOk result (names.new ≡ object_after t wanted.now s.now names.old) }
 {
     if stays(t, wanted, s)? {
@@ -61,7 +66,12 @@ fn add_object(t: i64, wanted: &Register<Ref>, s: &Snapshot, names: &mut Sorted<N
 }
 
 // The objects of what stays.
-fn add_used(t: i64, wanted: &Register<Ref>, all: &[Snapshot], names: &mut Sorted<Name>) -> Result<(), Memory>
+fn add_used(
+    t: i64,
+    wanted: &Register<Ref>,
+    all: &[Snapshot],
+    names: &mut Sorted<Name>,
+) -> Result<(), Memory>
     ensures { OnOk result (names.new ≡ objects_after t wanted.now all.now names.old) }
 {
     for s in all {
@@ -84,7 +94,12 @@ fn absent(alloc: Global, used: &Sorted<Name>, all: &[Name]) -> Result<Names, Mem
 }
 
 /// The tables and stored queries that no snapshot uses that stays, by name.
-pub(crate) fn gone_tables(alloc: Global, b: &Book, t: i64, wanted: &Register<Ref>) -> Result<Names, Memory>
+pub(crate) fn gone_tables(
+    alloc: Global,
+    b: &Book,
+    t: i64,
+    wanted: &Register<Ref>,
+) -> Result<Names, Memory>
     requires { All (λ (s : Snapshot). stays t wanted.now s ≡ is_kept b.now t s) b.now.snapshots }
     ensures { IfOk result (λ names. names ≡ gone_tables b.now t) }
 {
