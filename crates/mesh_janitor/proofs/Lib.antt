@@ -8,3 +8,5 @@ pub mod Down
 pub mod Used
 -- Making: what a call leaves of a house, as the janitor tells it.
 pub mod Making
+-- Goes: what goes, and what stays, in the words of the janitor's definitions.
+pub mod Goes

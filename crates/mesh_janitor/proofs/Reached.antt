@@ -328,6 +328,13 @@ module _ (b : Book) (well : is_well_formed_book b ≡ true) (t : ℤ) where
           let a = is_root x root in
           reached x.rank x a.0 a.1 s (its_own all up s h) i
 
+  -- what a snapshot that is kept stands on is kept
+  pub kept_parent : (s p : Snapshot) (r : Ref) → Has s all → is_kept b t s ≡ true → Has r s.parents → snapshot_at all r ≡ Some p → is_kept b t p ≡ true
+  kept_parent s p r h is i e =
+      let (x, root, j) = kept_from (snapshot_ref s) (has_any (kept b t) (snapshot_ref s) is) in
+      let there : Has r (kept b t) = kept_by x root r (line_closed x.rank x (its_own all up x (is_root x root).0) (omega arith) s (its_own all up s h) j r i) in
+      any_has (kept b t) (snapshot_ref p) (subst (λ (q : Ref). Has q (kept b t)) (sym (its_ref all r p e)) there)
+
   pub all_exact : All (λ (s : Snapshot). stays t (layers t limit all (envs_after t b.environments [])) s ≡ is_kept b t s) all
   all_exact =
       subst (λ (w : List Ref). All (λ (s : Snapshot). stays t (layers t limit all w) s ≡ is_kept b t s) all) (sym (envs_listed t b.environments []))

@@ -6,9 +6,11 @@
 mod changes;
 mod faults;
 mod kept;
+mod laws;
 mod sweeping;
 mod tables;
 mod views;
 
 pub use faults::{SweepFault, Swept};
+pub use laws::what_is_used_stays;
 pub use sweeping::{invalidate, sweep};
