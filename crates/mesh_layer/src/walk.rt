@@ -1,5 +1,6 @@
 // The rows behind an object: each object is read and computed once.
-ghost use Rattle.std.specs.Prelude.{◌≡◌, ◌≤◌, ◌<◌, ◌+◌, ◌^◌, ℕ, ◌++◌, ◌∷◌, [], IfOk, OnOk, IsTrue, map, Some, None};
+ghost use Rattle.std.specs.Prelude.{◌≡◌, ◌≤◌, ◌<◌, ◌+◌, ◌^◌, ℕ, List, ◌++◌, ◌∷◌, [], IfOk, OnOk, IsTrue, map, Some, None};
+ghost use Rattle.mesh_values.specs.declared.values.Cell.{Cell};
 ghost use Rattle.mesh_values.specs.declared.values.Pair.{Pair};
 ghost use Rattle.mesh_meaning.specs.Sel.{Sel};
 ghost use Rattle.mesh_rules.specs.Seen.{or_no_columns};
@@ -21,18 +22,43 @@ use crate::sources::source_tables;
 use mesh_base::{Input, Inputs, Own, Query};
 use mesh_eval::exact_rows;
 use mesh_house::{Body, Warehouse, WhFail};
-use mesh_list::{Duplicate, Memory, Seq};
+use mesh_list::{Boxed, Duplicate, Memory, Seq};
 use mesh_values::{Bounds, Columns, Name, Pair, Rows, has_two_underscores};
 use std::alloc::Global;
 
+/// What was read, in a box, so that a walk through many objects keeps little of each on the stack.
+fn boxed(alloc: Global, body: Option<Body>) -> Result<Option<Boxed<Body>>, Memory>
+    ensures { IfOk result (λ kept. kept ≡ body) }
+{
+    match body {
+        None => Ok(None),
+        Some(body) => Ok(Some(Boxed::new(alloc, body)?)),
+    }
+}
+
 /// What the object of that name keeps.
-fn body_at<W: Warehouse>(alloc: Global, house: &mut W, name: &Name) -> Result<Option<Body>, WhFail>
+fn body_at<W: Warehouse>(
+    alloc: Global,
+    house: &mut W,
+    name: &Name,
+) -> Result<Option<Boxed<Body>>, WhFail>
     ensures { Reads (λ w. body_of (object_at w name.now)) (W.told house.old) (W.told house.new) result }
 {
     if has_two_underscores(name.schema.as_slice()) {
-        house.body(alloc, name)
+        let body = house.body(alloc, name)?;
+        Ok(boxed(alloc, body)?)
     } else {
         Ok(None)
+    }
+}
+
+/// The rows of a table.
+fn table_rows(alloc: Global, kept: Boxed<Body>) -> Rows
+    ensures { (rows : List (List Cell)) → kept ≡ body.Rows rows → result ≡ rows }
+{
+    match kept.into_inner() {
+        Body::Rows(rows) => rows,
+        Body::Stored { .. } => Seq::new(alloc),
     }
 }
 
@@ -119,10 +145,11 @@ pub(crate) fn rows_behind<W: Warehouse>(
         (λ w r. AreKnown w known.new × (rows_through r.0 w name.now ≡ Some r.1))
         (λ w. lost_through depth w name.now) (W.told house.old) (W.told house.new) result }
 {
-    match body_at(alloc, house, name)? {
-        None => Err(dangling(name)),
-        Some(Body::Rows(rows)) => Ok((0, rows)),
-        Some(Body::Stored { own, targets }) => {
+    let Some(kept) = body_at(alloc, house, name)? else {
+        return Err(dangling(name));
+    };
+    match kept.get() {
+        Body::Stored { own, targets } => {
             if depth == 0 {
                 return Err(dangling(name));
             }
@@ -131,11 +158,12 @@ pub(crate) fn rows_behind<W: Warehouse>(
                 house,
                 depth - 1,
                 name,
-                &own,
+                own,
                 targets.as_slice(),
                 known,
             )
         }
+        Body::Rows(_) => Ok((0, table_rows(alloc, kept))),
     }
 }
 

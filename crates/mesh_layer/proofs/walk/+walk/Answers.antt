@@ -21,15 +21,16 @@ object_behind-returns-clause-finds g t c =
 
 pub rows_behind-returns-else-depth-eq0-clause-finds : goal.rows_behind-returns-else-depth-eq0-clause-finds
 rows_behind-returns-else-depth-eq0-clause-finds g t c =
-    passes_on _ _ _ _ _ _ _ _ _ c.stored_behind.result (by_read _ _ _ _ c.in_ok-body_at.ensures) c.stored_behind.ensures.finds (λ w told given.
-    let read = read_is _ _ _ _ c.in_ok-body_at.ensures w told in
-    let stored = c.in-Some-Stored.is in
-    let parts = c.in-Some-Stored.field-0-is in
+    passes_on _ _ _ _ _ _ _ _ _ c.stored_behind.result (by_read _ _ _ _ c.in_ok-kept.ensures) c.stored_behind.ensures.finds (λ w told given.
+    let read = read_is _ _ _ _ c.in_ok-kept.ensures w told in
+    let some = c.in-Some.is in
+    let got = c.get.ensures in
+    let stored = c.in-Stored.is in
     let list = c.as_slice.ensures in
-    let here : body_of (object_at w c.args.name.now) ≡ Some (Stored c.in-Some-Stored.own c.as_slice.result.now) = cc in (
+    let here : body_of (object_at w c.args.name.now) ≡ Some (Stored c.in-Stored.own c.as_slice.result.now) = cc in (
       given,
-      λ x found. (found.0, body_shown w x.0 c.args.name.now (Stored c.in-Some-Stored.own c.as_slice.result.now) x.1 here found.1),
-      λ o is. lost_deeper w c.args.depth c.args.name.now (Stored c.in-Some-Stored.own c.as_slice.result.now) o (omega arith) here is,
+      λ x found. (found.0, body_shown w x.0 c.args.name.now (Stored c.in-Stored.own c.as_slice.result.now) x.1 here found.1),
+      λ o is. lost_deeper w c.args.depth c.args.name.now (Stored c.in-Stored.own c.as_slice.result.now) o (omega arith) here is,
     ))
 
 pub stored_behind-returns-in_err-height-in-Some-clause-finds : goal.stored_behind-returns-in_err-height-in-Some-clause-finds
