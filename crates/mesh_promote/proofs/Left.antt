@@ -1,5 +1,5 @@
 -- The models that a plan leaves out are those that its list leaves out.
-use Rattle.std.proofs.Common.{◌≡◌, Bool, true, false, cond, not, List, [], ◌∷◌, ◌++◌, map, Some, None, refl, sym, ap, ◌∙◌}
+use Rattle.std.proofs.Common.{◌≡◌, Bool, true, false, cond, not, List, [], ◌∷◌, ◌++◌, map, Some, refl, ap, ◌∙◌}
 use Rattle.std.specs.Prelude.{◌||◌, ℕ}
 use Rattle.std.specs.List.{filter}
 use Rattle.std.specs.Option.{is_none}
@@ -10,12 +10,10 @@ use Rattle.mesh_list.proofs.Found.{found-placed}
 use Rattle.mesh_values.specs.Names.{name_cmp}
 use Rattle.mesh_values.specs.NameOrder.{names_exact}
 use Rattle.mesh_values.specs.declared.values.Name.{Name}
-use Rattle.mesh_values.specs.declared.values.Pair.{Pair}
 use Rattle.mesh_base.specs.Keys.{ref_name}
 use Rattle.mesh_base.specs.declared.snapshots.Ref.{Ref}
 use Rattle.mesh_book.specs.Changes.{previous_of}
 use Rattle.mesh_book.specs.declared.book.Book.{Book}
-use Rattle.mesh_house.specs.declared.world.Change.{Change}
 use Rattle.mesh_house.specs.declared.world.Change.TheVariants.{SetPending, Finalize}
 use Rattle.mesh_due.specs.Plans.{Planned}
 use Rattle.mesh_changes.specs.Changes.{Plan, drops, expiry, gone, is_listed, name_itself, names_by_order, objects_by_name, planned_ref, points, promotes, refs_by_name}

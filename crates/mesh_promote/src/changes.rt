@@ -89,12 +89,7 @@ fn push_points(
     Ok(())
 }
 
-fn push_drops(
-    alloc: Global,
-    changes: &mut Changes,
-    env: &Str,
-    names: &[Name],
-) -> Result<(), Memory>
+fn push_drops(alloc: Global, changes: &mut Changes, env: &Str, names: &[Name]) -> Result<(), Memory>
     ensures { OnOk result (changes.new ≡ changes.old ++ map (drops env.now) names.now) }
 {
     for name in names {

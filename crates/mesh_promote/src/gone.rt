@@ -87,12 +87,7 @@ fn absent(alloc: Global, names: &Register<Name>, all: &[Name]) -> Result<Names, 
 }
 
 /// The models that the environment had and the list doesn't have, by name.
-pub(crate) fn left_out(
-    alloc: Global,
-    b: &Book,
-    env: &Str,
-    list: &[Ref],
-) -> Result<Names, Memory>
+pub(crate) fn left_out(alloc: Global, b: &Book, env: &Str, list: &[Ref]) -> Result<Names, Memory>
     ensures { IfOk result (λ made. made ≡ left_out b.now env.now list.now) }
 {
     let previous = previous_of(alloc, b.environments.find(env))?;

@@ -13,11 +13,7 @@ use mesh_values::{Names, Str};
 use std::alloc::Global;
 
 /// Makes the changes of a list, each once and in its order, up to the first that fails, and answers their number.
-fn make_counted<W: Warehouse>(
-    alloc: Global,
-    house: &mut W,
-    list: &[Change],
-) -> Result<u64, WhFail>
+fn make_counted<W: Warehouse>(alloc: Global, house: &mut W, list: &[Change]) -> Result<u64, WhFail>
     ensures makes { Makes (λ w. list.now) (W.told house.old) (W.told house.new) result }
     ensures number { IfOk result (λ made. made ≡ length list.now) }
     ensures calls { IfOk result (λ made. (W.told house.new).calls ≡ risen made (W.told house.old).calls) }

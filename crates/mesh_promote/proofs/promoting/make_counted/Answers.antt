@@ -1,7 +1,6 @@
 use Rattle.std.proofs.Common.{[], ◌∷◌, suc, drop, take, arith, add-one}
-use Rattle.std.proofs.lemmas.List.{take_all}
 use Rattle.mesh_house.proofs.Lists.{take-more, take-parts}
-use Rattle.mesh_house.proofs.Runs.{change_makes, changed, ran_nothing, ran_then, makes_ok, makes_err}
+use Rattle.mesh_house.proofs.Runs.{change_makes, changed, ran_then, makes_err}
 use Rattle.mesh_promote.proofs.promoting.make_counted.Goals as goal
 
 pub returns-in_err-change-clause-makes : goal.returns-in_err-change-clause-makes
@@ -18,6 +17,6 @@ loop-change-preserved g c =
     let i = c.loop-change.change-index in
     let change = c.change-item.result in (
       rw add-one (ran_then (λ w. take i cs) (λ w. change ∷ []) (λ w. take (suc i) cs) _ _ _ c.loop-change.invariant.0 (changed change _ _ _ c.in_ok-change.ensures)
-      (λ w is. take-more cs i change (omega arith) c.change-item.is)),
+          (λ w is. take-more cs i change (omega arith) c.change-item.is)),
       omega (arith, c.loop-change.invariant.1, c.in_ok-change.ensures.calls),
     )
