@@ -44,10 +44,6 @@ no_unknown Memory h = absurd (cc)
 pub wanting : {T : Type 0} (list : List Change) (a : Told) (r : Result T WhFail) → IsErrAnd r (λ y. y ≡ Memory) → Makes (λ w. list) a a r
 wanting list a r is = memory_then (λ w. []) (λ w. list) (λ w. list) a a r (ran_nothing a) is (λ w told. refl)
 
--- one change, by a copy of the environment's name
-pub expire_made : {T : Type 0} (copy env : List ℕ) (a b : Told) (r : Result T WhFail) → copy ≡ env → Changes (Expire copy) a b r → Makes (λ w. Expire env ∷ []) a b r
-expire_made copy env a b r is made = subst (λ (e : List ℕ). Makes (λ w. Expire e ∷ []) a b r) is (change_makes (Expire copy) a b r made)
-
 -- a list that was computed was made, and something else is answered
 pub list_made : {T U : Type 0} (computed list : List Change) (a b : Told) (x : T) (y : U) → computed ≡ list → Makes (λ w. computed) a b (Ok x) → Makes (λ w. list) a b (Ok y)
 list_made {U = U} computed list a b x y is made = subst (λ (l : List Change). Makes {T = U} (λ w. l) a b (Ok y)) is (makes_ok (λ w. computed) a b y made.ok)
