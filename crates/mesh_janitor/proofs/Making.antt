@@ -1,13 +1,12 @@
 -- What a call that makes a list leaves of a house, as the janitor tells it.
-use Rattle.std.proofs.Common.{◌≡◌, ℕ, ℤ, subst, List, [], ◌∷◌, Ok, Err, Result, refl, arith}
+use Rattle.std.proofs.Common.{◌≡◌, ℤ, subst, List, [], Ok, Err, Result, refl, arith}
 use Rattle.std.specs.Result.{IsErrAnd}
 use Rattle.mesh_house.specs.declared.world.Change.{Change}
-use Rattle.mesh_house.specs.declared.world.Change.TheVariants.{Expire}
 use Rattle.mesh_house.specs.declared.house.WhFail.{WhFail}
 use Rattle.mesh_house.specs.declared.house.WhFail.TheVariants.{Failed, Memory}
-use Rattle.mesh_house.specs.House.{Told, Changes}
+use Rattle.mesh_house.specs.House.{Told}
 use Rattle.mesh_house.specs.Runs.{Makes, Stopped}
-use Rattle.mesh_house.proofs.Runs.{change_makes, makes_ok, memory_then, ran_nothing}
+use Rattle.mesh_house.proofs.Runs.{makes_ok, memory_then, ran_nothing}
 use Rattle.mesh_janitor.specs.declared.faults.SweepFault.TheVariants.{Moment, EnvUnknown}
 use Rattle.mesh_janitor.specs.Sweeping.{Sweeps, as_fault}
 
