@@ -1,13 +1,12 @@
 -- What a call that makes a list leaves of a house, as the janitor tells it.
-use Rattle.std.proofs.Common.{◌≡◌, ℕ, ℤ, subst, List, [], ◌∷◌, Ok, Err, Result, refl, arith}
+use Rattle.std.proofs.Common.{◌≡◌, ℤ, subst, List, [], Ok, Err, Result, refl, arith}
 use Rattle.std.specs.Result.{IsErrAnd}
 use Rattle.mesh_house.specs.declared.world.Change.{Change}
-use Rattle.mesh_house.specs.declared.world.Change.TheVariants.{Expire}
 use Rattle.mesh_house.specs.declared.house.WhFail.{WhFail}
 use Rattle.mesh_house.specs.declared.house.WhFail.TheVariants.{Failed, Memory}
-use Rattle.mesh_house.specs.House.{Told, Changes}
+use Rattle.mesh_house.specs.House.{Told}
 use Rattle.mesh_house.specs.Runs.{Makes, Stopped}
-use Rattle.mesh_house.proofs.Runs.{change_makes, makes_ok, memory_then, ran_nothing}
+use Rattle.mesh_house.proofs.Runs.{makes_ok, memory_then, ran_nothing}
 use Rattle.mesh_janitor.specs.declared.faults.SweepFault.TheVariants.{Moment, EnvUnknown}
 use Rattle.mesh_janitor.specs.Sweeping.{Sweeps, as_fault}
 
@@ -43,10 +42,6 @@ no_unknown Memory h = absurd (cc)
 -- memory ran out before the first change
 pub wanting : {T : Type 0} (list : List Change) (a : Told) (r : Result T WhFail) → IsErrAnd r (λ y. y ≡ Memory) → Makes (λ w. list) a a r
 wanting list a r is = memory_then (λ w. []) (λ w. list) (λ w. list) a a r (ran_nothing a) is (λ w told. refl)
-
--- one change, by a copy of the environment's name
-pub expire_made : {T : Type 0} (copy env : List ℕ) (a b : Told) (r : Result T WhFail) → copy ≡ env → Changes (Expire copy) a b r → Makes (λ w. Expire env ∷ []) a b r
-expire_made copy env a b r is made = subst (λ (e : List ℕ). Makes (λ w. Expire e ∷ []) a b r) is (change_makes (Expire copy) a b r made)
 
 -- a list that was computed was made, and something else is answered
 pub list_made : {T U : Type 0} (computed list : List Change) (a b : Told) (x : T) (y : U) → computed ≡ list → Makes (λ w. computed) a b (Ok x) → Makes (λ w. list) a b (Ok y)

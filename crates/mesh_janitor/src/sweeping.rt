@@ -15,8 +15,8 @@ ghost use Rattle.mesh_janitor.specs.Sweeping.{Sweeps, as_fault, numbers};
 use crate::changes::sweep_of;
 use crate::faults::{SweepFault, Swept};
 use mesh_book::Book;
-use mesh_house::{Change, Warehouse, WhFail};
-use mesh_list::Duplicate;
+use mesh_house::{Change, Changes, Warehouse, WhFail};
+use mesh_list::{Duplicate, Memory, Seq};
 use mesh_making::make_counted;
 use mesh_values::Str;
 use std::alloc::Global;
@@ -75,13 +75,24 @@ pub fn sweep<W: Warehouse>(
     }
 }
 
-// Makes the one change.
-fn expire<W: Warehouse>(alloc: Global, house: &mut W, env: &Str) -> Result<(), WhFail>
-    ensures makes { Makes (λ w. Expire env.now ∷ []) (W.told house.old) (W.told house.new) result }
-    ensures calls { IfOk result (λ _. (W.told house.new).calls ≡ risen 1 (W.told house.old).calls) }
+// The one change, as a list.
+fn expiring(alloc: Global, env: &Str) -> Result<Changes, Memory>
+    ensures { IfOk result (λ changes. changes ≡ Expire env.now ∷ []) }
 {
-    let change = Change::Expire { env: env.copy()? };
-    house.change(alloc, &change)
+    let mut changes = Seq::new(alloc);
+    changes.push(Change::Expire { env: env.copy()? })?;
+    Ok(changes)
+}
+
+// Makes it.
+fn expire<W: Warehouse>(alloc: Global, house: &mut W, env: &Str) -> Result<u64, WhFail>
+    ensures makes { Makes (λ w. Expire env.now ∷ []) (W.told house.old) (W.told house.new) result }
+    ensures number { IfOk result (λ made. made ≡ 1) }
+    ensures calls { IfOk result (λ made. (W.told house.new).calls ≡ risen made (W.told house.old).calls) }
+{
+    let list = expiring(alloc, env)?;
+    let made = make_counted(alloc, house, list.as_slice())?;
+    Ok(made)
 }
 
 /// Makes an environment one that is over, so that a sweep takes it out. Production never is. Where this book, which was
@@ -103,7 +114,7 @@ pub fn invalidate<W: Warehouse>(
         return Err(SweepFault::EnvUnknown);
     }
     match expire(alloc, house, env) {
-        Ok(()) => Ok(()),
+        Ok(_) => Ok(()),
         Err(fail) => Err(as_fault(fail)),
     }
 }
