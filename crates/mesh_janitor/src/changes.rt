@@ -14,10 +14,10 @@ ghost use Rattle.mesh_janitor.specs.Walk.{deletes, deletes_by, deletes_of, disca
 
 use crate::kept::{is_over, rank_limit, stays, wanted};
 use crate::tables::gone_tables;
-use crate::views::view_in;
 use mesh_base::{Env, Ref, Snapshot};
 use mesh_book::Book;
 use mesh_house::{Change, Changes};
+use mesh_layer::view_in;
 use mesh_list::{Duplicate, Memory, Register, Seq, Sorted};
 use mesh_values::{Name, Str};
 use std::alloc::Global;

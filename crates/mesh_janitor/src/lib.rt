@@ -9,7 +9,6 @@ mod kept;
 mod laws;
 mod sweeping;
 mod tables;
-mod views;
 
 pub use faults::{SweepFault, Swept};
 pub use laws::what_is_used_stays;
