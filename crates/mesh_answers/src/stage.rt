@@ -2,9 +2,10 @@
 use crate::asked::{put_model, query_of};
 use crate::shown::{put_places, put_rows, put_sum};
 use crate::words::{Word, expanded};
-use mesh_base::{Defn, Input, Inputs, Own, Sources, columns_of};
+use mesh_base::{Defn, Input, Inputs, Own, Sources};
 use mesh_canon::read_own;
 use mesh_cases::{Trouble, halves};
+use mesh_columns::columns_of;
 use mesh_eval::eval;
 use mesh_index::distinct_rows;
 use mesh_list::{Duplicate, Memory};

@@ -1,6 +1,6 @@
 //! The resolved forms that every later crate speaks of: expressions and queries, definitions of models, snapshots,
-//! environments and plans, and a model's columns. Its contract: a copy is equal and equality is exact, and `columns_of` gives
-//! the columns that a definition has. It stands on `mesh_list` and `mesh_values`.
+//! environments and plans. Its contract: a copy is equal and equality is exact. It stands on `mesh_list` and
+//! `mesh_values`.
 #![tactic(auto)]
 
 mod definitions;
@@ -10,7 +10,6 @@ mod expressions;
 mod forgets;
 mod jobs;
 mod keys;
-mod outputs;
 mod plans;
 mod queries;
 mod snapshots;
@@ -19,7 +18,6 @@ pub use definitions::{Decl, Defn, Externals, Own, Reading, Reads, Sources};
 pub use expressions::{AggKind, Expr, Exprs, Func, Op, Var, When, Whens};
 pub use forgets::{Forget, Forgets, Rename, Renames, Restate};
 pub use jobs::{Done, Input, Inputs, Job, Jobs, Pools, Swept};
-pub use outputs::{columns_of, select_columns};
 pub use plans::{Categories, Category, CategoryList, Due, Dues, Entries, Entry, Marks};
 pub use queries::{Ctes, FromItem, Froms, Item, Items, Join, Query, Rel, Select, Selects};
 pub use snapshots::{Env, Envs, Indexes, Node, Nodes, Ref, Refs, Snapshot, Snapshots};

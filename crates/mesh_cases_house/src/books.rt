@@ -2,9 +2,10 @@
 use crate::changes::snapshot;
 use crate::line::{Line, Named, Owns, pair, parted};
 use crate::owns::{add_own, put_columns_of, put_sorted};
-use mesh_base::{Env, Indexes, Node, Nodes, Snapshot, columns_of};
+use mesh_base::{Env, Indexes, Node, Nodes, Snapshot};
 use mesh_book::{BOOK_VERSION, Book, Version, book_fault};
 use mesh_cases::{Trouble, cases_of};
+use mesh_columns::columns_of;
 use mesh_list::{Duplicate, Register, Same, Seq};
 use mesh_rules::{Parent, Project, is_well_formed};
 use mesh_time::Ranges;

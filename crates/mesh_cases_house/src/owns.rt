@@ -1,8 +1,9 @@
 // Definitions by their canonical texts.
 use crate::line::{Named, Owns, parted};
-use mesh_base::{Defn, Own, columns_of};
+use mesh_base::{Defn, Own};
 use mesh_canon::{CanonFault, own_text, read_own};
 use mesh_cases::Trouble;
+use mesh_columns::columns_of;
 use mesh_list::{Duplicate, Seq};
 use mesh_values::{Columns, Rows, sort_rows};
 use std::alloc::Global;

@@ -1,6 +1,6 @@
 //! The rows of a query. Its contract: `eval` gives, as a bag, exactly the rows that the definition of the query has
-//! over its inputs and its bounds, for every query. It stands on `mesh_list`, `mesh_values`, `mesh_base`, `mesh_days`,
-//! the definitions of `mesh_meaning`, and `mesh_casts`.
+//! over its inputs and its bounds, for every query. It stands on `mesh_list`, `mesh_values`, `mesh_base`, `mesh_columns`,
+//! `mesh_days`, the definitions of `mesh_meaning`, and `mesh_casts`.
 #![tactic(auto)]
 
 mod aggregates;

@@ -14,8 +14,9 @@ ghost use Rattle.mesh_project.specs.Walk.{Leads, along};
 
 use crate::earlier::{Earlier, Place, named};
 use crate::reads::text_reads;
-use mesh_base::{Indexes, Input, Inputs, Node, Own, Ref, Refs, columns_of};
+use mesh_base::{Indexes, Input, Inputs, Node, Own, Ref, Refs};
 use mesh_canon_text::node_text;
+use mesh_columns::columns_of;
 use mesh_files::{LoadFault, ModelFile, ProjectFiles, in_file};
 use mesh_fingerprint::fingerprint;
 use mesh_list::{Duplicate, Memory, Seq, Sorted};

@@ -1,6 +1,7 @@
 //! What makes a definition well formed and a project proper, and the two types that keep to it: a `Project` is proper,
 //! and a `Plan` is over a project. Its contract: `is_well_formed` and `is_proper` answer exactly what their definitions
-//! say, and every `Project` is proper. It stands on `mesh_values` and `mesh_base`.
+//! say, and every `Project` is proper. It stands on `mesh_values`, `mesh_base`
+//! and `mesh_columns`.
 #![tactic(auto)]
 
 mod plans;

@@ -8,7 +8,8 @@ ghost use Rattle.mesh_rules.specs.Proper.{are_fit, are_places, as_parent, has_no
 
 use crate::relations::{Parent, Parents};
 use crate::well_formed::is_well_formed;
-use mesh_base::{Node, Own, columns_of};
+use mesh_base::{Node, Own};
+use mesh_columns::columns_of;
 use mesh_list::{Duplicate, Memory, Seq};
 use mesh_values::{MOST_MODELS, Name};
 use std::alloc::Global;

@@ -4,7 +4,8 @@ ghost use Rattle.std.specs.List.{list_all};
 ghost use Rattle.mesh_rules.specs.Seen.{are_ctes_seen, are_selects_seen, are_there, column_at, conditions_see, has_column, is_query_seen, is_select_seen, items_see, keys_see, rel_columns, sees, sees_some, sees_when, select_sees, tables_of};
 
 use crate::relations::{Relation, relation_columns};
-use mesh_base::{Expr, FromItem, Item, Query, Rel, Select, Selects, When, select_columns};
+use mesh_base::{Expr, FromItem, Item, Query, Rel, Select, Selects, When};
+use mesh_columns::select_columns;
 use mesh_list::{Duplicate, Memory, Seq};
 use mesh_values::{Column, Columns, Str, same_text};
 use std::alloc::Global;

@@ -9,7 +9,8 @@ ghost use Rattle.mesh_rules.specs.Proper.{are_its_parents, are_known, are_named,
 
 use crate::relations::{Parent, Relation, read_relations};
 use crate::seen::{has_column, is_query_seen};
-use mesh_base::{Decl, Defn, Own, Rel, Select, Selects, columns_of};
+use mesh_base::{Decl, Defn, Own, Rel, Select, Selects};
+use mesh_columns::columns_of;
 use mesh_list::{Duplicate, Memory, Seq};
 use mesh_values::{Column, Kind, Name, Names, has_two_underscores};
 use std::alloc::Global;

@@ -2,8 +2,7 @@
 ghost use Rattle.std.specs.Prelude.{◌≡◌, IfOk};
 ghost use Rattle.mesh_base.specs.Outputs.{columns_of, item_columns, select_columns};
 
-use crate::definitions::{Defn, Own};
-use crate::queries::{Items, Select};
+use mesh_base::{Defn, Items, Own, Select};
 use mesh_list::{Duplicate, Memory, Seq};
 use mesh_values::{Column, Columns};
 use std::alloc::Global;
