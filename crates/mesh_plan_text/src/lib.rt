@@ -1,4 +1,5 @@
-//! What is printed of a plan. Its contract: `plan_text` gives exactly the text that the definition has. It stands on
+//! What is printed of a plan. Its contract: `plan_text` gives exactly the text that the definition has, and `put_moment` a
+//! moment as it is printed. It stands on
 //! `mesh_list`, `mesh_values`, `mesh_days`, `mesh_casts`, `mesh_base`, `mesh_rules` and `mesh_fault_text`.
 #![tactic(auto)]
 
@@ -7,4 +8,5 @@ mod moments;
 mod runs;
 mod text;
 
+pub use moments::put_moment;
 pub use text::plan_text;

@@ -24,7 +24,7 @@ fn moment_written(t: i64) -> [u8; 19]
 
 /// A moment as `YYYY-MM-DDTHH:MM:SS`.
 #[tactic(auto, unfolding(crate::specs::Moments::moment_text))]
-pub(crate) fn put_moment(out: &mut Vec<u8>, t: i64) -> Result<(), Memory>
+pub fn put_moment(out: &mut Vec<u8>, t: i64) -> Result<(), Memory>
     ensures { OnOk result (out.new.items ≡ out.old.items ++ moment_text t) }
 {
     if is_printable(t) {
