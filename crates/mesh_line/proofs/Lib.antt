@@ -1,0 +1,6 @@
+-- Rows: words that are taken and words that are refused, by computation.
+pub mod Rows
+-- Asking: what a command's words give, and which words give none.
+pub mod Asking
+-- Below: elements of a list that are passed over one after another.
+pub mod Below

@@ -1,0 +1,91 @@
+// What was given to a command.
+ghost use Rattle.std.specs.Prelude.{◌≡◌, codes, IfOk};
+ghost use Rattle.std.specs.Option.{option_map};
+ghost use Rattle.clap.specs.Walk.{rows_of};
+ghost use Rattle.clap.specs.Matches.{found_of};
+ghost use Rattle.mesh_line.specs.Lines.{again_given, days_given, env_given, given, is_flagged, model_given, workers_given};
+
+use crate::values::{again_named, days_named, env_named, name_named, workers_named};
+use clap::ArgMatches;
+use mesh_base::Restate;
+use mesh_list::{Memory, Seq};
+use mesh_values::{Name, Str, same_text};
+use std::alloc::Global;
+
+/// The value that was given under a name.
+pub(crate) fn given<'a>(m: &ArgMatches<'a>, id: &str) -> Option<&'a str>
+    ensures { option_map (λ s. s.now) result ≡ given id.now (rows_of (found_of m.now)) }
+{
+    m.get_str(id)
+}
+
+/// The same, copied.
+pub(crate) fn text_given(alloc: Global, m: &ArgMatches<'_>, id: &str) -> Result<Option<Str>, Memory>
+    ensures { IfOk result (λ made. made ≡ given id.now (rows_of (found_of m.now))) }
+{
+    match given(m, id) {
+        None => Ok(None),
+        Some(text) => Ok(Some(Seq::from_vec(Vec::from_slice(alloc, text.as_bytes())?))),
+    }
+}
+
+/// Whether a word without a value was given.
+pub(crate) fn is_flagged(m: &ArgMatches<'_>, id: &str) -> bool
+    ensures { result ≡ is_flagged id.now (rows_of (found_of m.now)) }
+{
+    match given(m, id) {
+        None => false,
+        Some(text) => same_text(text.as_bytes(), b"true"),
+    }
+}
+
+pub(crate) fn env_given(alloc: Global, m: &ArgMatches<'_>) -> Result<Option<Str>, Memory>
+    ensures { IfOk result (λ made. made ≡ env_given (rows_of (found_of m.now))) }
+{
+    env_named(alloc, given(m, "env"))
+}
+
+pub(crate) fn workers_given(m: &ArgMatches<'_>) -> Option<u32>
+    ensures { result ≡ workers_given (rows_of (found_of m.now)) }
+{
+    workers_named(given(m, "workers"))
+}
+
+pub(crate) fn again_given(
+    alloc: Global,
+    m: &ArgMatches<'_>,
+) -> Result<Option<Option<Restate>>, Memory>
+    ensures { IfOk result (λ made. made ≡ again_given (rows_of (found_of m.now))) }
+{
+    again_named(
+        alloc,
+        given(m, "restate-model"),
+        given(m, "start"),
+        given(m, "end"),
+    )
+}
+
+pub(crate) fn model_given(
+    alloc: Global,
+    m: &ArgMatches<'_>,
+    id: &str,
+) -> Result<Option<Name>, Memory>
+    ensures { IfOk result (λ made. made ≡ model_given id.now (rows_of (found_of m.now))) }
+{
+    match given(m, id) {
+        None => Ok(None),
+        Some(text) => name_named(alloc, text.as_bytes()),
+    }
+}
+
+pub(crate) fn days_given(m: &ArgMatches<'_>) -> Option<(i32, i32)>
+    ensures { result ≡ days_given (rows_of (found_of m.now)) }
+{
+    let Some(first) = given(m, "start") else {
+        return None;
+    };
+    match given(m, "end") {
+        None => None,
+        Some(last) => days_named(first.as_bytes(), last.as_bytes()),
+    }
+}

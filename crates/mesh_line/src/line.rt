@@ -1,0 +1,78 @@
+// Command lines.
+ghost use Rattle.std.specs.Prelude.{◌≡◌};
+ghost use Rattle.mesh_line.specs.declared.line.UsageFault.TheVariants as fault;
+
+use mesh_base::Restate;
+use mesh_list::Memory;
+use mesh_values::{Name, Str};
+
+/// A command, with what its words ask for. A moment is in seconds since 1970-01-01, a day in days since then; where no
+/// moment is given, the clock is asked.
+#[derive(Drop)]
+pub enum Command {
+    Plan {
+        env: Str,
+        auto_apply: bool,
+        workers: u32,
+        moment: Option<i64>,
+        again: Option<Restate>,
+    },
+    Apply {
+        env: Str,
+        workers: u32,
+        moment: Option<i64>,
+        again: Option<Restate>,
+    },
+    Run {
+        env: Str,
+        workers: u32,
+        moment: Option<i64>,
+    },
+    /// The model's rows for the days from the first to the last.
+    Evaluate {
+        model: Name,
+        env: Str,
+        first: i32,
+        last: i32,
+    },
+    Fetchdf {
+        query: Str,
+        env: Str,
+    },
+    Ingest {
+        name: Name,
+        file: Str,
+        append: bool,
+    },
+    Janitor {
+        moment: Option<i64>,
+    },
+    Invalidate {
+        env: Str,
+    },
+    Migrate,
+    Batch,
+}
+
+/// A whole command line: the folder of the project, the file of the warehouse, and the command.
+#[derive(Drop)]
+pub struct Line {
+    pub paths: Option<Str>,
+    pub warehouse: Option<Str>,
+    pub command: Command,
+}
+
+/// The words are no command line, or memory ran out.
+#[derive(Clone, Copy, PartialEq, Eq)]
+pub enum UsageFault {
+    Usage,
+    Memory,
+}
+
+impl From<Memory> for UsageFault {
+    ghost from_gives = { λ _ e. e ≡ fault.Memory };
+
+    fn from(_: Memory) -> Self {
+        UsageFault::Memory
+    }
+}

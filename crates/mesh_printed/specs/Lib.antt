@@ -1,0 +1,6 @@
+-- Records: rows as a CSV file has them.
+pub mod Records
+-- Reports: what a command prints when it is done.
+pub mod Reports
+-- Refusals: the line that a command prints when it isn't.
+pub mod Refusals
