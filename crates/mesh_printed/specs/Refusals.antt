@@ -1,7 +1,6 @@
 -- The line that a command prints when it isn't done, and its exit status.
-use Rattle.std.specs.Prelude.{ℕ, ℤ, List, codes}
+use Rattle.std.specs.Prelude.{ℕ, List, codes}
 use Rattle.std.specs.Fmt.{decimal}
-use Rattle.mesh_values.specs.declared.values.Name.{Name}
 use Rattle.mesh_fault_text.specs.Lines.{◌·◌, fault_line, name_text}
 use Rattle.mesh_plan_text.specs.Moments.{moment_text}
 use Rattle.mesh_printed.specs.declared.refusals.Refusal.{Refusal}

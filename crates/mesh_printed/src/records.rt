@@ -23,42 +23,42 @@ fn field_of(alloc: Global, cell: &Cell) -> Result<Str, Memory>
     }
 }
 
-fn push_cell(alloc: Global, record: &mut ByteRecord, cell: &Cell) -> Result<(), Memory>
-    requires { partial_of record.old ≡ [] }
-    ensures { OnOk result ((fields_of record.new ≡ fields_of record.old ++ field cell.now ∷ []) × (partial_of record.new ≡ [])) }
+fn push_cell(alloc: Global, fields: &mut ByteRecord, cell: &Cell) -> Result<(), Memory>
+    requires { partial_of fields.old ≡ [] }
+    ensures { OnOk result ((fields_of fields.new ≡ fields_of fields.old ++ field cell.now ∷ []) × (partial_of fields.new ≡ [])) }
 {
     let text = field_of(alloc, cell)?;
-    record.push_field(text.as_slice())?;
+    fields.push_field(text.as_slice())?;
     Ok(())
 }
 
 /// A row as a record.
 fn row_record(alloc: Global, row: &Row) -> Result<ByteRecord, Memory>
-    ensures { IfOk result (λ record. fields_of record ≡ map field row.now) }
+    ensures { IfOk result (λ made. fields_of made ≡ map field row.now) }
 {
-    let mut record = ByteRecord::new(alloc);
+    let mut made = ByteRecord::new(alloc);
     for cell in row.as_slice() {
-        push_cell(alloc, &mut record, cell)?;
+        push_cell(alloc, &mut made, cell)?;
     }
-    Ok(record)
+    Ok(made)
 }
 
 /// The columns' names as a record.
 fn head_record(alloc: Global, columns: &[Column]) -> Result<ByteRecord, Memory>
-    ensures { IfOk result (λ record. fields_of record ≡ map column_name columns.now) }
+    ensures { IfOk result (λ made. fields_of made ≡ map column_name columns.now) }
 {
-    let mut record = ByteRecord::new(alloc);
+    let mut made = ByteRecord::new(alloc);
     for column in columns {
-        record.push_field(column.name.as_slice())?;
+        made.push_field(column.name.as_slice())?;
     }
-    Ok(record)
+    Ok(made)
 }
 
 /// Writes a record behind those that were written.
-fn put_record<W: Write + Drop>(writer: &mut Writer<W>, record: &ByteRecord) -> Result<(), Memory>
-    ensures { OnOk result ((text : List ℕ) → Holds W.contents writer.old text → Holds W.contents writer.new (text ++ row_text default_writer (fields_of record.now))) }
+fn put_record<W: Write + Drop>(writer: &mut Writer<W>, fields: &ByteRecord) -> Result<(), Memory>
+    ensures { OnOk result ((text : List ℕ) → Holds W.contents writer.old text → Holds W.contents writer.new (text ++ row_text default_writer (fields_of fields.now))) }
 {
-    match writer.write_byte_record(record) {
+    match writer.write_byte_record(fields) {
         Ok(()) => Ok(()),
         Err(_) => Err(Memory),
     }
@@ -67,11 +67,15 @@ fn put_record<W: Write + Drop>(writer: &mut Writer<W>, record: &ByteRecord) -> R
 fn put_row<W: Write + Drop>(alloc: Global, writer: &mut Writer<W>, row: &Row) -> Result<(), Memory>
     ensures { OnOk result ((text : List ℕ) → Holds W.contents writer.old text → Holds W.contents writer.new (text ++ row_text default_writer (map field row.now))) }
 {
-    let record = row_record(alloc, row)?;
-    put_record(writer, &record)
+    let fields = row_record(alloc, row)?;
+    put_record(writer, &fields)
 }
 
-fn put_rows<W: Write + Drop>(alloc: Global, writer: &mut Writer<W>, rows: &[Row]) -> Result<(), Memory>
+fn put_rows<W: Write + Drop>(
+    alloc: Global,
+    writer: &mut Writer<W>,
+    rows: &[Row],
+) -> Result<(), Memory>
     ensures { OnOk result ((text : List ℕ) → Holds W.contents writer.old text → Holds W.contents writer.new (text ++ flat_map (row_text default_writer) (map (map field) rows.now))) }
 {
     for row in rows {

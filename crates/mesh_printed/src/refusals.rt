@@ -1,5 +1,5 @@
 // Why a command isn't done.
-ghost use Rattle.std.specs.Prelude.{◌≡◌, codes, IfOk};
+ghost use Rattle.std.specs.Prelude.{◌≡◌, ◌++◌, codes, IfOk, OnOk};
 ghost use Rattle.std.specs.Fmt.{decimal};
 ghost use Rattle.mesh_fault_text.specs.Lines.{◌·◌, fault_line, name_text};
 ghost use Rattle.mesh_plan_text.specs.Moments.{moment_text};
@@ -16,38 +16,20 @@ use std::alloc::Global;
 #[derive(Drop)]
 pub enum Refusal {
     /// A fault of the project, or of the query and the names that the words have.
-    Model {
-        file: Str,
-        at: u64,
-        kind: FaultKind,
-    },
+    Model { file: Str, at: u64, kind: FaultKind },
     Usage,
     Warehouse,
     Memory,
     /// The folder, the clock or the input failed.
     Input,
-    MomentBehind {
-        given: i64,
-        kept: i64,
-    },
-    EnvUnknown {
-        env: Str,
-    },
-    EnvPending {
-        env: Str,
-    },
+    MomentBehind { given: i64, kept: i64 },
+    EnvUnknown { env: Str },
+    EnvPending { env: Str },
     /// The book of the warehouse breaks a rule, in its part and at its place there.
-    BookBroken {
-        part: u8,
-        place: u64,
-    },
-    ObjectMissing {
-        object: Name,
-    },
+    BookBroken { part: u8, place: u64 },
+    ObjectMissing { object: Name },
     /// The book is of a former version.
-    StateOld {
-        version: u32,
-    },
+    StateOld { version: u32 },
 }
 
 impl From<Memory> for Refusal {
@@ -85,15 +67,19 @@ fn text_of(alloc: Global, text: &[u8]) -> Result<Str, Memory>
     Ok(Seq::from_vec(Vec::from_slice(alloc, text)?))
 }
 
+fn put_moment_and(out: &mut Vec<u8>, t: i64, back: &[u8]) -> Result<(), Memory>
+    ensures { OnOk result (out.new.items ≡ out.old.items ++ (moment_text t · back.now)) }
+{
+    put_moment(out, t)?;
+    put(out, back)
+}
+
 fn behind_line(alloc: Global, given: i64, kept: i64) -> Result<Str, Memory>
     ensures { IfOk result (λ line. line ≡ (codes "S1 moment " · moment_text given · codes " is behind " · moment_text kept · codes "\n")) }
 {
-    let mut out = Vec::new(alloc);
-    put(&mut out, b"S1 moment ")?;
-    put_moment(&mut out, given)?;
-    put(&mut out, b" is behind ")?;
-    put_moment(&mut out, kept)?;
-    put(&mut out, b"\n")?;
+    let mut out = Vec::from_slice(alloc, b"S1 moment ")?;
+    put_moment_and(&mut out, given, b" is behind ")?;
+    put_moment_and(&mut out, kept, b"\n")?;
     Ok(Seq::from_vec(out))
 }
 

@@ -1,0 +1,2 @@
+-- Growing: texts of records that are written one after another.
+pub mod Growing
