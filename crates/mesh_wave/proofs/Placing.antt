@@ -1,14 +1,14 @@
 -- Where each number was drawn, each place is filled with the rows that are wanted there.
-use Rattle.std.proofs.Common.{◌≡◌, ◌<◌, ◌≤◌, ◌≢◌, ◌+◌, ◌%◌, ◌^◌, ℕ, zero, suc, Bool, true, false, cond, List, [], ◌∷◌, ◌++◌, map, set, length, get_or, replicate, refl, sym, ap, ap₂, ◌∙◌, subst, arith, ⊎_elim}
-use Rattle.std.specs.Prelude.{nat_eq, nat_lt, slice_get, Some, None}
+use Rattle.std.proofs.Common.{◌≡◌, ◌<◌, ◌≤◌, ◌≢◌, ◌%◌, ◌^◌, ℕ, zero, suc, Bool, true, false, cond, List, [], ◌∷◌, ◌++◌, map, set, length, get_or, replicate, refl, sym, ap, ◌∙◌, subst, arith, ⊎_elim}
+use Rattle.std.specs.Prelude.{nat_eq, slice_get, Some, None}
 use Rattle.std.specs.List.{All, flat_map}
 use Rattle.std.specs.Option.{option_map, option_to_list}
 use Rattle.std.specs.declared.option.Option.{Option}
 use Rattle.std.proofs.lemmas.Bool.{lt-ltb}
 use Rattle.std.proofs.lemmas.Bool.Decides.{eqb_tells}
-use Rattle.std.proofs.lemmas.List.{ext_get_or, get_or-replicate, get_or-set_same, get_or-set_other, get_or-map, length-map, length-replicate, length-set}
+use Rattle.std.proofs.lemmas.List.{ext_get_or, get_or-set_same, get_or-set_other, get_or-map, length-map, length-replicate, length-set}
 use Rattle.std.proofs.lemmas.List.Elements.{All-cons}
-use Rattle.std.proofs.lemmas.Option.{slice_get_within, slice_get-get_or, get_or_from_slice_get}
+use Rattle.std.proofs.lemmas.Option.{slice_get_within, slice_get-get_or}
 use Rattle.std.specs.declared.result.Result.{Result}
 use Rattle.std.specs.declared.result.Result.TheVariants.{Ok, Err}
 use Rattle.std.specs.Result.{IfOk}
@@ -16,7 +16,7 @@ use Rattle.mesh_list.specs.declared.memory.Memory.{Memory}
 use Rattle.mesh_values.specs.declared.values.Cell.{Cell}
 use Rattle.mesh_claims.specs.Claims.{AreAll, below, one_if, times, weigh}
 use Rattle.mesh_claims.proofs.Once.{once}
-use Rattle.mesh_wave.specs.Workers.{IsDone, IsPast, part, part_at, parts_of, placed, reach}
+use Rattle.mesh_wave.specs.Workers.{IsPast, part, parts_of, placed, reach}
 use Rattle.mesh_wave.specs.declared.parts.Part.{Part}
 
 abbrev Rows : Type 0
@@ -53,13 +53,13 @@ unfolding below
 some_below n zero few lt = absurd (omega arith)
 some_below n (suc k) few lt = ⊎_elim
     (λ (t : (nat_eq k n ≡ true) × (k ≡ n)).
-        let here : k % 2 ^ 64 ≡ k = omega arith in
-        let o = one_here n (k % 2 ^ 64) (here ∙ t.1) in
-        omega (arith, o))
+    let here : k % 2 ^ 64 ≡ k = omega arith in
+    let o = one_here n (k % 2 ^ 64) (here ∙ t.1) in
+    omega (arith, o))
     (λ (t : (nat_eq k n ≡ false) × (k ≢ n)).
-        let less : n < k = omega (arith, t.1) in
-        let e = some_below n k (omega arith) less in
-        omega (arith, e))
+    let less : n < k = omega (arith, t.1) in
+    let e = some_below n k (omega arith) less in
+    omega (arith, e))
     (eqb_tells k n)
 
 size : (word : ℕ) (drawn : List ℕ) (all : AreAll word drawn) → length drawn ≡ all.0
@@ -74,8 +74,8 @@ reached : (word : ℕ) (drawn : List ℕ) (n : ℕ) → AreAll word drawn → le
 reached word drawn n all few past =
     let s = size word drawn all in
     by_lt n all.0
-      (λ lt. let e : times n drawn ≡ below (one_if n) all.0 = all.2 (one_if n) in let p = some_below n all.0 (omega (arith, s)) lt in omega (arith, e, p))
-      (λ le. let e : weigh (reach n) drawn ≡ below (reach n) all.0 = all.2 (reach n) in let p = each_one n all.0 (omega (arith, s)) le in absurd (omega (arith, e, p, past)))
+    (λ lt. let e : times n drawn ≡ below (one_if n) all.0 = all.2 (one_if n) in let p = some_below n all.0 (omega (arith, s)) lt in omega (arith, e, p))
+    (λ le. let e : weigh (reach n) drawn ≡ below (reach n) all.0 = all.2 (reach n) in let p = each_one n all.0 (omega (arith, s)) le in absurd (omega (arith, e, p, past)))
 
 -- each number below n was drawn
 pub each_drawn : (word : ℕ) (drawn : List ℕ) (n : ℕ) → AreAll word drawn → length drawn < 2 ^ 64 → IsPast n drawn → (i : ℕ) → i < n → 0 < times i drawn
@@ -119,9 +119,9 @@ module _ (wanted : List Rows) where
   stays [] slots i len lt right = right
   stays (j ∷ js) slots i len lt right =
       subst (λ (s : Slots). Right s i) (sym (step slots j js)) (stays js (after slots j (slice_get wanted j)) i (after_length slots j (slice_get wanted j) ∙ len) lt (⊎_elim
-        (λ (t : (nat_eq i j ≡ true) × (i ≡ j)). subst (λ (k : ℕ). Right (after slots j (slice_get wanted j)) k) (sym t.1) (right_here slots j len (omega (arith, t.1))))
-        (λ (t : (nat_eq i j ≡ false) × (i ≢ j)). right_other slots i j (slice_get wanted j) t.1 ∙ right)
-        (eqb_tells i j)))
+      (λ (t : (nat_eq i j ≡ true) × (i ≡ j)). subst (λ (k : ℕ). Right (after slots j (slice_get wanted j)) k) (sym t.1) (right_here slots j len (omega (arith, t.1))))
+      (λ (t : (nat_eq i j ≡ false) × (i ≢ j)). right_other slots i j (slice_get wanted j) t.1 ∙ right)
+      (eqb_tells i j)))
 
   filled_at : (js : List ℕ) (slots : Slots) (i : ℕ) → length slots ≡ length wanted → i < length wanted → 0 < times i js → Right (placed slots (parts_of wanted js)) i
   unfolding weigh
@@ -130,9 +130,9 @@ module _ (wanted : List Rows) where
       let more : Slots = after slots j (slice_get wanted j) in
       let more_len : length more ≡ length wanted = after_length slots j (slice_get wanted j) ∙ len in
       subst (λ (s : Slots). Right s i) (sym (step slots j js)) (⊎_elim
-        (λ (t : (nat_eq i j ≡ true) × (i ≡ j)). stays js more i more_len lt (subst (λ (k : ℕ). Right more k) (sym t.1) (right_here slots j len (omega (arith, t.1)))))
-        (λ (t : (nat_eq i j ≡ false) × (i ≢ j)). filled_at js more i more_len lt (let e = none_here i j (λ is. t.1 (sym is)) in omega (arith, e)))
-        (eqb_tells i j))
+      (λ (t : (nat_eq i j ≡ true) × (i ≡ j)). stays js more i more_len lt (subst (λ (k : ℕ). Right more k) (sym t.1) (right_here slots j len (omega (arith, t.1)))))
+      (λ (t : (nat_eq i j ≡ false) × (i ≢ j)). filled_at js more i more_len lt (let e = none_here i j (λ is. t.1 (sym is)) in omega (arith, e)))
+      (eqb_tells i j))
 
   filled : (drawn : List ℕ) → ((i : ℕ) → i < length wanted → 0 < times i drawn) → placed (replicate (length wanted) None) (parts_of wanted drawn) ≡ map Some wanted
   filled drawn each =
@@ -140,7 +140,7 @@ module _ (wanted : List Rows) where
       let len : length slots ≡ length wanted = length-replicate (length wanted) None in
       let whole : length (placed slots (parts_of wanted drawn)) ≡ length wanted = placed_length slots drawn ∙ len in
       ext_get_or None _ _ (whole ∙ sym (length-map wanted Some)) (λ i lt.
-        filled_at drawn slots i len (omega (arith, whole)) (each i (omega (arith, whole))) ∙ sym (get_or-map Some wanted i [] None (omega (arith, whole))))
+      filled_at drawn slots i len (omega (arith, whole)) (each i (omega (arith, whole))) ∙ sym (get_or-map Some wanted i [] None (omega (arith, whole))))
 
   pub all_there : (drawn : List ℕ) → ((i : ℕ) → i < length wanted → 0 < times i drawn) → flat_map option_to_list (placed (replicate (length wanted) None) (parts_of wanted drawn)) ≡ wanted
   all_there drawn each = ap (flat_map option_to_list) (filled drawn each) ∙ each_some wanted

@@ -1,9 +1,9 @@
 -- What workers leave: the numbers that they drew, and the rows of the jobs that these numbers name.
-use Rattle.std.specs.Prelude.{◌≡◌, ◌≤◌, ◌<◌, ◌*◌, ℕ, suc, nat_lt, if◌then◌else◌, List, [], ◌∷◌, length, set, slice_get, IfOk}
+use Rattle.std.specs.Prelude.{◌≡◌, ◌≤◌, ◌<◌, ℕ, suc, nat_lt, if◌then◌else◌, List, length, set, slice_get, IfOk}
 use Rattle.std.specs.List.{fold, flat_map}
 use Rattle.std.specs.Option.{option_map, option_to_list}
 use Rattle.std.specs.declared.option.Option.{Option}
-use Rattle.std.specs.declared.option.Option.TheVariants.{None, Some}
+use Rattle.std.specs.declared.option.Option.TheVariants.{Some}
 use Rattle.std.specs.declared.result.Result.{Result}
 use Rattle.mesh_list.specs.declared.memory.Memory.{Memory}
 use Rattle.mesh_values.specs.declared.values.Cell.{Cell}

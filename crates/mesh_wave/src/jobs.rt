@@ -14,7 +14,13 @@ use mesh_values::{Bounds, Column, Rows, Str, sort_rows};
 use std::alloc::Global;
 
 /// The rows that count.
-fn counted(alloc: Global, rows: Rows, time: &Option<Str>, columns: &[Column], u: Bounds) -> Result<Rows, Memory>
+fn counted(
+    alloc: Global,
+    rows: Rows,
+    time: &Option<Str>,
+    columns: &[Column],
+    u: Bounds,
+) -> Result<Rows, Memory>
     ensures { IfOk result (λ made. made ≡ filter (counts time.now columns.now u) rows) }
 {
     let mut made = Seq::new(alloc);

@@ -4,6 +4,7 @@
 
 mod gates;
 mod jobs;
+mod laws;
 mod parts;
 mod times;
 mod units;
@@ -11,5 +12,5 @@ mod waves;
 mod workers;
 
 pub use gates::{Gate, OpenGate};
+pub use laws::jobs_are_of_models;
 pub use waves::wave;
-

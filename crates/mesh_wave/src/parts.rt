@@ -37,7 +37,10 @@ pub(crate) fn with_part<U: Units>(
 }
 
 /// What two workers made, one after the other.
-pub(crate) fn joined(left: Result<Parts, Memory>, right: Result<Parts, Memory>) -> Result<Parts, Memory>
+pub(crate) fn joined(
+    left: Result<Parts, Memory>,
+    right: Result<Parts, Memory>,
+) -> Result<Parts, Memory>
     ensures { IfOk result (λ parts. (first : List Part) × (second : List Part) × (left ≡ Ok first) × (right ≡ Ok second) × (parts ≡ first ++ second)) }
 {
     let mut parts = left?;
@@ -80,7 +83,11 @@ fn rows_at(alloc: Global, slots: Vec<Option<Rows>>) -> Result<RowsList, Memory>
 }
 
 /// The rows of the parts at their numbers.
-pub(crate) fn at_their_numbers(alloc: Global, parts: Parts, count: usize) -> Result<RowsList, Memory>
+pub(crate) fn at_their_numbers(
+    alloc: Global,
+    parts: Parts,
+    count: usize,
+) -> Result<RowsList, Memory>
     requires { All (λ p. p.number < count) parts }
     ensures { IfOk result (λ made. made ≡ flat_map option_to_list (placed (replicate count None) parts)) }
 {

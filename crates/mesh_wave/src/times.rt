@@ -1,8 +1,8 @@
 // Whether a row lies in a job's bounds.
 ghost use Rattle.std.specs.Prelude.{◌≡◌};
-ghost use Rattle.std.specs.Option.{option_copied, unwrap_or};
+ghost use Rattle.std.specs.Option.{option_copied};
 ghost use Rattle.mesh_values.specs.Picked.{cell_of, same_text};
-ghost use Rattle.mesh_values.specs.declared.values.Cell.{Cell};
+ghost use Rattle.mesh_eval.specs.Frames.{cell_or_null};
 ghost use Rattle.mesh_seconds.specs.Times.{is_within, lies_in, time_of};
 ghost use Rattle.mesh_wave.specs.Waves.{counts};
 
@@ -27,7 +27,7 @@ fn is_named(column: &Column, name: &Str) -> bool
 
 /// A row's cell in the column of that name.
 fn cell_of<'a>(columns: &[Column], row: &'a Row, name: &Str) -> Option<&'a Cell>
-    ensures { unwrap_or (option_copied result) Cell.Null ≡ cell_of columns.now row.now name.now }
+    ensures { cell_or_null (option_copied result) ≡ cell_of columns.now row.now name.now }
 {
     for (i, column) in columns.iter().enumerate() {
         if is_named(column, name) {

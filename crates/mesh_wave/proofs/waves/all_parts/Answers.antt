@@ -1,4 +1,4 @@
-use Rattle.std.proofs.Common.{◌≡◌, ◌<◌, ◌^◌, ℕ, List, length, IfOk, None, replicate, ap, ◌∙◌, subst, sym, arith}
+use Rattle.std.proofs.Common.{◌≡◌, ◌<◌, ℕ, List, length, None, replicate, subst, arith}
 use Rattle.std.specs.List.{All, flat_map}
 use Rattle.std.specs.Option.{option_to_list}
 use Rattle.atomic_table.specs.Table.{Me}
@@ -18,4 +18,4 @@ returns-clause-all g c =
     let drawn : List ℕ = c.work_all-seat.result.seat.me.0.drawn in
     let known = subst (λ (m : Me (Unit {0}) Claimed). AreAll c.drawn_so_far-drawn.result m.0.drawn) c.drawn_so_far-drawn.ensures.same.1 c.drawn_so_far-drawn.ensures.all in
     if_parts wanted drawn (λ parts. flat_map option_to_list (placed (replicate (length wanted) None) parts) ≡ wanted) c.work_all-seat.result.made c.work_all-seat.ensures.done.2
-      (all_there wanted drawn (each_drawn c.drawn_so_far-drawn.result drawn (length wanted) known (omega (arith, c.work_all-seat.ensures.done.0, c.requires)) c.work_all-seat.ensures.done.1))
+    (all_there wanted drawn (each_drawn c.drawn_so_far-drawn.result drawn (length wanted) known (omega (arith, c.work_all-seat.ensures.done.0, c.requires)) c.work_all-seat.ensures.done.1))

@@ -18,8 +18,8 @@ loop-preserved g c = (
 
 pub returns-clause-done : goal.returns-clause-done
 returns-clause-done g c = elim c.loop-test.branch [
-  else-loop-test w ↦
-    ran_out _ c.loop.counter 257 c.loop.seat.me.0.drawn _ c.loop.made c.loop.invariant.3 (omega (arith, c.loop.auto.counter-end, c.count-count.ensures.few)) (omega (arith, w.loop-test.false, c.count-count.ensures.number)) (ap (λ (s : Seat (Unit {0}) Claimed). s.me.0.drawn) w.seat-is)
+  | else-loop-test w ↦
+      ran_out _ c.loop.counter 257 c.loop.seat.me.0.drawn _ c.loop.made c.loop.invariant.3 (omega (arith, c.loop.auto.counter-end, c.count-count.ensures.few)) (omega (arith, w.loop-test.false, c.count-count.ensures.number)) (ap (λ (s : Seat (Unit {0}) Claimed). s.me.0.drawn) w.seat-is)
   | then-loop-test+then-number-count w ↦
-    ended _ c.loop.counter 257 c.loop.seat.me.0.drawn _ c.loop.made w.draw-number.result c.loop.invariant.3 (omega (arith, w.loop-test.true, c.count-count.ensures.few)) (omega (arith, w.if-number-count.true, c.count-count.ensures.number)) (ap (λ (s : Seat (Unit {0}) Claimed). s.me.0.drawn) w.seat-is ∙ ap (λ (v : Claimed). v.drawn) w.draw-number.ensures.drawn)
+      ended _ c.loop.counter 257 c.loop.seat.me.0.drawn _ c.loop.made w.draw-number.result c.loop.invariant.3 (omega (arith, w.loop-test.true, c.count-count.ensures.few)) (omega (arith, w.if-number-count.true, c.count-count.ensures.number)) (ap (λ (s : Seat (Unit {0}) Claimed). s.me.0.drawn) w.seat-is ∙ ap (λ (v : Claimed). v.drawn) w.draw-number.ensures.drawn)
 ]
