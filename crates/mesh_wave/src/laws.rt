@@ -9,6 +9,9 @@ ghost use Rattle.mesh_scratch.specs.Scratch.{defn_rows, piece_over};
 ghost use Rattle.mesh_changes.specs.Changes.{ascending};
 ghost use Rattle.mesh_wave.specs.Waves.{job_rows, pool_of};
 
+use mesh_base::{Jobs, Pools};
+use mesh_values::RowsList;
+
 /// A job that has a model's query and its time column gives the rows of the model for the job's bounds: those that are
 /// written for a unit. One that has no time column gives all rows of its query.
 pub fn jobs_are_of_models()
@@ -17,3 +20,12 @@ pub fn jobs_are_of_models()
     ensures whole { (pools : List (List Input)) (job : Job) (own : Own) → own.defn ≡ Sql job.query → job.time ≡ None →
         job_rows pools job ≡ ascending (defn_rows own.defn (pool_of pools job) job.bounds) }
 {}
+
+fn crosses<T: Send + Sync>() {}
+
+/// Pools, jobs and lists of rows may be sent to other threads and shared with them.
+pub fn jobs_cross_threads() {
+    crosses::<Pools>();
+    crosses::<Jobs>();
+    crosses::<RowsList>();
+}

@@ -6,11 +6,13 @@ mod gates;
 mod jobs;
 mod laws;
 mod parts;
+mod rows;
 mod times;
 mod units;
 mod waves;
 mod workers;
 
 pub use gates::{Gate, OpenGate};
-pub use laws::jobs_are_of_models;
+pub use laws::{jobs_are_of_models, jobs_cross_threads};
+pub use rows::{ascending_rows, rows_within};
 pub use waves::wave;

@@ -37,7 +37,8 @@ fn cell_of<'a>(columns: &[Column], row: &'a Row, name: &Str) -> Option<&'a Cell>
     None
 }
 
-fn lies_in(columns: &[Column], time: &Str, u: Bounds, row: &Row) -> bool
+/// Whether a row lies in an interval, by its time column.
+pub(crate) fn lies_in(columns: &[Column], time: &Str, u: Bounds, row: &Row) -> bool
     ensures { result ≡ lies_in columns.now time.now u row.now }
 {
     match cell_of(columns, row, time) {
