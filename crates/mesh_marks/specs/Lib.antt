@@ -1,0 +1,6 @@
+-- Least: the least of some seconds, and what those that stand on a model need to know of its horizon.
+pub mod Least
+-- Long: schedules that have too many units.
+pub mod Long
+-- Stands: how the units of a schedule stand in what is recorded, and which of them are computed again.
+pub mod Stands
