@@ -1,4 +1,16 @@
 -- Ticks: the last tick of a cron is not long before the moment.
 pub mod Ticks
--- Least: the least of some seconds, one at a time.
+-- Nodes: the closures of nodes, one node at a time, and those at some places.
+pub mod Nodes
+-- Least: the least of some seconds, one at a time, and horizons, one node at a time.
 pub mod Least
+-- Units: the units of a schedule, counted.
+pub mod Units
+-- TooLong: the first schedule that is too long.
+pub mod TooLong
+-- Flags: flags of models that go by those of their parents.
+pub mod Flags
+-- Near: units that are computed again, from the last one on.
+pub mod Near
+-- EachModel: what a plan's models are computed again of, from what is known of each.
+pub mod EachModel

@@ -4,3 +4,5 @@ pub mod Least
 pub mod Long
 -- Stands: how the units of a schedule stand in what is recorded, and which of them are computed again.
 pub mod Stands
+-- Lineages: which models each model stands on, as a row of bits.
+pub mod Lineages

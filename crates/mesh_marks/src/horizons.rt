@@ -73,7 +73,7 @@ fn floored(unit: Unit, t: i64) -> i64
 }
 
 /// The last tick of a model.
-#[tactic(auto, using(crate::proofs::Ticks::not_long_before))]
+#[tactic(auto, using(crate::proofs::Ticks::not_long_before, crate::proofs::Ticks::not_after, crate::proofs::Ticks::its_last_tick))]
 fn last_tick(own: &Own, t: i64) -> i64
     requires { IsMoment t }
     ensures tick { (clock : Clock) → Shows clock t → result ≡ last_tick clock own.now }
@@ -143,7 +143,7 @@ fn timed_over(incremental: bool, horizon: i64, least: Option<i64>) -> Option<i64
 }
 
 /// The horizon of each model at a moment.
-pub fn horizons(alloc: Global, nodes: &[Node], t: i64) -> Result<Horizons, Memory>
+pub fn horizons_of(alloc: Global, nodes: &[Node], t: i64) -> Result<Horizons, Memory>
     requires { IsMoment t }
     ensures horizons { IfOk result (λ made. (clock : Clock) → Shows clock t → made ≡ map (horizon clock) (closures nodes.now)) }
     ensures length { IfOk result (λ made. length made ≡ length nodes.now) }

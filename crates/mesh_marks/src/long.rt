@@ -11,6 +11,7 @@ use crate::schedules::{schedule_of, unit_count};
 use mesh_base::{Node, Own};
 use mesh_values::MOST_INTERVALS;
 
+#[tactic(auto, using(crate::proofs::Units::units_counted))]
 fn is_too_long(own: &Own, horizon: i64) -> bool
     requires { IsHorizon horizon }
     ensures { result ≡ nat_lt 200_000 (length (units_from own.now.start own.now.unit horizon)) }
