@@ -22,6 +22,7 @@ use Rattle.mesh_scratch.specs.Horizons.{Clock, horizon, units_from}
 use Rattle.mesh_due.specs.Dues.{again, again_of, again_units, is_looked_back, is_open as is_open_unit, is_restated, restates, touches_days}
 use Rattle.mesh_due.specs.Parts.{unit_of}
 use Rattle.mesh_due.specs.Plans.{Planned, holds, marks_of, planned, planned_by, ranges_of}
+use Rattle.mesh_marks.specs.declared.stands.Stand.{Stand}
 use Rattle.mesh_marks.specs.Stands.{is_again, is_open, parts_again, parts_by, stand, stand_of, units_again}
 use Rattle.mesh_marks.proofs.Nodes.{closures_long, known_of, node_there, number_of, closure_at}
 
@@ -41,7 +42,7 @@ agains true true false near = refl
 agains true true true near = refl
 
 module _ (b : Book) (r : Option Restate) (p : Planned) where
-  abbrev stands : Bounds → _
+  abbrev stands : Bounds → Stand
   stands = stand (restates r p.closure) r (ranges_of (version_of b p.object))
 
   near : (n : ℕ) (us : List Bounds) → list_any (is_open_unit b r p) (take n us) ≡ list_any is_open (take n (map stands us))
@@ -84,7 +85,7 @@ planned_long (n ∷ ns) (c ∷ cs) [] f g = absurd (omega (arith, g))
 planned_long (n ∷ ns) (c ∷ cs) (e ∷ es) f g = let more = planned_long ns cs es (omega (arith, f)) (omega (arith, g)) in omega (arith, more)
 
 -- a model of a plan, with what is known of it
-record Known (clock : Clock) (nodes : List Node) (entries : List Entry) (i : ℕ) (own : Own) (object : Name) (h : ℤ) : Type 0 where
+pub record Known (clock : Clock) (nodes : List Node) (entries : List Entry) (i : ℕ) (own : Own) (object : Name) (h : ℤ) : Type 0 where
   pub model : Planned
   pub at : slice_get (planned nodes entries) i ≡ Some model
   pub closure_there : slice_get (closures nodes) i ≡ Some model.closure

@@ -14,3 +14,7 @@ pub mod Flags
 pub mod Near
 -- EachModel: what a plan's models are computed again of, from what is known of each.
 pub mod EachModel
+-- Bits: rows of bits.
+pub mod Bits
+-- Walk: how units stand, one unit more.
+pub mod Walk

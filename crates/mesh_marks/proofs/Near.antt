@@ -26,12 +26,32 @@ near_is n m h [] = not_below n m h ∙ sym (ap (list_any is_open) (none m))
     none zero = refl
     none (suc k) = refl
 near_is n zero h (s ∷ ss) = not_below (clear_of n (s ∷ ss)) 0 (omega arith)
-near_is n (suc m) h (s ∷ ss) = go s
+near_is n (suc m) h (s ∷ ss) = go s (near_is n m (omega (arith, h)) ss)
   where
-    go : (s : Stand) → nat_lt (clear_before n s (clear_of n ss)) (suc m) ≡ (is_open s || list_any is_open (take m ss))
-    go Lacking = grind (arith, nat_tests)
-    go Restated = grind (arith, nat_tests)
-    go Kept = kept_near (clear_of n ss) n m h ∙ near_is n m (omega (arith, h)) ss
+    go : (s : Stand) → nat_lt (clear_of n ss) m ≡ list_any is_open (take m ss) → nat_lt (clear_before n s (clear_of n ss)) (suc m) ≡ (is_open s || list_any is_open (take m ss))
+    go Lacking e = grind (arith, nat_tests)
+    go Restated e = grind (arith, nat_tests)
+    go Kept e = kept_near (clear_of n ss) n m h ∙ e
+
+-- behind the last unit there is none
+pub nothing_behind : (n : ℕ) (us : List Bounds) (ss : List Stand) (k : ℕ) → length ss ≤ k → again_in n (drop k us) (drop k ss) ≡ []
+nothing_behind n us ss k h = ap (again_in n (drop k us)) (past ss k h) ∙ none (drop k us)
+  where
+    past : (xs : List Stand) (j : ℕ) → length xs ≤ j → drop j xs ≡ []
+    past [] zero h = refl
+    past [] (suc j) h = refl
+    past (x ∷ xs) zero h = absurd (omega (arith, h))
+    past (x ∷ xs) (suc j) h = past xs j (omega (arith, h))
+
+    none : (vs : List Bounds) → again_in n vs [] ≡ []
+    none [] = refl
+    none (v ∷ vs) = refl
+
+pub clear_behind : (n : ℕ) (ss : List Stand) (k : ℕ) → length ss ≤ k → n ≡ clear_of n (drop k ss)
+clear_behind n [] zero h = refl
+clear_behind n [] (suc k) h = refl
+clear_behind n (x ∷ xs) zero h = absurd (omega (arith, h))
+clear_behind n (x ∷ xs) (suc k) h = clear_behind n xs k (omega (arith, h))
 
 -- one unit before
 module _ (n : ℕ) (us : List Bounds) (ss : List Stand) (k : ℕ) (u : Bounds) (s : Stand) (in_units : k < length us) (in_stands : k < length ss) (unit : get_or us k u ≡ u) (stood : get_or ss k s ≡ s) where

@@ -1,5 +1,5 @@
 -- Which models each model stands on, as a row of bits, one for the place of each.
-use Rattle.std.specs.Prelude.{◌≡◌, ℕ, ◌/◌, ◌%◌, Bool, false, nat_eq, List, Some, None}
+use Rattle.std.specs.Prelude.{◌≡◌, ℕ, ◌/◌, ◌%◌, Bool, false, nat_eq, slice_index_or, List, Some, None}
 use Rattle.std.specs.Int.{bit_at}
 use Rattle.std.specs.List.{AllZip, list_any, slice_get}
 use Rattle.std.specs.declared.option.Option.{Option}
@@ -7,13 +7,9 @@ use Rattle.mesh_base.specs.declared.snapshots.Node.{Node}
 use Rattle.mesh_scratch.specs.Closures.{Closure}
 use Rattle.mesh_due.specs.Dues.{descends}
 
-abbrev pub word_has : Option ℕ → ℕ → Bool
-word_has None k = false
-word_has (Some w) k = nat_eq (bit_at w k) 1
-
 -- the bit of a place is set
 abbrev pub has_bit : List ℕ → ℕ → Bool
-has_bit row p = word_has (slice_get row (p / 64)) (p % 64)
+has_bit row p = nat_eq (bit_at (slice_index_or row (p / 64) 0) (p % 64)) 1
 
 abbrev pub bit_in : Option (List ℕ) → ℕ → Bool
 bit_in None p = false

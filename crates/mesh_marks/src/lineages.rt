@@ -10,12 +10,13 @@ use mesh_list::{Memory, Seq};
 use std::alloc::Global;
 
 /// Whether a row has the bit of a place.
+#[tactic(auto, using(crate::proofs::Bits::no_word))]
 pub(crate) fn has_bit(row: &[u64], place: usize) -> bool
     ensures { result ≡ has_bit row.now place }
 {
     match row.get(place / 64) {
         None => false,
-        Some(word) => (*word >> (place % 64)) & 1 == 1,
+        Some(word) => (*word >> (place % 64)) % 2 == 1,
     }
 }
 
@@ -24,7 +25,7 @@ fn no_bits(alloc: Global, words: usize) -> Result<Vec<u64>, Memory>
     ensures none { IfOk result (λ row. (p : ℕ) → has_bit row.items p ≡ false) }
 {
     let mut row = Vec::new(alloc);
-    for _ in 0..words {
+    for at in 0..words {
         row.push(0)?;
     }
     Ok(row)

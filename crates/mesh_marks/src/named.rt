@@ -1,5 +1,5 @@
 // The models that are named to be computed again, or stand on one that is.
-ghost use Rattle.std.specs.Prelude.{◌≡◌, ◌∷◌, [], ◌++◌, map, IfOk, length, true};
+ghost use Rattle.std.specs.Prelude.{◌≡◌, ◌∷◌, [], ◌++◌, ◌||◌, map, IfOk, length, true};
 ghost use Rattle.std.specs.List.{slice_get};
 ghost use Rattle.std.specs.Option.{option_copied};
 ghost use Rattle.mesh_scratch.specs.Closures.{closures};
@@ -40,6 +40,13 @@ fn any_at(flags: &[bool], places: &[u32]) -> bool
     false
 }
 
+// One of both, with no branch in its caller.
+fn either(a: bool, b: bool) -> bool
+    ensures { result ≡ (a || b) }
+{
+    a || b
+}
+
 /// Whether each model is named to be computed again, or stands on one that is.
 pub(crate) fn named_of(
     alloc: Global,
@@ -51,8 +58,9 @@ pub(crate) fn named_of(
 {
     let mut made = Vec::new(alloc);
     for node in nodes {
-        let is = is_named(restate, &node.own.name) || any_at(&made, node.parents.as_slice());
-        made.push(is)?;
+        let named = is_named(restate, &node.own.name);
+        let above = any_at(&made, node.parents.as_slice());
+        made.push(either(named, above))?;
     }
     Ok(made)
 }

@@ -1,9 +1,9 @@
 // How the units of a schedule stand in what is recorded.
-ghost use Rattle.std.specs.Prelude.{◌≡◌, true, map, IfOk};
+ghost use Rattle.std.specs.Prelude.{◌≡◌, true, map, IfOk, length, pos, ◌+ℤ◌, ◌*ℤ◌};
 ghost use Rattle.std.specs.Option.{is_some, option_copied};
 ghost use Rattle.mesh_time.specs.Edits.{front_covers, open_after};
-ghost use Rattle.mesh_time.specs.Ranges.{is_apart, units};
-ghost use Rattle.mesh_due.specs.Dues.{touches_days};
+ghost use Rattle.mesh_time.specs.Ranges.{is_apart, unit_count, units};
+ghost use Rattle.mesh_due.specs.Dues.{touches, touches_days};
 ghost use Rattle.mesh_due.specs.Plans.{marks_of, ranges_of};
 ghost use Rattle.mesh_marks.specs.Least.{IsHorizon};
 ghost use Rattle.mesh_marks.specs.Long.{IsStart};
@@ -67,19 +67,38 @@ pub(crate) fn front_covers(spans: &[Bounds], start: i64, end: i64) -> bool
     }
 }
 
+fn first_second(day: i32) -> i64
+    ensures { result ≡ day *ℤ pos 86_400 }
+{
+    day as i64 * 86_400
+}
+
+fn end_of(day: i32) -> i64
+    ensures { result ≡ (day +ℤ pos 1) *ℤ pos 86_400 }
+{
+    (day as i64 + 1) * 86_400
+}
+
+// Whether a unit has a second in the days from the first to the last.
+fn touches(first: Option<i32>, last: Option<i32>, unit: &Bounds) -> bool
+    ensures { result ≡ touches first last unit.now }
+{
+    let Some(first) = first else {
+        return true;
+    };
+    let Some(last) = last else {
+        return true;
+    };
+    unit.start < end_of(last) && first_second(first) < unit.end
+}
+
 fn touches_days(restate: Option<&Restate>, unit: &Bounds) -> bool
     ensures { result ≡ touches_days (option_copied restate.entry) unit.now }
 {
-    let Some(r) = restate else {
-        return false;
-    };
-    let Some(first) = r.first else {
-        return true;
-    };
-    let Some(last) = r.last else {
-        return true;
-    };
-    unit.start < (last as i64 + 1) * 86_400 && first as i64 * 86_400 < unit.end
+    match restate {
+        None => false,
+        Some(r) => touches(r.first, r.last, unit),
+    }
 }
 
 fn stand_of(held: bool, named: bool, touched: bool) -> Stand
@@ -105,7 +124,8 @@ pub(crate) fn stands_of(
     requires apart { is_apart spans.now ≡ true }
     requires start { IsStart schedule.now.start }
     requires end { IsHorizon schedule.now.end }
-    ensures { IfOk result (λ made. made.items ≡ map (stand named (option_copied restate.entry) spans.now) (units schedule.now)) }
+    ensures length { IfOk result (λ made. length made.items ≡ unit_count schedule.now) }
+    ensures stands { IfOk result (λ made. made.items ≡ map (stand named (option_copied restate.entry) spans.now) (units schedule.now)) }
 {
     let mut made = Vec::new(alloc);
     let mut rest = spans;
