@@ -115,3 +115,8 @@ all_joined old other row at over long j p = ap (λ w. nat_eq (bit_at w (p % 64))
         or_none : (a b : Bool) → b ≡ false → a ≡ (a || b)
         or_none true b e = refl
         or_none false b e = sym e
+
+pub any_default : (xs : List ℕ) (k d e : ℕ) → k < length xs → get_or xs k d ≡ get_or xs k e
+any_default [] k d e h = absurd (omega (arith, h))
+any_default (x ∷ xs) zero d e h = refl
+any_default (x ∷ xs) (suc k) d e h = any_default xs k d e (omega (arith, h))

@@ -16,6 +16,7 @@ use Rattle.mesh_base.specs.declared.forgets.Restate.{Restate}
 use Rattle.mesh_base.specs.declared.plans.Entry.{Entry}
 use Rattle.mesh_base.specs.declared.snapshots.Node.{Node}
 use Rattle.mesh_book.specs.declared.book.Book.{Book}
+use Rattle.mesh_book.specs.declared.versions.Version.{Version}
 use Rattle.mesh_house.specs.World.{version_of}
 use Rattle.mesh_scratch.specs.Closures.{Closure, closures, own_of}
 use Rattle.mesh_scratch.specs.Horizons.{Clock, horizon, units_from}
@@ -122,13 +123,16 @@ module _ (clock : Clock) (b : Book) (r : Option Restate) (nodes : List Node) (hs
   abbrev its_parts : Planned → List Forget
   its_parts p = again_of clock b r p p.node.own.kind
 
-  pub again_more : (flag : Bool) → slice_get flags i ≡ Some flag → (made new : List Forget) → made ≡ again clock b r (take i (planned nodes entries))
-      → new ≡ made ++ parts_again n.own e.object (get_or hs i (pos 0)) flag r (version_of b e.object) → new ≡ again clock b r (take (i + 1) (planned nodes entries))
-  again_more flag at made new was is =
+  pub again_more : (flag : Bool) → slice_get flags i ≡ Some flag → (object : Name) → object ≡ e.object → (h : ℤ) → h ≡ get_or hs i (pos 0) → (v : Option Version) → v ≡ version_of b object
+      → (made new : List Forget) → made ≡ again clock b r (take i (planned nodes entries)) → new ≡ made ++ parts_again n.own object h flag r v → new ≡ again clock b r (take (i + 1) (planned nodes entries))
+  again_more flag at object same_object h same_h v same_v made new was is =
       let k = model_at clock nodes hs all entries i n inside here e long entry in
       let p : Planned = k.model in
       let its_flag : flag ≡ restates r p.closure = known_of (restates r) (closures nodes) flags named i flag p.closure at k.closure_there in
+      let objects : object ≡ p.object = same_object ∙ sym k.its_object in
+      let seconds : h ≡ horizon clock p.closure = same_h ∙ sym k.its_horizon in
+      let owns : n.own ≡ p.node.own = sym k.node_own in
       is
-      ∙ (λ j. was j ++ parts_by (sym k.node_own j) (sym k.its_object j) (sym k.its_horizon j) (its_flag j) r (version_of b (sym k.its_object j)) (sym k.node_own j).kind)
+      ∙ (λ j. was j ++ parts_by (owns j) (objects j) (seconds j) (its_flag j) r ((same_v ∙ ap (version_of b) objects) j) (owns j).kind)
       ∙ ap (λ l. again clock b r (take i (planned nodes entries)) ++ l) (sym (parts_are b r p clock k.closure_own p.node.own.kind))
       ∙ sym (flat_more its_parts (planned nodes entries) i p k.at)

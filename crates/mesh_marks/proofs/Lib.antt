@@ -18,3 +18,11 @@ pub mod EachModel
 pub mod Bits
 -- Walk: how units stand, one unit more.
 pub mod Walk
+-- Rows: the rows of models, one model more.
+pub mod Rows
+-- Spots: the models of a project by name, one model more.
+pub mod Spots
+-- Kept: lists in the order of names.
+pub mod Kept
+-- MarksAre: the marks of a model are those that its row counts.
+pub mod MarksAre

@@ -22,7 +22,7 @@ not_below n m h = grind (arith, nat_tests)
 pub near_is : (n m : ℕ) → m ≤ n → (ss : List Stand) → nat_lt (clear_of n ss) m ≡ list_any is_open (take m ss)
 near_is n m h [] = not_below n m h ∙ sym (ap (list_any is_open) (none m))
   where
-    none : (k : ℕ) → take k [] ≡ []
+    none : (k : ℕ) → take {A = Stand} k [] ≡ []
     none zero = refl
     none (suc k) = refl
 near_is n zero h (s ∷ ss) = not_below (clear_of n (s ∷ ss)) 0 (omega arith)
@@ -54,12 +54,12 @@ clear_behind n (x ∷ xs) zero h = absurd (omega (arith, h))
 clear_behind n (x ∷ xs) (suc k) h = clear_behind n xs k (omega (arith, h))
 
 -- one unit before
-module _ (n : ℕ) (us : List Bounds) (ss : List Stand) (k : ℕ) (u : Bounds) (s : Stand) (in_units : k < length us) (in_stands : k < length ss) (unit : get_or us k u ≡ u) (stood : get_or ss k s ≡ s) where
+module _ (n : ℕ) (us : List Bounds) (ss : List Stand) (k : ℕ) (u v : Bounds) (s z : Stand) (in_units : k < length us) (in_stands : k < length ss) (unit : get_or us k v ≡ u) (stood : get_or ss k z ≡ s) where
   units_from_here : drop k us ≡ u ∷ drop (k + 1) us
-  units_from_here = drop_more us k u in_units ∙ ap (λ v. v ∷ drop (k + 1) us) unit
+  units_from_here = drop_more us k v in_units ∙ ap (λ x. x ∷ drop (k + 1) us) unit
 
   stands_from_here : drop k ss ≡ s ∷ drop (k + 1) ss
-  stands_from_here = drop_more ss k s in_stands ∙ ap (λ v. v ∷ drop (k + 1) ss) stood
+  stands_from_here = drop_more ss k z in_stands ∙ ap (λ x. x ∷ drop (k + 1) ss) stood
 
   again_here : again_in n (drop k us) (drop k ss) ≡ cond (is_again (nat_lt (clear_of n (drop (k + 1) ss)) n) s) (u ∷ again_in n (drop (k + 1) us) (drop (k + 1) ss)) (again_in n (drop (k + 1) us) (drop (k + 1) ss))
   again_here =

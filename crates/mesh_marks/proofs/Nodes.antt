@@ -68,3 +68,6 @@ pub number_of : (f : Closure → ℤ) (cs : List Closure) (xs : List ℤ) → xs
 number_of f cs xs e k c there =
     let inside : k < length xs = omega (arith, slice_get_within cs k c there, ap length e, length-map cs f) in
     known_of f cs xs e k (get_or xs k (pos 0)) c (slice_get-get_or xs k (pos 0) inside) there
+
+pub read_there : {X : Type 0} (xs : List X) (i : ℕ) (x : X) → i < length xs → x ≡ get_or xs i x → slice_get xs i ≡ Some x
+read_there xs i x inside here = slice_get_read xs (length xs) i x refl inside here

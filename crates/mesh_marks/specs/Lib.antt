@@ -6,3 +6,7 @@ pub mod Long
 pub mod Stands
 -- Lineages: which models each model stands on, as a row of bits.
 pub mod Lineages
+-- Marked: the models of a project by name, and the marks of one of them.
+pub mod Marked
+-- Whole: what is due of a model, from what is known of it.
+pub mod Whole

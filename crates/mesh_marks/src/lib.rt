@@ -4,7 +4,9 @@
 mod again;
 mod horizons;
 mod lineages;
+mod gone;
 mod long;
+mod marks;
 mod named;
 mod schedules;
 mod stands;
