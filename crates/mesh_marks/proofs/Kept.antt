@@ -19,7 +19,7 @@ use Rattle.mesh_values.specs.declared.values.Name.{Name}
 use Rattle.mesh_due.specs.Marks.{Mark, by_name, mark_name}
 use Rattle.mesh_marks.specs.Marked.{Entry, entry_name, entry_spot}
 
-abbrev first_mark : Name → List Mark → Option Mark
+abbrev pub first_mark : Name → List Mark → Option Mark
 first_mark k ms = found name_cmp mark_name k ms
 
 abbrev up_marks : List Mark → Bool

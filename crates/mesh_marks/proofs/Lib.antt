@@ -26,3 +26,7 @@ pub mod Spots
 pub mod Kept
 -- MarksAre: the marks of a model are those that its row counts.
 pub mod MarksAre
+-- Keys: parts of tables as the keys of a set.
+pub mod Keys
+-- EachDue: what is due of a plan's models, from what is known of each.
+pub mod EachDue

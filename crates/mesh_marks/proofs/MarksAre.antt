@@ -29,6 +29,10 @@ use Rattle.mesh_marks.proofs.Kept.{as_mark, by_name_found, by_name_up, first_mar
 
 -- all that stands among the closures of a project's models is one of them
 module _ (all : List Closure) (closed : (c : Closure) → Contains all c → Each (Contains all) (each_of (parents_of c))) where
+  joined : (xs ys : List Closure) → Each (Contains all) xs → Each (Contains all) ys → Each (Contains all) (xs ++ ys)
+  joined [] ys h g = g
+  joined (x ∷ xs) ys h g = (h.0, joined xs ys h.1 g)
+
   mutual
     standing_in : (c : Closure) → Contains all c → Each (Contains all) (standing c)
     standing_in (Model own ps) h = (h, ancestors_in ps (closed (Model own ps) h))
@@ -36,10 +40,6 @@ module _ (all : List Closure) (closed : (c : Closure) → Contains all c → Eac
     ancestors_in : (cs : Closures) → Each (Contains all) (each_of cs) → Each (Contains all) (ancestors cs)
     ancestors_in Alone h = tt
     ancestors_in (With c cs) h = joined (standing c) (ancestors cs) (standing_in c h.0) (ancestors_in cs h.1)
-
-  joined : (xs ys : List Closure) → Each (Contains all) xs → Each (Contains all) ys → Each (Contains all) (xs ++ ys)
-  joined [] ys h g = g
-  joined (x ∷ xs) ys h g = (h.0, joined xs ys h.1 g)
 
 of_each : {X : Type 0} (P Q : X → Type 0) → ((x : X) → P x → Q x) → (xs : List X) → Each P xs → Each Q xs
 of_each P Q f [] h = tt

@@ -8,5 +8,7 @@ pub mod Stands
 pub mod Lineages
 -- Marked: the models of a project by name, and the marks of one of them.
 pub mod Marked
+-- Sets: parts of tables as the keys of a set.
+pub mod Sets
 -- Whole: what is due of a model, from what is known of it.
 pub mod Whole

@@ -4,6 +4,7 @@
 mod again;
 mod horizons;
 mod lineages;
+mod due;
 mod gone;
 mod long;
 mod marks;
@@ -12,5 +13,6 @@ mod schedules;
 mod stands;
 
 pub use again::agains;
+pub use due::dues;
 pub use horizons::{Horizons, horizons_of};
 pub use long::first_too_long;
