@@ -1,6 +1,7 @@
 -- Parts of tables as the keys of a set.
 use Rattle.std.proofs.Common.{◌≡◌, ℕ, ℤ, ◌+◌, ◌<◌, Bool, true, false, ◌&&◌, ◌||◌, cond, List, [], ◌∷◌, ◌++◌, length, take, get_or, refl, sym, ap, ◌∙◌}
 use Rattle.std.specs.List.{list_any}
+use Rattle.std.specs.Cmp.Lexicographic.{slice_cmp}
 use Rattle.std.specs.Ordering.{int_cmp, is_eq, ordering_reverse, ordering_then}
 use Rattle.std.specs.declared.cmp.Ordering.{Ordering}
 use Rattle.std.specs.declared.cmp.Ordering.TheVariants.{Less, Equal, Greater}
@@ -9,6 +10,7 @@ use Rattle.std.proofs.lemmas.List.{take_more}
 use Rattle.std.proofs.lemmas.List.Folds.{list_any-append}
 use Rattle.mesh_values.specs.declared.values.Name.{Name}
 use Rattle.mesh_base.specs.declared.forgets.Forget.{Forget}
+use Rattle.mesh_due.specs.Marks.{same_marks}
 use Rattle.mesh_due.specs.Parts.{is_among, same_name, same_part, same_second}
 use Rattle.mesh_marks.specs.Sets.{part_cmp}
 use Rattle.mesh_marks.proofs.Rows.{turned}
@@ -56,3 +58,10 @@ none_added false = refl
 
 pub among_more : (parts : List Forget) (i : ℕ) (x p : Forget) → i < length parts → x ≡ get_or parts i x → is_among (take (i + 1) parts) p ≡ (is_among (take i parts) p || is_among (x ∷ []) p)
 among_more parts i x p inside here = ap (λ l. is_among l p) (take_more parts i x inside ∙ ap (λ y. take i parts ++ y ∷ []) (sym here)) ∙ list_any-append (same_part p) (take i parts) (x ∷ [])
+
+-- lists of seconds are the same where they compare so
+pub seconds_same : (xs ys : List ℤ) → is_eq (slice_cmp int_cmp xs ys) ≡ same_marks xs ys
+seconds_same [] [] = refl
+seconds_same [] (y ∷ ys) = refl
+seconds_same (x ∷ xs) [] = refl
+seconds_same (x ∷ xs) (y ∷ ys) = then_eq (int_cmp x y) (slice_cmp int_cmp xs ys) ∙ ap (λ b. same_second x y && b) (seconds_same xs ys)

@@ -59,6 +59,7 @@ fn sight_of(
     })
 }
 
+#[tactic(auto, using(crate::proofs::Keys::seconds_same))]
 fn same_marks(a: &[i64], b: &[i64]) -> bool
     ensures { result ≡ same_marks a.now b.now }
 {
@@ -77,19 +78,25 @@ fn are_marks(version: Option<&Version>, marks: &Marks) -> bool
     }
 }
 
+fn is_among(again: &BTreeSet<(i64, i64, Name)>, key: &(i64, i64, Name)) -> bool
+    ensures { result ≡ contains part_cmp again.now key.now }
+{
+    again.contains(key)
+}
+
 /// Whether a unit isn't recorded, or is among these, which are asked for by a key that has the object.
 fn is_due(
     held: bool,
-    units: &BTreeSet<(i64, i64, Name)>,
+    again: &BTreeSet<(i64, i64, Name)>,
     key: &mut (i64, i64, Name),
     unit: &Bounds,
 ) -> bool
-    ensures due { result ≡ (not held || contains part_cmp units.now (unit.now.start, unit.now.end, key.old.2)) }
+    ensures due { result ≡ (not held || contains part_cmp again.now (unit.now.start, unit.now.end, key.old.2)) }
     ensures object { key.new.2 ≡ key.old.2 }
 {
     key.0 = unit.start;
     key.1 = unit.end;
-    !held || units.contains(&*key)
+    !held || is_among(again, key)
 }
 
 fn push_unit(dues: &mut Dues, place: u32, unit: &Bounds, due: bool) -> Result<(), Memory>
@@ -112,13 +119,13 @@ fn add_unit_dues(
     object: &Name,
     schedule: &Schedule,
     spans: &[Bounds],
-    units: &BTreeSet<(i64, i64, Name)>,
+    again: &BTreeSet<(i64, i64, Name)>,
 ) -> Result<(), Memory>
     requires start { IsStart schedule.now.start }
     requires end { IsHorizon schedule.now.end }
     requires apart { is_apart spans.now ≡ true }
     ensures { OnOk result (dues.new ≡ dues.old ++ map (unit_due place)
-        (filter (is_due spans.now (λ u. contains part_cmp units.now (u.start, u.end, object.now))) (units schedule.now))) }
+        (filter (is_due spans.now (λ u. contains part_cmp again.now (u.start, u.end, object.now))) (units schedule.now))) }
 {
     let mut key = (0, 0, object.copy()?);
     let mut rest = spans;
@@ -126,7 +133,7 @@ fn add_unit_dues(
         let unit = unit_at(schedule, number);
         rest = open_after(rest, unit.start);
         let held = front_covers(rest, unit.start, unit.end);
-        let due = is_due(held, units, &mut key, &unit);
+        let due = is_due(held, again, &mut key, &unit);
         push_unit(dues, place, &unit, due)?;
     }
     Ok(())
@@ -186,6 +193,7 @@ fn add_dues(
 /// All that is due of a plan's models, each once and in the plan's order: units that aren't recorded, tables that were
 /// computed up to other marks, and what `forgets` has of both. The horizons are those of the moment; each model has its
 /// entry.
+#[tactic(auto, using(crate::proofs::EachDue::few))]
 pub fn dues(
     alloc: Global,
     nodes: &[Node],

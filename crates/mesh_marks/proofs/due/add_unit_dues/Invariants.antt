@@ -10,7 +10,7 @@ use Rattle.mesh_marks.proofs.due.add_unit_dues.Given as goal
 
 abbrev pub invariant-loop-number : goal.invariant-loop-number
 invariant-loop-number l = record {
-  made : l.dues ≡ l.fn.dues ++ map (unit_due l.place) (filter (is_due l.spans (λ (u : Bounds). contains part_cmp l.units (u.start, u.end, l.object))) (map (unit_at l.schedule) (range_with_len 0 l.number)));
+  made : l.dues ≡ l.fn.dues ++ map (unit_due l.place) (filter (is_due l.spans (λ (u : Bounds). contains part_cmp l.again (u.start, u.end, l.object))) (map (unit_at l.schedule) (range_with_len 0 l.number)));
   rest : (t : ℤ) → (unit_at l.schedule l.number).start ≤ℤ t → open_after t l.rest ≡ open_after t l.spans;
   key : l.key.2 ≡ l.object;
 }

@@ -3,7 +3,7 @@ use Rattle.std.specs.BTreeSet.{contains}
 use Rattle.mesh_values.specs.declared.times.Bounds.{Bounds}
 use Rattle.mesh_values.specs.declared.values.Name.{Name}
 use Rattle.mesh_due.specs.Parts.{is_among, unit_of}
-use Rattle.mesh_marks.specs.Whole.{part_cmp}
+use Rattle.mesh_marks.specs.Sets.{part_cmp}
 use Rattle.mesh_marks.proofs.gone.units_among.Given as goal
 
 abbrev pub invariant-loop-part : goal.invariant-loop-part
