@@ -8,6 +8,7 @@ use Rattle.std.specs.declared.cmp.Ordering.TheVariants.{Less, Equal, Greater}
 use Rattle.std.proofs.lemmas.Cmp.{int_cmp_total}
 use Rattle.std.proofs.lemmas.List.{take_more}
 use Rattle.std.proofs.lemmas.List.Folds.{list_any-append}
+use Rattle.mesh_values.specs.Names.{name_cmp}
 use Rattle.mesh_values.specs.declared.values.Name.{Name}
 use Rattle.mesh_base.specs.declared.forgets.Forget.{Forget}
 use Rattle.mesh_due.specs.Marks.{same_marks}
@@ -28,7 +29,7 @@ turned_seconds a b = ap is_eq (int_cmp_total.antisymm a b) ∙ go (int_cmp b a)
     go Equal = refl
     go Greater = refl
 
-swapped : (a b c : Bool) → (a && (b && c)) ≡ (c && (a && b))
+swapped : (a b c : Bool) → ((a && b) && c) ≡ (c && (a && b))
 swapped false b false = refl
 swapped false b true = refl
 swapped true false false = refl
@@ -38,8 +39,8 @@ swapped true true true = refl
 
 pub key_is : (s e : ℤ) (o : Name) (a b : ℤ) (x : Name) → is_eq (part_cmp (s, e, o) (a, b, x)) ≡ (same_name x o && (same_second a s && same_second b e))
 key_is s e o a b x =
-    then_eq (int_cmp s a) (ordering_then (int_cmp e b) (_))
-    ∙ ap (λ t. same_second s a && t) (then_eq (int_cmp e b) _)
+    then_eq (ordering_then (int_cmp s a) (int_cmp e b)) (name_cmp o x)
+    ∙ ap (λ t. t && same_name o x) (then_eq (int_cmp s a) (int_cmp e b))
     ∙ swapped (same_second s a) (same_second e b) (same_name o x)
     ∙ (λ i. turned o x i && (turned_seconds s a i && turned_seconds e b i))
 

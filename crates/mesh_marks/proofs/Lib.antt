@@ -30,3 +30,5 @@ pub mod MarksAre
 pub mod Keys
 -- EachDue: what is due of a plan's models, from what is known of each.
 pub mod EachDue
+-- OneMoment: a moment decides what is due.
+pub mod OneMoment

@@ -7,4 +7,4 @@ use Rattle.mesh_values.specs.declared.values.Name.{Name}
 
 -- by their start, end and object
 abbrev pub part_cmp : ℤ × ℤ × Name → ℤ × ℤ × Name → Ordering
-part_cmp a b = ordering_then (int_cmp a.0 b.0) (ordering_then (int_cmp a.1 b.1) (name_cmp a.2 b.2))
+part_cmp a b = ordering_then (ordering_then (int_cmp a.0 b.0) (int_cmp a.1 b.1)) (name_cmp a.2 b.2)
