@@ -4,7 +4,7 @@ use Rattle.std.specs.BTreeSet.{contains}
 use Rattle.std.specs.List.{filter, slice_get}
 use Rattle.std.specs.Option.{is_some}
 use Rattle.std.specs.declared.option.Option.{Option}
-use Rattle.std.specs.declared.option.Option.TheVariants.{None, Some}
+use Rattle.std.specs.declared.option.Option.TheVariants.{Some}
 use Rattle.std.proofs.lemmas.Bool.{and_parts, leb-true}
 use Rattle.std.proofs.lemmas.Option.{slice_get_within}
 use Rattle.mesh_values.specs.Names.{name_cmp}
@@ -27,13 +27,13 @@ use Rattle.mesh_scratch.specs.Horizons.{Clock, horizon, units_from}
 use Rattle.mesh_due.specs.Dues.{due, due_at, due_of, dues, dues_from, is_due_unit}
 use Rattle.mesh_due.specs.Marks.{marks}
 use Rattle.mesh_due.specs.Parts.{is_among, unit_of}
-use Rattle.mesh_due.specs.Plans.{Planned, are_marks, holds, marks_of, planned, planned_by, ranges_of}
+use Rattle.mesh_due.specs.Plans.{Planned, are_marks, holds, marks_of, planned, ranges_of}
 use Rattle.mesh_marks.specs.declared.due.Sight.{Sight}
 use Rattle.mesh_marks.specs.Whole.{IsSight, again_units, dues_by, is_due, sight_dues, sight_marks, unit_due, whole_due}
 use Rattle.mesh_marks.specs.Lineages.{HaveLineages, IsLineage}
-use Rattle.mesh_marks.specs.Marked.{AreSpots, row_marks, spots_in}
-use Rattle.mesh_marks.proofs.Nodes.{closures_long, node_there}
-use Rattle.mesh_marks.proofs.EachModel.{Known, model_at, planned_long, take_one}
+use Rattle.mesh_marks.specs.Marked.{row_marks}
+use Rattle.mesh_marks.proofs.Nodes.{node_there}
+use Rattle.mesh_marks.proofs.EachModel.{model_at, take_one}
 use Rattle.mesh_marks.proofs.MarksAre.{marks_are}
 
 pub few : (nodes : List Node) → is_proper nodes ≡ true → length nodes ≤ 4096

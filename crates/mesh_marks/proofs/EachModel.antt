@@ -2,9 +2,9 @@
 use Rattle.std.proofs.Common.{◌≡◌, ℕ, zero, suc, ◌+◌, ◌<◌, ℤ, pos, Bool, true, false, not, ◌&&◌, ◌||◌, cond, List, [], ◌∷◌, ◌++◌, map, length, take, get_or, refl, sym, ap, ◌∙◌, arith, append-nil}
 use Rattle.std.specs.List.{flat_map, list_any, slice_get}
 use Rattle.std.specs.declared.option.Option.{Option}
-use Rattle.std.specs.declared.option.Option.TheVariants.{None, Some}
-use Rattle.std.proofs.lemmas.List.{length-map, take_more}
-use Rattle.std.proofs.lemmas.Option.{slice_get-get_or, slice_get_read, slice_get_within, get_or_from_slice_get}
+use Rattle.std.specs.declared.option.Option.TheVariants.{Some}
+use Rattle.std.proofs.lemmas.List.{take_more}
+use Rattle.std.proofs.lemmas.Option.{slice_get_read, slice_get_within, get_or_from_slice_get}
 use Rattle.std.proofs.lemmas.Grind.{flat_map-append}
 use Rattle.mesh_values.specs.declared.kinds.Kind.{Kind}
 use Rattle.mesh_values.specs.declared.kinds.Kind.TheVariants.{Full, View, Seed, Incremental}
@@ -20,12 +20,12 @@ use Rattle.mesh_book.specs.declared.versions.Version.{Version}
 use Rattle.mesh_house.specs.World.{version_of}
 use Rattle.mesh_scratch.specs.Closures.{Closure, closures, own_of}
 use Rattle.mesh_scratch.specs.Horizons.{Clock, horizon, units_from}
-use Rattle.mesh_due.specs.Dues.{again, again_of, again_units, is_looked_back, is_open as is_open_unit, is_restated, restates, touches_days}
+use Rattle.mesh_due.specs.Dues.{again, again_of, again_units, is_open as is_open_unit, is_restated, restates, touches_days}
 use Rattle.mesh_due.specs.Parts.{unit_of}
-use Rattle.mesh_due.specs.Plans.{Planned, holds, marks_of, planned, planned_by, ranges_of}
+use Rattle.mesh_due.specs.Plans.{Planned, holds, planned, planned_by, ranges_of}
 use Rattle.mesh_marks.specs.declared.stands.Stand.{Stand}
 use Rattle.mesh_marks.specs.Stands.{is_again, is_open, parts_again, parts_by, stand, stand_of, units_again}
-use Rattle.mesh_marks.proofs.Nodes.{closures_long, known_of, node_there, number_of, closure_at}
+use Rattle.mesh_marks.proofs.Nodes.{known_of, node_there, number_of, closure_at}
 
 -- a unit is open, and is computed again, by how it stands
 opens : (h n t : Bool) → (not h || (n && (t && h))) ≡ is_open (stand_of h n t)

@@ -1,16 +1,15 @@
 -- Flags of models that go by those of their parents.
-use Rattle.std.proofs.Common.{◌≡◌, ℕ, ◌+◌, ◌<◌, Bool, true, false, ◌||◌, List, [], ◌∷◌, ◌++◌, map, length, take, get_or, refl, sym, ap, ◌∙◌}
-use Rattle.std.specs.List.{AllZip, list_any, slice_get}
+use Rattle.std.proofs.Common.{◌≡◌, ℕ, ◌+◌, ◌<◌, Bool, false, ◌||◌, List, [], ◌∷◌, ◌++◌, map, length, take, get_or, refl, sym, ap, ◌∙◌}
+use Rattle.std.specs.List.{list_any, slice_get}
 use Rattle.std.specs.Option.{option_map}
 use Rattle.std.specs.declared.option.Option.{Option}
 use Rattle.std.specs.declared.option.Option.TheVariants.{None, Some}
 use Rattle.std.proofs.lemmas.List.Folds.{list_any-append}
 use Rattle.std.proofs.lemmas.Option.{slice_get-map}
-use Rattle.mesh_base.specs.declared.definitions.Own.{Own}
 use Rattle.mesh_base.specs.declared.forgets.Restate.{Restate}
 use Rattle.mesh_base.specs.declared.snapshots.Node.{Node}
-use Rattle.mesh_scratch.specs.Closures.{Closure, Closures, Model, ancestors, closures, own_of, parents_at, standing, with_parent}
-use Rattle.mesh_due.specs.Dues.{descends, restates}
+use Rattle.mesh_scratch.specs.Closures.{Closure, ancestors, closures, own_of, parents_at, standing, with_parent}
+use Rattle.mesh_due.specs.Dues.{restates}
 use Rattle.mesh_due.specs.Parts.{same_name}
 use Rattle.mesh_marks.specs.Stands.{any_at, flag_of, is_named}
 use Rattle.mesh_marks.proofs.Nodes.{closure_of, known_more}

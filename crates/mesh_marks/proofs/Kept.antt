@@ -1,5 +1,5 @@
 -- Lists in the order of names: two with the same items are one, and some of one's items are found as in it.
-use Rattle.std.proofs.Common.{◌≡◌, ℤ, Bool, true, false, cond, List, [], ◌∷◌, map, refl, sym, ap, ◌∙◌}
+use Rattle.std.proofs.Common.{◌≡◌, Bool, true, false, cond, List, [], ◌∷◌, map, refl, sym, ap, ◌∙◌}
 use Rattle.std.specs.List.{filter}
 use Rattle.std.specs.Ordering.{is_eq, is_lt, ordering_reverse}
 use Rattle.std.specs.Option.{option_map}
@@ -9,15 +9,15 @@ use Rattle.std.specs.declared.cmp.Ordering.TheVariants.{Less, Equal, Greater}
 use Rattle.std.specs.declared.option.Option.{Option}
 use Rattle.std.specs.declared.option.Option.TheVariants.{None, Some}
 use Rattle.std.proofs.lemmas.Cmp.{tied_itself}
-use Rattle.mesh_list.specs.Keyed.{ascends, below_first, found, placed}
+use Rattle.mesh_list.specs.Keyed.{ascends, below_first, found}
 use Rattle.mesh_list.proofs.Ascends.{and_both, and_left, and_right, ascends-placed}
-use Rattle.mesh_list.proofs.Each.{below_later, found-above, found-behind, found-itself, found-later, lt_is}
+use Rattle.mesh_list.proofs.Each.{below_later, found-above, found-behind, found-itself, lt_is}
 use Rattle.mesh_list.proofs.Found.{found-placed}
 use Rattle.mesh_values.specs.Names.{name_cmp}
 use Rattle.mesh_values.specs.NameOrder.{names_exact, names_total}
 use Rattle.mesh_values.specs.declared.values.Name.{Name}
 use Rattle.mesh_due.specs.Marks.{Mark, by_name, mark_name}
-use Rattle.mesh_marks.specs.Marked.{Entry, entry_name, entry_spot}
+use Rattle.mesh_marks.specs.Marked.{Entry, entry_name}
 
 abbrev pub first_mark : Name → List Mark → Option Mark
 first_mark k ms = found name_cmp mark_name k ms

@@ -1,7 +1,7 @@
 -- The least of some seconds, one at a time, and horizons, one node at a time.
 use Rattle.std.proofs.Common.{◌≡◌, ℕ, ℤ, ◌+◌, ◌<◌, Bool, true, false, cond, List, [], ◌∷◌, ◌++◌, map, length, take, get_or, refl, sym, ap, ◌∙◌, arith, append-nil}
 use Rattle.std.specs.Int.{int_min}
-use Rattle.std.specs.List.{All, flat_map, slice_get}
+use Rattle.std.specs.List.{slice_get}
 use Rattle.std.specs.Option.{option_to_list}
 use Rattle.std.specs.declared.option.Option.{Option}
 use Rattle.std.specs.declared.option.Option.TheVariants.{None, Some}
@@ -11,7 +11,7 @@ use Rattle.std.proofs.lemmas.Grind.{flat_map-append}
 use Rattle.mesh_values.specs.Kinds.{is_incremental}
 use Rattle.mesh_base.specs.declared.definitions.Own.{Own}
 use Rattle.mesh_base.specs.declared.snapshots.Node.{Node}
-use Rattle.mesh_scratch.specs.Closures.{Closure, Closures, Model, Alone, With, closures, each_of, parents_at}
+use Rattle.mesh_scratch.specs.Closures.{Closure, Closures, Alone, With, closures, each_of, parents_at}
 use Rattle.mesh_scratch.specs.Horizons.{Clock, horizon, horizon_under, horizons_from, horizons_of, last_tick, least_of, with_horizon}
 use Rattle.mesh_marks.specs.Least.{bounded, horizon_over, least, least_at, least_over, lesser, timed, timed_over}
 use Rattle.mesh_marks.proofs.Nodes.{closure_of, known_at, known_more, known_parents}

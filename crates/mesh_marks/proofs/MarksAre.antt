@@ -1,30 +1,28 @@
 -- The marks of a model are those that its row counts.
-use Rattle.std.proofs.Common.{◌≡◌, ℕ, zero, suc, ℤ, pos, ◌<◌, Bool, true, false, ◌&&◌, ◌||◌, cond, nat_eq, List, [], ◌∷◌, ◌++◌, map, length, get_or, refl, sym, ap, ◌∙◌, subst, arith, eqb-true}
+use Rattle.std.proofs.Common.{◌≡◌, ℕ, zero, suc, ℤ, ◌<◌, Bool, true, false, ◌&&◌, ◌||◌, cond, nat_eq, List, [], ◌∷◌, ◌++◌, map, length, refl, sym, ap, ◌∙◌, subst, arith, eqb-true}
 use Rattle.std.specs.List.{All, Contains, filter, list_any, slice_get}
 use Rattle.std.specs.Option.{option_map}
-use Rattle.std.specs.Ordering.{is_eq}
 use Rattle.std.specs.declared.option.Option.{Option}
 use Rattle.std.specs.declared.option.Option.TheVariants.{None, Some}
-use Rattle.std.proofs.lemmas.List.{length-map}
 use Rattle.std.proofs.lemmas.Option.{get_or_from_slice_get, slice_get_within}
 use Rattle.mesh_list.specs.Keyed.{found}
 use Rattle.mesh_values.specs.Names.{name_cmp}
 use Rattle.mesh_values.specs.declared.values.Name.{Name}
 use Rattle.mesh_base.specs.declared.definitions.Own.{Own}
 use Rattle.mesh_base.specs.declared.snapshots.Node.{Node}
-use Rattle.mesh_rules.specs.Proper.{has_node, is_proper}
-use Rattle.mesh_laws.proofs.Lists.{Each, each, Each_left, Each_right}
-use Rattle.mesh_scratch.proofs.Listed.{one_each, with_their_parents}
+use Rattle.mesh_rules.specs.Proper.{is_proper}
+use Rattle.mesh_laws.proofs.Lists.{Each, each}
+use Rattle.mesh_scratch.proofs.Listed.{with_their_parents}
 use Rattle.mesh_scratch.specs.Closures.{Closure, Closures, Model, Alone, With, ancestors, closures, each_of, own_of, parents_of, standing}
 use Rattle.mesh_scratch.specs.Horizons.{Clock, horizon}
 use Rattle.mesh_due.specs.Dues.{descends}
-use Rattle.mesh_due.specs.Marks.{Mark, by_name, is_computed, mark_name, mark_of, marked, marks}
+use Rattle.mesh_due.specs.Marks.{Mark, by_name, is_computed, mark_of, marked, marks}
 use Rattle.mesh_due.specs.Parts.{same_name}
 use Rattle.mesh_marks.specs.declared.marks.Spot.{Spot}
 use Rattle.mesh_marks.specs.Lineages.{IsLineage, has_bit}
-use Rattle.mesh_marks.specs.Marked.{AreSpots, Entry, HaveSpots, IsSpotOf, counts, entry_name, row_marks, spots_in}
+use Rattle.mesh_marks.specs.Marked.{Entry, HaveSpots, IsSpotOf, counts, entry_name, row_marks, spots_in}
 use Rattle.mesh_marks.proofs.Nodes.{closure_at, closures_long, number_of, read_there}
-use Rattle.mesh_marks.proofs.Rows.{distinct, one_place, other_name, same_names}
+use Rattle.mesh_marks.proofs.Rows.{distinct, one_place, other_name}
 use Rattle.mesh_marks.proofs.Kept.{as_mark, by_name_found, by_name_up, first_mark, kept, kept_found, kept_up, one_list, pass}
 
 -- all that stands among the closures of a project's models is one of them

@@ -1,17 +1,16 @@
 -- A moment decides what is due.
 use Rattle.std.proofs.Common.{◌≡◌, ℕ, suc, ◌+◌, ℤ, ◌≤ℤ◌, Bool, true, false, not, ◌&&◌, cond, nat_lt, List, [], ◌∷◌, ◌++◌, map, length, refl, sym, ap, ◌∙◌, arith}
 use Rattle.std.proofs.lemmas.Int.{ints}
-use Rattle.std.specs.List.{filter, flat_map}
-use Rattle.std.specs.Option.{is_some, option_map}
+use Rattle.std.specs.List.{filter}
+use Rattle.std.specs.Option.{option_map}
 use Rattle.std.specs.declared.option.Option.{Option}
-use Rattle.std.specs.declared.option.Option.TheVariants.{None, Some}
+use Rattle.std.specs.declared.option.Option.TheVariants.{Some}
 use Rattle.mesh_values.specs.declared.kinds.Kind.{Kind}
 use Rattle.mesh_values.specs.declared.kinds.Kind.TheVariants.{Full, View, Seed, Incremental}
 use Rattle.mesh_values.specs.declared.times.Bounds.{Bounds}
 use Rattle.mesh_base.specs.declared.forgets.Forget.{Forget}
 use Rattle.mesh_base.specs.declared.forgets.Forget.TheVariants.{Marks}
 use Rattle.mesh_base.specs.declared.forgets.Restate.{Restate}
-use Rattle.mesh_base.specs.declared.plans.Due.{Due}
 use Rattle.mesh_base.specs.declared.plans.Due.TheVariants.{Whole}
 use Rattle.mesh_base.specs.declared.plans.Entry.{Entry}
 use Rattle.mesh_base.specs.declared.snapshots.Node.{Node}
@@ -22,7 +21,7 @@ use Rattle.mesh_scratch.proofs.Moments.{one_horizon}
 use Rattle.mesh_scratch.specs.Closures.{Closure, own_of}
 use Rattle.mesh_scratch.specs.Horizons.{Clock, HasCrons, Shows, schedule, units_from}
 use Rattle.mesh_due.proofs.Later.{marks_stay}
-use Rattle.mesh_due.specs.Dues.{again, again_of, again_units, due, due_at, due_of, dues_from, is_due_unit}
+use Rattle.mesh_due.specs.Dues.{again, again_of, again_units, due_at, due_of, dues_from, is_due_unit}
 use Rattle.mesh_due.specs.Marks.{marks}
 use Rattle.mesh_due.specs.Parts.{is_among, unit_of}
 use Rattle.mesh_due.specs.Plans.{Planned, are_marks, is_marked, marks_of, planned_by}

@@ -1,11 +1,11 @@
 -- The rows of models, one model more.
 use Rattle.std.proofs.Common.{◌≡◌, ℕ, zero, suc, ◌+◌, ◌<◌, Bool, true, false, not, ◌||◌, ◌&&◌, nat_eq, List, [], ◌∷◌, ◌++◌, map, length, take, get_or, refl, sym, ap, ◌∙◌, subst, arith}
-use Rattle.std.specs.List.{AllZip, list_any, slice_get}
+use Rattle.std.specs.List.{AllZip, slice_get}
 use Rattle.std.specs.Ordering.{is_eq, ordering_reverse}
 use Rattle.std.specs.Cmp.{Equal-is}
 use Rattle.std.specs.declared.cmp.Ordering.{Ordering}
 use Rattle.std.specs.declared.cmp.Ordering.TheVariants.{Less, Equal, Greater}
-use Rattle.std.specs.declared.option.Option.TheVariants.{None, Some}
+use Rattle.std.specs.declared.option.Option.TheVariants.{Some}
 use Rattle.std.proofs.lemmas.Bool.{and_parts}
 use Rattle.std.proofs.lemmas.Bool.Decides.{nat_tests}
 use Rattle.std.proofs.lemmas.Cmp.{tied_itself}
@@ -17,7 +17,7 @@ use Rattle.mesh_values.specs.declared.values.Name.{Name}
 use Rattle.mesh_base.specs.declared.snapshots.Node.{Node}
 use Rattle.mesh_rules.specs.Proper.{are_fit, has_node, have_distinct_names, is_proper, node_cmp, node_itself}
 use Rattle.mesh_list.specs.Keyed.{ascends}
-use Rattle.mesh_scratch.specs.Closures.{Closure, closures, own_of, parents_at}
+use Rattle.mesh_scratch.specs.Closures.{Closure, closures, own_of}
 use Rattle.mesh_due.specs.Dues.{descends}
 use Rattle.mesh_due.specs.Parts.{same_name}
 use Rattle.mesh_marks.specs.Lineages.{HaveLineages, IsLineage, any_row, bit_in, has_bit, row_has}

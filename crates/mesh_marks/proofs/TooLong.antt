@@ -1,13 +1,12 @@
 -- The first schedule that is too long.
-use Rattle.std.proofs.Common.{◌≡◌, ℕ, zero, suc, ◌+◌, ◌<◌, Bool, true, false, cond, nat_lt, List, [], ◌∷◌, length, take, refl, sym, ap, ◌∙◌, arith, ℤ, pos, map, get_or}
+use Rattle.std.proofs.Common.{◌≡◌, ℕ, zero, suc, ◌<◌, Bool, true, false, cond, nat_lt, List, [], ◌∷◌, length, take, refl, sym, ap, ◌∙◌, ℤ, pos, map, get_or}
 use Rattle.std.specs.List.{slice_get}
 use Rattle.std.specs.Option.{option_map}
 use Rattle.std.specs.declared.option.Option.{Option}
 use Rattle.std.specs.declared.option.Option.TheVariants.{None, Some}
-use Rattle.mesh_base.specs.declared.definitions.Own.{Own}
 use Rattle.mesh_base.specs.declared.snapshots.Node.{Node}
-use Rattle.mesh_scratch.specs.Closures.{Closure, closures, own_of}
-use Rattle.mesh_scratch.specs.Horizons.{Clock, horizon, schedule, units_from}
+use Rattle.mesh_scratch.specs.Closures.{Closure, closures}
+use Rattle.mesh_scratch.specs.Horizons.{Clock, horizon, units_from}
 use Rattle.mesh_marks.specs.Long.{first_too_long, is_too_long}
 use Rattle.mesh_marks.proofs.Nodes.{closure_at, node_there, number_of}
 

@@ -1,7 +1,7 @@
 -- How the units of a schedule stand in what is recorded, and which of them are computed again.
-use Rattle.std.specs.Prelude.{ℕ, ◌+◌, ℤ, Bool, true, false, ◌&&◌, ◌||◌, nat_lt, if◌then◌else◌, List, [], ◌∷◌, map, min, take, Some, None}
-use Rattle.std.specs.List.{flat_map, list_any, slice_get}
-use Rattle.std.specs.Option.{is_some, option_to_list}
+use Rattle.std.specs.Prelude.{ℕ, ◌+◌, ℤ, Bool, true, false, ◌&&◌, if◌then◌else◌, List, [], ◌∷◌, map, min, take, Some, None}
+use Rattle.std.specs.List.{list_any, slice_get}
+use Rattle.std.specs.Option.{is_some}
 use Rattle.std.specs.declared.option.Option.{Option}
 use Rattle.mesh_values.specs.declared.kinds.Kind.{Kind}
 use Rattle.mesh_values.specs.declared.kinds.Kind.TheVariants.{Full, View, Seed, Incremental}
@@ -9,7 +9,7 @@ use Rattle.mesh_values.specs.declared.times.Bounds.{Bounds}
 use Rattle.mesh_values.specs.declared.values.Name.{Name}
 use Rattle.mesh_base.specs.declared.definitions.Own.{Own}
 use Rattle.mesh_base.specs.declared.forgets.Forget.{Forget}
-use Rattle.mesh_base.specs.declared.forgets.Forget.TheVariants.{Range, Marks}
+use Rattle.mesh_base.specs.declared.forgets.Forget.TheVariants.{Marks}
 use Rattle.mesh_base.specs.declared.forgets.Restate.{Restate}
 use Rattle.mesh_book.specs.declared.versions.Version.{Version}
 use Rattle.mesh_time.specs.Ranges.{is_held}

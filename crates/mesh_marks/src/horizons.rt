@@ -133,7 +133,11 @@ fn horizon_over(incremental: bool, tick: i64, least: Option<i64>) -> i64
     ensures value { result ≡ horizon_over incremental tick least }
     ensures bound { IsHorizon result }
 {
-    if incremental { bounded(tick, least) } else { tick }
+    if incremental {
+        bounded(tick, least)
+    } else {
+        tick
+    }
 }
 
 fn timed_over(incremental: bool, horizon: i64, least: Option<i64>) -> Option<i64>

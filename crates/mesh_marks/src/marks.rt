@@ -59,11 +59,7 @@ fn in_order(alloc: Global, map: BTreeMap<Name, Spot>) -> Result<Vec<Spot>, Memor
 }
 
 /// The models by name.
-pub(crate) fn spots_of(
-    alloc: Global,
-    nodes: &[Node],
-    seconds: &[i64],
-) -> Result<Vec<Spot>, Memory>
+pub(crate) fn spots_of(alloc: Global, nodes: &[Node], seconds: &[i64]) -> Result<Vec<Spot>, Memory>
     requires { length seconds.now ≡ length nodes.now }
     ensures { IfOk result (λ spots. AreSpots nodes.now seconds.now spots.items) }
 {

@@ -1,4 +1,4 @@
-use Rattle.std.proofs.Common.{◌≡◌, ◌++◌, false, map, ap, sym, ◌∙◌, append-nil}
+use Rattle.std.proofs.Common.{◌++◌, map, ap, sym, ◌∙◌, append-nil}
 use Rattle.std.specs.Option.{option_copied}
 use Rattle.mesh_due.specs.Parts.{unit_of}
 use Rattle.mesh_time.specs.Ranges.{units}

@@ -1,4 +1,4 @@
-use Rattle.std.proofs.Common.{rules, w64, ◌≡◌, ◌+◌, ◌∷◌, [], ◌++◌, ℕ, pos, get_or, ap, sym, ◌∙◌, FitsSigned, ℤ, to_z, of_z, arith}
+use Rattle.std.proofs.Common.{rules, w64, ◌≡◌, pos, get_or, ap, sym, ◌∙◌, FitsSigned, ℤ, to_z, of_z, arith}
 use Rattle.std.specs.Option.{option_copied}
 use Rattle.std.proofs.lemmas.Int.{to_z-of_z}
 use Rattle.std.proofs.lemmas.List.{take_all}

@@ -1,4 +1,4 @@
-use Rattle.std.proofs.Common.{◌≡◌, ◌+◌, ◌-◌, ◌<◌, ◌≤◌, ◌∷◌, [], ◌++◌, ℕ, List, nat_lt, length, drop, get_or, ap, sym, ◌∙◌, refl, subst, arith, reverse}
+use Rattle.std.proofs.Common.{◌≡◌, ◌+◌, ◌-◌, ◌<◌, ◌∷◌, [], ◌++◌, ℕ, List, nat_lt, length, drop, get_or, ap, sym, ◌∙◌, refl, arith, reverse}
 use Rattle.mesh_values.specs.declared.times.Bounds.{Bounds}
 use Rattle.mesh_time.specs.Ranges.{unit_at, unit_count, units}
 use Rattle.mesh_marks.specs.declared.stands.Stand.{Stand}

@@ -1,4 +1,4 @@
-use Rattle.std.proofs.Common.{rules, w64, ◌≡◌, ◌+◌, ◌∷◌, [], ◌++◌, ℕ, ℤ, pos, get_or, ap, sym, ◌∙◌, subst, List, FitsSigned, to_z, of_z, arith}
+use Rattle.std.proofs.Common.{rules, w64, ◌≡◌, pos, get_or, ap, sym, ◌∙◌, FitsSigned, to_z, of_z, arith}
 use Rattle.std.proofs.lemmas.Int.{to_z-of_z}
 use Rattle.std.proofs.lemmas.List.{take_all}
 use Rattle.mesh_base.specs.declared.plans.Entry.{Entry}

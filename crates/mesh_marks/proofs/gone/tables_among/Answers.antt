@@ -1,4 +1,4 @@
-use Rattle.std.proofs.Common.{◌≡◌, ◌||◌, ◌∷◌, [], ap, sym, ◌∙◌}
+use Rattle.std.proofs.Common.{◌||◌, ◌∷◌, [], ap, sym, ◌∙◌}
 use Rattle.mesh_base.specs.declared.forgets.Forget.TheVariants.{Marks}
 use Rattle.mesh_due.specs.Parts.{is_among}
 use Rattle.mesh_marks.proofs.Keys.{among_more}

@@ -1,4 +1,4 @@
-use Rattle.std.proofs.Common.{◌≡◌, ◌||◌, ◌∷◌, [], ap, sym, ◌∙◌}
+use Rattle.std.proofs.Common.{◌||◌, ◌∷◌, [], ap, sym, ◌∙◌}
 use Rattle.mesh_due.specs.Parts.{is_among, unit_of}
 use Rattle.mesh_marks.proofs.Keys.{among_more}
 use Rattle.mesh_marks.proofs.gone.units_among.Goals as goal

@@ -1,4 +1,4 @@
-use Rattle.std.proofs.Common.{rules, w64, ◌≡◌, ◌++◌, ◌∷◌, [], ℤ, Some, List, length, FitsSigned, ap, sym, ◌∙◌, arith, length-append}
+use Rattle.std.proofs.Common.{rules, w64, ◌≡◌, ◌++◌, ◌∷◌, [], ℤ, List, FitsSigned, ap, ◌∙◌, arith, length-append}
 use Rattle.std.specs.Prelude.{map}
 use Rattle.std.proofs.lemmas.Int.{to_z-of_z}
 use Rattle.std.proofs.lemmas.List.{take_all}

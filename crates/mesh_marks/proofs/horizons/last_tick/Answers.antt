@@ -1,4 +1,4 @@
-use Rattle.std.proofs.Common.{rules, w64, ◌≡◌, FitsSigned}
+use Rattle.std.proofs.Common.{rules, w64, FitsSigned}
 use Rattle.std.proofs.lemmas.Int.{to_z-of_z}
 use Rattle.mesh_marks.proofs.Ticks.{its_last_tick}
 use Rattle.mesh_marks.proofs.horizons.last_tick.Goals as goal

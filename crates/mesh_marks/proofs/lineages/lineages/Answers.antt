@@ -1,7 +1,6 @@
-use Rattle.std.proofs.Common.{◌≡◌, ◌+◌, ◌/◌, ◌∷◌, [], ◌++◌, ◌||◌, ℕ, List, nat_eq, length, ap, sym, ◌∙◌, subst, arith, length-append}
+use Rattle.std.proofs.Common.{◌≡◌, ◌+◌, ◌/◌, ◌∷◌, [], ◌||◌, ℕ, List, nat_eq, length, ap, sym, ◌∙◌, subst, arith, length-append}
 use Rattle.std.specs.List.{All}
 use Rattle.std.proofs.lemmas.List.Elements.{All-push}
-use Rattle.mesh_scratch.specs.Closures.{closures}
 use Rattle.mesh_marks.specs.Lineages.{HaveLineages, any_row, has_bit}
 use Rattle.mesh_marks.proofs.Rows.{lineages_more}
 use Rattle.mesh_marks.proofs.lineages.lineages.Goals as goal

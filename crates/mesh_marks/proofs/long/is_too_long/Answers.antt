@@ -1,4 +1,4 @@
-use Rattle.std.proofs.Common.{rules, w64, ◌≡◌, nat_lt, length, ap, sym, ◌∙◌, FitsSigned}
+use Rattle.std.proofs.Common.{rules, w64, nat_lt, length, ap, sym, ◌∙◌, FitsSigned}
 use Rattle.std.proofs.lemmas.Int.{to_z-of_z}
 use Rattle.mesh_marks.proofs.Units.{units_counted}
 use Rattle.mesh_marks.proofs.long.is_too_long.Goals as goal

@@ -1,4 +1,4 @@
-use Rattle.std.proofs.Common.{rules, w64, ◌≡◌, FitsSigned, ap, sym, ◌∙◌, refl, get_or, pos}
+use Rattle.std.proofs.Common.{rules, w64, FitsSigned, refl, get_or, pos}
 use Rattle.std.proofs.lemmas.Int.{to_z-of_z}
 use Rattle.mesh_marks.proofs.Spots.{spots_more}
 use Rattle.mesh_marks.proofs.marks.spots_by_name.Goals as goal

@@ -1,4 +1,4 @@
-use Rattle.std.proofs.Common.{◌≡◌, ◌+◌, ◌∷◌, [], ◌||◌, length, ap, sym, ◌∙◌, arith, length-append}
+use Rattle.std.proofs.Common.{◌≡◌, ◌∷◌, [], ◌||◌, length, ap, ◌∙◌, arith, length-append}
 use Rattle.std.specs.Option.{option_copied}
 use Rattle.mesh_marks.specs.Stands.{any_at, is_named}
 use Rattle.mesh_marks.proofs.Flags.{named_more}

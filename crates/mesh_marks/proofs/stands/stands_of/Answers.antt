@@ -1,7 +1,7 @@
-use Rattle.std.proofs.Common.{rules, w64, ◌≡◌, ◌+◌, ◌∷◌, [], FitsSigned, length, ap, sym, ◌∙◌, arith, length-append}
+use Rattle.std.proofs.Common.{rules, w64, ◌≡◌, ◌∷◌, [], FitsSigned, length, ap, sym, ◌∙◌, arith, length-append}
 use Rattle.std.specs.Option.{option_copied}
 use Rattle.std.proofs.lemmas.Int.{to_z-of_z}
-use Rattle.mesh_time.specs.Ranges.{is_held, unit_at}
+use Rattle.mesh_time.specs.Ranges.{unit_at}
 use Rattle.mesh_time.proofs.Missing.{rest_goes_on, held_by_rest}
 use Rattle.mesh_due.specs.Dues.{touches_days}
 use Rattle.mesh_marks.specs.Stands.{stand, stand_of}
