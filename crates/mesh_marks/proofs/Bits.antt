@@ -40,9 +40,6 @@ pub bit_set : (row : List ℕ) (place w : ℕ) → place / 64 < length row → w
     → has_bit (set row (place / 64) (bit_or w (1 * 2 ^ (place % 64) % 18446744073709551616))) p ≡ (nat_eq p place || has_bit row p)
 bit_set row place w inside here p = by_test (nat_eq (p / 64) (place / 64)) refl
   where
-    new : ℕ
-    new = bit_or w (1 * 2 ^ (place % 64) % 18446744073709551616)
-
     same_word : p / 64 ≡ place / 64 → has_bit (set row (place / 64) (bit_or w (1 * 2 ^ (place % 64) % 18446744073709551616))) p ≡ (nat_eq p place || has_bit row p)
     same_word e = by_bit (nat_eq (p % 64) (place % 64)) refl
       where

@@ -28,10 +28,6 @@ lesser_assoc (Some x) None c = refl
 lesser_assoc (Some x) (Some y) None = refl
 lesser_assoc (Some x) (Some y) (Some z) = ap Some (min_assoc x y z)
 
-lesser_none : (a : Option ℤ) → lesser a None ≡ a
-lesser_none None = refl
-lesser_none (Some x) = refl
-
 over_append : (xs ys : List (Option ℤ)) → least_over (xs ++ ys) ≡ lesser (least_over xs) (least_over ys)
 over_append [] ys = refl
 over_append (x ∷ xs) ys = ap (lesser x) (over_append xs ys) ∙ sym (lesser_assoc x (least_over xs) (least_over ys))
@@ -93,9 +89,6 @@ module _ (clock : Clock) where
 module _ (clock : Clock) (nodes : List Node) (i : ℕ) (n : Node) (inside : i < length nodes) (here : n ≡ get_or nodes i n) (timeds : List (Option ℤ))
     (known : timeds ≡ map (timed clock) (closures (take i nodes))) (tick : ℤ) (ticks : tick ≡ last_tick clock n.own) (inc : Bool) (kind : inc ≡ is_incremental n.own.kind)
     (second : Option ℤ) (seconds : second ≡ least_at timeds n.parents) (h : ℤ) (over : h ≡ horizon_over inc tick second) where
-  done : List Closure
-  done = closures (take i nodes)
-
   least_there : second ≡ least_before clock (closures (take i nodes)) n
   least_there = seconds ∙ ap (λ l. least_at l n.parents) known
 

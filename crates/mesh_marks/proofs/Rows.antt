@@ -9,8 +9,6 @@ use Rattle.std.specs.declared.option.Option.TheVariants.{Some}
 use Rattle.std.proofs.lemmas.Bool.{and_parts}
 use Rattle.std.proofs.lemmas.Bool.Decides.{nat_tests}
 use Rattle.std.proofs.lemmas.Cmp.{tied_itself}
-use Rattle.std.proofs.lemmas.List.{take_more}
-use Rattle.std.proofs.lemmas.List.Folds.{list_any-append}
 use Rattle.mesh_values.specs.Names.{name_cmp}
 use Rattle.mesh_values.specs.NameOrder.{names_exact, names_total}
 use Rattle.mesh_values.specs.declared.values.Name.{Name}
@@ -20,7 +18,7 @@ use Rattle.mesh_list.specs.Keyed.{ascends}
 use Rattle.mesh_scratch.specs.Closures.{Closure, closures, own_of}
 use Rattle.mesh_due.specs.Dues.{descends}
 use Rattle.mesh_due.specs.Parts.{same_name}
-use Rattle.mesh_marks.specs.Lineages.{HaveLineages, IsLineage, any_row, bit_in, has_bit, row_has}
+use Rattle.mesh_marks.specs.Lineages.{HaveLineages, IsLineage, any_row, bit_in, has_bit}
 use Rattle.mesh_marks.specs.Stands.{any_at, flag_of}
 use Rattle.mesh_marks.proofs.Flags.{parents_any}
 use Rattle.mesh_marks.proofs.Nodes.{closure_of, closures_more, node_there}
@@ -85,15 +83,6 @@ one_place (x ∷ ns) h (suc p) zero m n e f =
     negated true e = absurd (cc)
     negated false e = refl
 one_place (x ∷ ns) h (suc p) (suc q) m n e f = one_place ns (and_parts (not (has_node ns x.own.name)) (have_distinct_names ns) h).1 p q m n e f ∙ both_later p q
-
-or_none : (a b : Bool) → (a || (b || false)) ≡ (a || b)
-or_none true b = refl
-or_none false true = refl
-or_none false false = refl
-
-pub any_row_more : (rows : List (List ℕ)) (p : ℕ) (places : List ℕ) (i d : ℕ) → i < length places → any_row rows p (take (i + 1) places) ≡ (any_row rows p (take i places) || row_has rows p (get_or places i d))
-any_row_more rows p places i d inside =
-    ap (any_row rows p) (take_more places i d inside) ∙ list_any-append (row_has rows p) (take i places) (get_or places i d ∷ []) ∙ or_none (any_row rows p (take i places)) (row_has rows p (get_or places i d))
 
 -- what the rows at some places say of a model
 module _ (nodes : List Node) (p : ℕ) (m : Node) (at : slice_get nodes p ≡ Some m) where
