@@ -1,5 +1,5 @@
 -- The snapshots of a well-formed book, each under its own name and fingerprint.
-use Rattle.std.proofs.Common.{◌≡◌, Bool, true, false, cond, ◌&&◌, inl, inr, List, [], ◌∷◌, Some, None, refl, sym, ◌∙◌, ap, subst}
+use Rattle.std.proofs.Common.{◌≡◌, ℕ, Bool, true, false, cond, ◌&&◌, inl, inr, List, [], ◌∷◌, Some, None, refl, ◌∙◌, ap, subst}
 use Rattle.std.specs.Ordering.{is_eq}
 use Rattle.std.specs.declared.cmp.Ordering.{Ordering}
 use Rattle.std.specs.declared.option.Option.{Option}
@@ -15,17 +15,17 @@ use Rattle.mesh_laws.proofs.Has.{Has}
 use Rattle.mesh_listed.specs.Closing.{IsSnapshot}
 use Rattle.mesh_listed.proofs.Lists.{below_each}
 
-rising : {version : _} (all : List Snapshot) (before : Option Snapshot) (ss : List Snapshot) → all_fit (is_snapshot_fit version all) before ss ≡ true → ascends ref_cmp snapshot_ref ss ≡ true
-rising all before [] ok = refl
-rising all before (s ∷ []) ok = refl
-rising {version} all before (s ∷ t ∷ ts) ok =
+rising : (version : ℕ) (all : List Snapshot) (before : Option Snapshot) (ss : List Snapshot) → all_fit (is_snapshot_fit version all) before ss ≡ true → ascends ref_cmp snapshot_ref ss ≡ true
+rising version all before [] ok = refl
+rising version all before (s ∷ []) ok = refl
+rising version all before (s ∷ t ∷ ts) ok =
     let rest = and_right (is_snapshot_fit version all before s) (all_fit (is_snapshot_fit version all) (Some s) (t ∷ ts)) ok in
     let fit = and_left (is_snapshot_fit version all (Some s) t) (all_fit (is_snapshot_fit version all) (Some t) ts) rest in
-    and_both (below_first ref_cmp snapshot_ref (snapshot_ref s) (t ∷ ts)) (ascends ref_cmp snapshot_ref (t ∷ ts)) (and_left (is_above ref_cmp snapshot_ref (Some s) t) _ fit) (rising all (Some s) (t ∷ ts) rest)
+    and_both (below_first ref_cmp snapshot_ref (snapshot_ref s) (t ∷ ts)) (ascends ref_cmp snapshot_ref (t ∷ ts)) (and_left (is_above ref_cmp snapshot_ref (Some s) t) _ fit) (rising version all (Some s) (t ∷ ts) rest)
 
 pub snapshots_ascend : (b : Book) → is_well_formed_book b ≡ true → ascends ref_cmp snapshot_ref b.snapshots ≡ true
 snapshots_ascend b well =
-    rising b.snapshots None b.snapshots (and_left (all_fit (is_snapshot_fit b.version b.snapshots) None b.snapshots) _ (and_right (is_moment b.moment && is_version b.version) _ well))
+    rising b.version b.snapshots None b.snapshots (and_left (all_fit (is_snapshot_fit b.version b.snapshots) None b.snapshots) _ (and_right (is_moment b.moment && is_version b.version) _ well))
 
 pub its_own : (ss : List Snapshot) → ascends ref_cmp snapshot_ref ss ≡ true → (s : Snapshot) → Has s ss → IsSnapshot ss s
 its_own [] up s h = absurd h

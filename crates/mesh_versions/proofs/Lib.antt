@@ -8,5 +8,7 @@ pub mod Alone
 pub mod Choices
 -- Ranks: snapshots by rank and name, and their places.
 pub mod Ranks
--- Naming: objects, model by model.
-pub mod Naming
+-- Steps: references and objects, one after another.
+pub mod Steps
+-- Without: models that are alone are a plan without a clash.
+pub mod Without

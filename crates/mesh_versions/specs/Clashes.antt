@@ -31,9 +31,12 @@ versions all base [] categories = []
 versions all base (n ∷ ns) [] = []
 versions all base (n ∷ ns) (k ∷ ks) = version all (compared_in all base n.own.name) k n ∷ versions all base ns ks
 
--- the references of a model's parents
+-- the references of the models at some places, and of a model's parents
+abbrev pub refs_at : List Node → List ℕ → List Ref
+refs_at nodes places = map node_ref (flat_map (λ i. option_to_list (slice_get nodes i)) places)
+
 abbrev pub parent_refs : List Node → Node → List Ref
-parent_refs nodes n = map node_ref (flat_map (λ i. option_to_list (slice_get nodes i)) n.parents)
+parent_refs nodes n = refs_at nodes n.parents
 
 -- A fingerprint is made of a definition and the parents with their fingerprints, so one that stands for two of these
 -- clashes. A snapshot is of a model where it has its definition and its parents, and two models are one likewise.

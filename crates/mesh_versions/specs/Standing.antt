@@ -1,6 +1,5 @@
 -- The snapshots that a list names, by rank and name, as they are collected, and their places.
 use Rattle.std.specs.Prelude.{ℕ, ◌+◌, List, [], ◌∷◌, map, Some, None, if◌then◌else◌}
-use Rattle.std.specs.Borrow.{Bor}
 use Rattle.std.specs.Cmp.{IsTotalOrder}
 use Rattle.std.specs.List.{flat_map}
 use Rattle.std.specs.Option.{option_to_list}

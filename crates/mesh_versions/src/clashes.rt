@@ -1,14 +1,14 @@
 // Whether a model's fingerprint stands for it alone.
 ghost use Rattle.std.specs.Prelude.{◌≡◌, ◌++◌, ◌⊎◌, ℕ, List, false, true, map, IsTrue, IfOk, OnOk, Some};
 ghost use Rattle.std.specs.BTreeMap.{get};
-ghost use Rattle.std.specs.List.{Contains};
+ghost use Rattle.std.specs.List.{Contains, slice_get};
 ghost use Rattle.std.specs.Option.{option_copied, option_to_list};
 ghost use Rattle.mesh_values.specs.Names.{text_cmp};
 ghost use Rattle.mesh_base.specs.declared.snapshots.Snapshot.{Snapshot};
 ghost use Rattle.mesh_book.specs.WellFormed.{is_well_formed_book, snapshot_at};
 ghost use Rattle.mesh_due.specs.Versions.{node_ref};
 ghost use Rattle.mesh_rules.specs.Proper.{is_proper};
-ghost use Rattle.mesh_versions.specs.Clashes.{ClashesWithBook, ClashesWithProject, IsAlone, IsOf, SuitsBook, SuitsProject, parent_refs};
+ghost use Rattle.mesh_versions.specs.Clashes.{ClashesWithBook, ClashesWithProject, IsAlone, IsOf, SuitsBook, SuitsProject, refs_at};
 ghost use Rattle.mesh_versions.specs.Index.{IsIndex, again, node_print, snapshot_print};
 
 use crate::index::{Index, Prints};
@@ -35,6 +35,13 @@ pub(crate) fn known<'a>(b: &'a Book, node: &Node) -> Result<Option<&'a Snapshot>
     Ok(b.snapshots.find(&r))
 }
 
+// The model at a place.
+fn node_at<'a>(nodes: &'a [Node], place: u32) -> Option<&'a Node>
+    ensures { option_copied result ≡ slice_get nodes.now place }
+{
+    nodes.get(place as usize)
+}
+
 fn put_ref(refs: &mut Refs, node: Option<&Node>) -> Result<(), Memory>
     ensures { OnOk result (refs.new ≡ refs.old ++ map node_ref (option_to_list (option_copied node.entry))) }
 {
@@ -44,12 +51,14 @@ fn put_ref(refs: &mut Refs, node: Option<&Node>) -> Result<(), Memory>
     }
 }
 
-fn parent_refs(alloc: Global, nodes: &[Node], node: &Node) -> Result<Refs, Memory>
-    ensures { IfOk result (λ refs. refs ≡ parent_refs nodes.now node.now) }
+// The models at some places.
+#[tactic(auto, using(crate::proofs::Steps::one_more_ref))]
+fn refs_at(alloc: Global, nodes: &[Node], places: &[u32]) -> Result<Refs, Memory>
+    ensures { IfOk result (λ refs. refs ≡ refs_at nodes.now places.now) }
 {
     let mut refs = Seq::new(alloc);
-    for place in node.parents.as_slice() {
-        put_ref(&mut refs, nodes.get(*place as usize))?;
+    for place in places {
+        put_ref(&mut refs, node_at(nodes, *place))?;
     }
     Ok(refs)
 }
@@ -58,7 +67,7 @@ fn is_of(alloc: Global, nodes: &[Node], node: &Node, s: &Snapshot) -> Result<boo
     ensures yes { IfOk result (λ is. IsTrue is → IsOf nodes.now node.now s.now) }
     ensures no { IfOk result (λ is. is ≡ false → ¬ IsOf nodes.now node.now s.now) }
 {
-    let refs = parent_refs(alloc, nodes, node)?;
+    let refs = refs_at(alloc, nodes, node.parents.as_slice())?;
     Ok(s.own.same(&node.own) && s.parents.same(&refs))
 }
 
@@ -87,8 +96,13 @@ fn suits_book(
 {
     match stored.get(&node.fingerprint) {
         None => Ok(true),
-        Some(true) => Ok(false),
-        Some(false) => is_known(alloc, b, nodes, node),
+        Some(again) => {
+            if *again {
+                return Ok(false);
+            }
+            let known = is_known(alloc, b, nodes, node)?;
+            Ok(known)
+        }
     }
 }
 
@@ -124,5 +138,6 @@ pub(crate) fn is_alone(
     if !suits_project(&index.given, nodes, node) {
         return Ok(false);
     }
-    suits_book(alloc, b, &index.stored, nodes, node)
+    let suits = suits_book(alloc, b, &index.stored, nodes, node)?;
+    Ok(suits)
 }

@@ -10,12 +10,12 @@ mod faults;
 mod index;
 mod laws;
 mod names;
+mod naming;
 mod objects;
 mod projects;
 mod standing;
-mod versions;
 
 pub use faults::PlanFault;
 pub use laws::what_is_alone_has_no_clash;
+pub use naming::versions;
 pub use projects::project_of;
-pub use versions::versions;

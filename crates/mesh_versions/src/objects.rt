@@ -45,12 +45,7 @@ fn choose(
 }
 
 // The first of them that no snapshot has.
-fn fresh(
-    alloc: Global,
-    objects: &Holders,
-    m: &Name,
-    print: &[u8; 32],
-) -> Result<Object, Memory>
+fn fresh(alloc: Global, objects: &Holders, m: &Name, print: &[u8; 32]) -> Result<Object, Memory>
     ensures { IfOk result (λ made. made ≡ fresh_by (get name_cmp objects.now) m.now print.now) }
 {
     if let Object::Named(name) = choose(alloc, objects, m, print, 0)? {
@@ -95,11 +90,13 @@ fn compared<'a>(
     match compared.get(name) {
         None => Ok(None),
         Some(print) => {
-            let r = Ref {
-                name: name.copy()?,
-                fingerprint: *print,
-            };
-            Ok(b.snapshots.find(&r))
+            let name = name.copy()?;
+            Ok(
+                b.snapshots.find(&Ref {
+                    name,
+                    fingerprint: *print,
+                }),
+            )
         }
     }
 }
@@ -159,6 +156,9 @@ pub(crate) fn object_of(
 {
     match known(b, node)? {
         Some(s) => Ok(Object::Named(s.object.copy()?)),
-        None => unknown(alloc, b, index, base, node, category),
+        None => {
+            let made = unknown(alloc, b, index, base, node, category)?;
+            Ok(made)
+        }
     }
 }

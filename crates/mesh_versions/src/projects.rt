@@ -1,13 +1,13 @@
 // The project of a list of snapshots.
 ghost use Rattle.std.specs.Prelude.{◌≡◌, ◌++◌, map, true, IfOk, OnOk};
 ghost use Rattle.std.specs.BTreeMap.{get};
-ghost use Rattle.std.specs.Option.{option_copied, option_to_list};
+ghost use Rattle.std.specs.Option.{option_to_list};
 ghost use Rattle.mesh_values.specs.Names.{name_cmp};
 ghost use Rattle.mesh_book.specs.WellFormed.{is_well_formed_book};
 ghost use Rattle.mesh_listed.specs.Listed.{is_list_fit, listed};
-ghost use Rattle.mesh_versions.specs.Standing.{node_by, place_from, places_by, snapshots_of};
+ghost use Rattle.mesh_versions.specs.Standing.{node_by, places_by, snapshots_of};
 
-use crate::standing::{Standing, places, standing};
+use crate::standing::{Standing, collected, places};
 use mesh_base::{Indexes, Node, Nodes, Ref, Refs, Snapshot};
 use mesh_book::Book;
 use mesh_list::{Duplicate, Memory, Seq};
@@ -16,10 +16,11 @@ use mesh_values::Name;
 use std::alloc::Global;
 use std::collections::BTreeMap;
 
-fn put_place(made: &mut Indexes, place: Option<&u32>) -> Result<(), Memory>
-    ensures { OnOk result (made.new ≡ made.old ++ option_to_list (option_copied place.entry)) }
+// The place of one parent, where it has one.
+fn put_place(made: &mut Indexes, places: &BTreeMap<Name, u32>, parent: &Ref) -> Result<(), Memory>
+    ensures { OnOk result (made.new ≡ made.old ++ option_to_list (get name_cmp places.now parent.now.name)) }
 {
-    match place {
+    match places.get(&parent.name) {
         None => Ok(()),
         Some(place) => made.push(*place),
     }
@@ -35,7 +36,7 @@ fn parents_at(
 {
     let mut made = Seq::new(alloc);
     for parent in parents {
-        put_place(&mut made, places.get(&parent.name))?;
+        put_place(&mut made, places, parent)?;
     }
     Ok(made)
 }
@@ -53,11 +54,7 @@ fn as_node(alloc: Global, places: &BTreeMap<Name, u32>, s: &Snapshot) -> Result<
     })
 }
 
-fn as_nodes(
-    alloc: Global,
-    places: &BTreeMap<Name, u32>,
-    all: &[Standing],
-) -> Result<Nodes, Memory>
+fn as_nodes(alloc: Global, places: &BTreeMap<Name, u32>, all: &[Standing]) -> Result<Nodes, Memory>
     ensures { IfOk result (λ nodes. nodes ≡ map (node_by (get name_cmp places.now)) (snapshots_of all.now)) }
 {
     let mut nodes = Seq::new(alloc);
@@ -72,7 +69,7 @@ fn listed(alloc: Global, b: &Book, list: &[Ref]) -> Result<Nodes, Memory>
     requires list { is_list_fit b.now.snapshots list.now ≡ true }
     ensures { IfOk result (λ nodes. nodes ≡ listed b.now.snapshots list.now) }
 {
-    let all = standing(alloc, b, list)?;
+    let all = collected(alloc, b, list)?;
     let places = places(alloc, all.as_slice())?;
     let nodes = as_nodes(alloc, &places, all.as_slice())?;
     Ok(nodes)

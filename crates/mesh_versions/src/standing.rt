@@ -55,6 +55,7 @@ impl<'a> Keyed for Standing<'a> {
 }
 
 // One snapshot more, where there is one.
+#[tactic(auto, using(crate::proofs::Ranks::placed_there))]
 fn put<'a>(all: &mut Sorted<Standing<'a>>, s: Option<&'a Snapshot>) -> Result<(), Memory>
     ensures { OnOk result (snapshots_of all.new ≡ with_one (option_copied s.entry) (snapshots_of all.old)) }
 {
@@ -65,7 +66,7 @@ fn put<'a>(all: &mut Sorted<Standing<'a>>, s: Option<&'a Snapshot>) -> Result<()
 }
 
 /// The snapshots that a list names.
-pub(crate) fn standing<'a>(
+pub(crate) fn collected<'a>(
     alloc: Global,
     b: &'a Book,
     list: &[Ref],
@@ -92,17 +93,15 @@ fn as_place(at: usize) -> Result<u32, Memory>
 }
 
 /// Where they stand, by their names.
-pub(crate) fn places(
-    alloc: Global,
-    all: &[Standing],
-) -> Result<BTreeMap<Name, u32>, Memory>
+pub(crate) fn places(alloc: Global, all: &[Standing]) -> Result<BTreeMap<Name, u32>, Memory>
     ensures { IfOk result (λ places. (name : Name) → get name_cmp places name ≡ place_from 0 name (snapshots_of all.now)) }
 {
     let mut places = BTreeMap::new(alloc);
     let mut left = all.len();
     while left > 0 {
         left -= 1;
-        let name = all[left].snapshot.name.copy()?;
+        let s = all[left].snapshot;
+        let name = s.name.copy()?;
         places.insert(name, as_place(left)?)?;
     }
     Ok(places)

@@ -1,6 +1,6 @@
 // The object of each model of a project.
-ghost use Rattle.std.specs.Prelude.{◌≡◌, true, length, map, IfOk, IfErr, OnOk, Some};
-ghost use Rattle.std.specs.List.{All, Contains};
+ghost use Rattle.std.specs.Prelude.{◌≡◌, ◌<◌, true, length, map, IfOk, IfErr, OnOk, Some};
+ghost use Rattle.std.specs.List.{All, Contains, slice_get};
 ghost use Rattle.mesh_book.specs.WellFormed.{is_well_formed_book};
 ghost use Rattle.mesh_rules.specs.Proper.{is_proper};
 ghost use Rattle.mesh_category.specs.Stated.{HaveCategories};
@@ -63,6 +63,13 @@ fn named(
     }
 }
 
+fn category_at(categories: &[Category], at: usize) -> Category
+    requires { at < length categories.now }
+    ensures { slice_get categories.now at ≡ Some result }
+{
+    categories[at]
+}
+
 fn all_named(
     alloc: Global,
     b: &Book,
@@ -81,8 +88,11 @@ fn all_named(
 {
     let mut made = Seq::new(alloc);
     for (at, node) in nodes.iter().enumerate() {
-        let name = named(alloc, b, index, nodes, base, node, categories[at])?;
-        made.push(name)?;
+        let category = category_at(categories, at);
+        match named(alloc, b, index, nodes, base, node, category) {
+            Ok(name) => made.push(name)?,
+            Err(fault) => return Err(fault),
+        }
     }
     Ok(made)
 }
@@ -106,12 +116,5 @@ pub fn versions(
 {
     let nodes = p.as_slice();
     let index = indexed(alloc, b.snapshots.as_slice(), nodes, base.as_slice())?;
-    all_named(
-        alloc,
-        b,
-        &index,
-        nodes,
-        base.as_slice(),
-        c.of.as_slice(),
-    )
+    all_named(alloc, b, &index, nodes, base.as_slice(), c.of.as_slice())
 }
