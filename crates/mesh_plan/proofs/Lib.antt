@@ -2,3 +2,7 @@
 pub mod Beside
 -- Models: the models of a plan, beside their nodes, closures and entries.
 pub mod Models
+-- Whole: plans, as wholes.
+pub mod Whole
+-- Runs: plans of runs, as wholes.
+pub mod Runs

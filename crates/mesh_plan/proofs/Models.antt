@@ -1,6 +1,6 @@
 -- The models of a plan, beside their nodes, closures and entries.
-use Rattle.std.proofs.Common.{◌≡◌, ℕ, suc, inl, inr, List, [], ◌∷◌, map, length, Some, refl, sym, ◌∙◌, ap, subst, arith}
-use Rattle.std.specs.List.{All, AllByRecursion, AllZip}
+use Rattle.std.proofs.Common.{◌≡◌, ℕ, zero, suc, true, inl, inr, List, [], ◌∷◌, map, length, take, ◌++◌, Some, None, refl, sym, ◌∙◌, ap, subst, arith}
+use Rattle.std.specs.List.{All, AllByRecursion, AllZip, slice_get}
 use Rattle.std.specs.Option.{option_map}
 use Rattle.std.specs.declared.option.Option.{Option}
 use Rattle.std.proofs.lemmas.List.{length-map}
@@ -22,6 +22,7 @@ use Rattle.mesh_due.specs.Plans.{Planned, planned, planned_by}
 use Rattle.mesh_due.specs.Versions.{version}
 use Rattle.mesh_changes.specs.Planning.{HasObject, compared, compared_list, stated, stated_new}
 use Rattle.mesh_versions.specs.Clashes.{compared_in, versions}
+use Rattle.mesh_versions.proofs.Steps.{have_as_many, take_got, versions_long}
 use Rattle.mesh_plan.specs.Entries.{AreEntries, entries_of, entry_of}
 use Rattle.mesh_plan.proofs.Beside.{counterpart_is}
 
@@ -31,6 +32,33 @@ entries_long b [] [] e = refl
 entries_long b [] (o ∷ os) e = absurd (omega (arith, e))
 entries_long b (k ∷ ks) [] e = absurd (omega (arith, e))
 entries_long b (k ∷ ks) (o ∷ os) e = ap suc (entries_long b ks os (omega (arith, e)))
+
+pub entry_at : (b : Book) (categories : List Category) (objects : List Name) (i : ℕ) (k : Category) (o : Name) → slice_get categories i ≡ Some k → slice_get objects i ≡ Some o → slice_get (entries_of b categories objects) i ≡ Some (entry_of b k o)
+entry_at b [] objects i k o e f = absurd (let clash : None ≡ Some k = e in cc)
+entry_at b (j ∷ ks) [] i k o e f = absurd (let clash : None ≡ Some o = f in cc)
+entry_at b (j ∷ ks) (q ∷ os) zero k o e f =
+    let same : j ≡ k = cc in
+    let its : q ≡ o = cc in
+    λ i. Some (entry_of b (same i) (its i))
+entry_at b (j ∷ ks) (q ∷ os) (suc i) k o e f = entry_at b ks os i k o e f
+
+-- one entry more
+pub one_more_entry : (b : Book) (categories : List Category) (objects : List Name) (i next : ℕ) (k : Category) (o : Name) → next ≡ suc i → slice_get categories i ≡ Some k → slice_get objects i ≡ Some o
+    → (made new : List Entry) (entry : Entry) → made ≡ take i (entries_of b categories objects) → new ≡ made ++ entry ∷ [] → entry ≡ entry_of b k o → new ≡ take next (entries_of b categories objects)
+one_more_entry b categories objects i next k o e is its made new entry was more here =
+    more ∙ (λ j. was j ++ here j ∷ []) ∙ sym (take_got (entries_of b categories objects) i next (entry_of b k o) e (entry_at b categories objects i k o is its))
+
+-- as many of each as models
+pub as_many_objects : (b : Book) (base : List Ref) (nodes : List Node) (categories : List Category) (objects : List Name) → HaveCategories (listed b.snapshots base) nodes categories → map Some objects ≡ versions b.snapshots base nodes categories
+    → (length categories ≡ length nodes) × (length objects ≡ length nodes)
+as_many_objects b base nodes categories objects have named =
+    let ks : length categories ≡ length nodes = have_as_many (listed b.snapshots base) nodes categories have in
+    (ks, sym (length-map objects Some) ∙ ap length named ∙ versions_long b.snapshots base nodes categories ks)
+
+pub as_many : (b : Book) (base : List Ref) (nodes : List Node) (es : List Entry) → AreEntries b base nodes es → length es ≡ length nodes
+as_many b base nodes es are =
+    let both = as_many_objects b base nodes are.categories are.objects are.have are.named in
+    ap length are.are ∙ entries_long b are.categories are.objects (both.0 ∙ sym both.1) ∙ both.1
 
 closures_long : (nodes : List Node) → length (closures nodes) ≡ length nodes
 closures_long nodes = sym (length-map (closures nodes) own_of) ∙ ap length (one_each nodes) ∙ length-map nodes (λ (n : Node). n.own)
@@ -88,3 +116,4 @@ module _ (b : Book) (env : List ℕ) (well : is_well_formed_book b ≡ true) (fi
   objects_are nodes es are =
       subst (λ (x : List Entry). AllByRecursion (HasObject b env) (planned nodes x)) (sym are.are)
       (objects_by nodes (closures nodes) are.categories are.objects (one_each nodes) are.have are.named)
+

@@ -19,9 +19,14 @@ pub(crate) fn prod(alloc: Global) -> Result<Str, Memory>
 }
 
 /// The environment's list, or else production's, or else none.
-pub(crate) fn compared_list<'a>(b: &'a Book, env: &Str, prod: &Str, none: &'a Refs) -> &'a Refs
+pub(crate) fn compared_list<'a>(
+    b: &'a Book,
+    env: &Str,
+    production: &Str,
+    none: &'a Refs,
+) -> &'a Refs
     requires book { is_well_formed_book b.now ≡ true }
-    requires prod { prod.now ≡ prod }
+    requires production { production.now ≡ prod }
     requires none { none.now ≡ [] }
     ensures list { result.now ≡ compared_list b.now env.now }
     ensures fit { is_list_fit b.now.snapshots result.now ≡ true }
@@ -29,7 +34,7 @@ pub(crate) fn compared_list<'a>(b: &'a Book, env: &Str, prod: &Str, none: &'a Re
     if let Some(e) = b.environments.find(env) {
         return &e.list;
     }
-    match b.environments.find(prod) {
+    match b.environments.find(production) {
         Some(e) => &e.list,
         None => none,
     }

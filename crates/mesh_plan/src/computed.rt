@@ -1,6 +1,7 @@
 // What of a plan is computed again, and what is due.
-ghost use Rattle.std.specs.Prelude.{◌≡◌, length, IfOk, IfErr, OnOk, None};
+ghost use Rattle.std.specs.Prelude.{◌≡◌, true, length, IfOk, IfErr, OnOk, None};
 ghost use Rattle.std.specs.Option.{option_copied};
+ghost use Rattle.mesh_rules.specs.Proper.{is_proper};
 ghost use Rattle.mesh_days.specs.Moments.{IsMoment};
 ghost use Rattle.mesh_scratch.specs.Closures.{closures};
 ghost use Rattle.mesh_scratch.specs.Horizons.{Clock, Shows};
@@ -30,6 +31,7 @@ pub(crate) fn compute(
     t: i64,
     restate: Option<&Restate>,
 ) -> Result<Computed, PlanFault>
+    requires proper { is_proper nodes.now ≡ true }
     requires moment { IsMoment t }
     requires entries { length entries.now ≡ length nodes.now }
     ensures short { OnOk result ((clock : Clock) → Shows clock t → first_too_long clock (closures nodes.now) ≡ None) }

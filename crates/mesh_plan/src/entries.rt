@@ -1,6 +1,6 @@
 // The entries of a project's models.
-ghost use Rattle.std.specs.Prelude.{◌≡◌, true, length, map, IfOk, IfErr, OnOk, Some};
-ghost use Rattle.std.specs.List.{All};
+ghost use Rattle.std.specs.Prelude.{◌≡◌, ◌<◌, true, length, map, IfOk, IfErr, OnOk, Some};
+ghost use Rattle.std.specs.List.{All, slice_get};
 ghost use Rattle.mesh_book.specs.WellFormed.{is_well_formed_book};
 ghost use Rattle.mesh_house.specs.World.{version_of};
 ghost use Rattle.mesh_category.specs.Stated.{HaveCategories};
@@ -40,6 +40,13 @@ pub(crate) fn entry_of(b: &Book, category: Category, object: &Name) -> Result<En
     })
 }
 
+fn category_at(categories: &[Category], at: usize) -> Category
+    requires { at < length categories.now }
+    ensures { slice_get categories.now at ≡ Some result }
+{
+    categories[at]
+}
+
 fn entries_of(
     alloc: Global,
     b: &Book,
@@ -51,7 +58,8 @@ fn entries_of(
 {
     let mut entries = Seq::new(alloc);
     for (at, object) in objects.iter().enumerate() {
-        entries.push(entry_of(b, categories[at], object)?)?;
+        let category = category_at(categories, at);
+        entries.push(entry_of(b, category, object)?)?;
     }
     Ok(entries)
 }
