@@ -1,8 +1,9 @@
 -- Plans, as wholes: their parts make them what a plan says.
-use Rattle.std.proofs.Common.{◌≡◌, ℕ, ℤ, true, false, inl, inr, List, map, length, None, refl, sym, ◌∙◌, ap, subst}
+use Rattle.std.proofs.Common.{◌≡◌, ℕ, ℤ, true, false, inl, inr, List, map, length, None, refl, sym, ◌∙◌, ap, subst, arith, FitsSigned, w64, to_z, of_z}
 use Rattle.std.specs.List.{All}
 use Rattle.std.specs.Int.Signed.{lt_z}
 use Rattle.std.specs.declared.option.Option.{Option}
+use Rattle.std.proofs.lemmas.Int.{ints}
 use Rattle.mesh_values.specs.declared.values.Pair.{Pair}
 use Rattle.mesh_base.specs.declared.forgets.Forget.{Forget}
 use Rattle.mesh_base.specs.declared.forgets.Restate.{Restate}
@@ -28,6 +29,10 @@ use Rattle.mesh_versions.proofs.Without.{none_clashes}
 use Rattle.mesh_plan.specs.Intervals.{RefusesUnits}
 use Rattle.mesh_plan.specs.Plans.{IsPlanOf, RefusesEntries, RefusesPlan, Unclashed, promised, removed}
 use Rattle.mesh_plan.proofs.Models.{as_many, closures_are, nodes_are, objects_are}
+
+-- a moment fits where it lies
+pub second_whole : (t : ℤ) → FitsSigned w64 t → to_z w64 (of_z w64 t) ≡ t
+second_whole t f = omega (arith, ints)
 
 module _ (b : Book) (base : List Ref) (nodes : List Node) (t : ℤ) (ahead : lt_z t b.moment ≡ false) where
   pub entries_refuse : (fault : PlanFault) → RefusesEntries b base nodes fault → RefusesPlan b base nodes t fault
