@@ -6,3 +6,5 @@ pub mod Models
 pub mod Whole
 -- Runs: plans of runs, as wholes.
 pub mod Runs
+-- Longest: the first model whose schedule is too long.
+pub mod Longest

@@ -60,7 +60,7 @@ as_many b base nodes es are =
     let both = as_many_objects b base nodes are.categories are.objects are.have are.named in
     ap length are.are ∙ entries_long b are.categories are.objects (both.0 ∙ sym both.1) ∙ both.1
 
-closures_long : (nodes : List Node) → length (closures nodes) ≡ length nodes
+pub closures_long : (nodes : List Node) → length (closures nodes) ≡ length nodes
 closures_long nodes = sym (length-map (closures nodes) own_of) ∙ ap length (one_each nodes) ∙ length-map nodes (λ (n : Node). n.own)
 
 -- the nodes and the closures of the models

@@ -32,7 +32,7 @@ use Rattle.mesh_due.specs.Plans.{Planned, planned, planned_by}
 use Rattle.mesh_due.specs.Versions.{node_ref}
 use Rattle.mesh_changes.specs.Environments.{env_at}
 use Rattle.mesh_changes.specs.Planning.{IsKept, IsRunPlan}
-use Rattle.mesh_plan.specs.LongStub.{first_too_long}
+use Rattle.mesh_marks.specs.Long.{first_too_long}
 use Rattle.mesh_versions.specs.declared.faults.PlanFault.{PlanFault}
 use Rattle.mesh_versions.specs.declared.faults.PlanFault.TheVariants.{Model, Moment, EnvUnknown, EnvPending, Memory}
 use Rattle.mesh_versions.proofs.Steps.{take_got}

@@ -18,7 +18,7 @@ use Rattle.mesh_listed.specs.Listed.{listed}
 use Rattle.mesh_due.specs.Plans.{is_made}
 use Rattle.mesh_due.specs.Versions.{node_ref}
 use Rattle.mesh_versions.specs.Clashes.{versions}
-use Rattle.mesh_plan.specs.WordStub.{kind_word}
+use Rattle.mesh_plan_text.specs.PlanText.{kind_word}
 
 -- a model's entry: its category, its object, and whether that is made
 abbrev pub entry_of : Book → Category → Name → Entry

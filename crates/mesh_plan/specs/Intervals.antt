@@ -9,7 +9,7 @@ use Rattle.mesh_tokens.specs.declared.faults.FaultKind.{FaultKind}
 use Rattle.mesh_tokens.specs.declared.faults.FaultKind.TheVariants.{TooLarge}
 use Rattle.mesh_scratch.specs.Closures.{closures}
 use Rattle.mesh_scratch.specs.Horizons.{Clock, Shows, horizon}
-use Rattle.mesh_plan.specs.LongStub.{first_too_long}
+use Rattle.mesh_marks.specs.Long.{first_too_long}
 use Rattle.mesh_versions.specs.declared.faults.PlanFault.{PlanFault}
 use Rattle.mesh_versions.specs.declared.faults.PlanFault.TheVariants.{Model, Moment, EnvUnknown, EnvPending, Memory}
 

@@ -6,7 +6,3 @@ pub mod Intervals
 pub mod Plans
 -- Running: what a plan of a run says, and why there is none.
 pub mod Running
--- S.
-pub mod LongStub
--- W.
-pub mod WordStub

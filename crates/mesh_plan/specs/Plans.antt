@@ -22,7 +22,7 @@ use Rattle.mesh_due.specs.Dues.{dues}
 use Rattle.mesh_due.specs.Plans.{planned}
 use Rattle.mesh_changes.specs.Changes.{Plan as Promised}
 use Rattle.mesh_changes.specs.Planning.{IsPlan, compared_list}
-use Rattle.mesh_plan.specs.LongStub.{first_too_long}
+use Rattle.mesh_marks.specs.Long.{first_too_long}
 use Rattle.mesh_versions.specs.declared.faults.PlanFault.{PlanFault}
 use Rattle.mesh_versions.specs.declared.faults.PlanFault.TheVariants.{Model, Moment, EnvUnknown, EnvPending, Memory}
 use Rattle.mesh_versions.specs.Clashes.{IsAlone, IsFirstClash}

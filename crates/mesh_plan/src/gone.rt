@@ -6,7 +6,7 @@ ghost use Rattle.mesh_values.specs.Names.{name_cmp};
 ghost use Rattle.mesh_values.specs.declared.values.Name.{Name};
 ghost use Rattle.mesh_base.specs.declared.snapshots.Node.{Node};
 ghost use Rattle.mesh_rules.specs.Proper.{has_node};
-ghost use Rattle.mesh_plan.specs.WordStub.{kind_word};
+ghost use Rattle.mesh_plan_text.specs.PlanText.{kind_word};
 ghost use Rattle.mesh_plan.specs.Entries.{gone_as, gone_of};
 ghost use Rattle.mesh_plan.specs.Plans.{removed};
 

@@ -9,7 +9,7 @@ use Rattle.mesh_scratch.specs.Horizons.{Clock, Shows}
 use Rattle.mesh_listed.specs.Listed.{is_list_fit}
 use Rattle.mesh_due.specs.Dues.{again, dues}
 use Rattle.mesh_due.specs.Plans.{planned}
-use Rattle.mesh_plan.specs.LongStub.{first_too_long}
+use Rattle.mesh_marks.specs.Long.{first_too_long}
 use Rattle.mesh_plan.specs.Plans.{IsPlanOf, Unclashed, removed}
 use Rattle.mesh_plan.proofs.Models.{as_many}
 use Rattle.mesh_plan.proofs.Whole.{second_whole, whole}

@@ -11,7 +11,7 @@ use Rattle.mesh_listed.specs.Listed.{listed}
 use Rattle.mesh_due.specs.Dues.{again, dues}
 use Rattle.mesh_due.specs.Plans.{planned}
 use Rattle.mesh_due.specs.Versions.{node_ref}
-use Rattle.mesh_plan.specs.LongStub.{first_too_long}
+use Rattle.mesh_marks.specs.Long.{first_too_long}
 use Rattle.mesh_plan.specs.Entries.{IsRecorded}
 use Rattle.mesh_plan.specs.Running.{IsRunOf}
 use Rattle.mesh_plan.proofs.Beside.{list_fits}
