@@ -1,12 +1,10 @@
 -- What a project is compared with, as the promise sees it.
-use Rattle.std.proofs.Common.{◌≡◌, ℕ, zero, suc, Bool, true, false, cond, ◌&&◌, inl, inr, List, [], ◌∷◌, map, Some, None, refl, sym, ◌∙◌, ap, subst}
+use Rattle.std.proofs.Common.{◌≡◌, ℕ, zero, suc, Bool, true, false, cond, inl, inr, List, [], ◌∷◌, map, Some, None, refl, sym, ◌∙◌, ap}
 use Rattle.std.specs.Cmp.{Equal-is}
-use Rattle.std.specs.List.{All}
-use Rattle.std.specs.Option.{is_some, option_and_then, option_map}
+use Rattle.std.specs.Option.{option_and_then, option_map}
 use Rattle.std.specs.Ordering.{is_eq}
 use Rattle.std.specs.declared.option.Option.{Option}
 use Rattle.std.proofs.lemmas.Cmp.{tied_itself}
-use Rattle.std.proofs.lemmas.Map.Lookups.{exact_bytes}
 use Rattle.mesh_list.specs.Keyed.{found}
 use Rattle.mesh_list.proofs.Ascends.{and_left}
 use Rattle.mesh_values.specs.Names.{name_cmp, text_cmp}
@@ -14,24 +12,23 @@ use Rattle.mesh_values.specs.NameOrder.{names_exact, names_total}
 use Rattle.mesh_values.specs.declared.values.Name.{Name}
 use Rattle.mesh_base.specs.Keys.{env_name, ref_name, snapshot_ref}
 use Rattle.mesh_base.specs.declared.snapshots.Env.{Env}
-use Rattle.mesh_base.specs.declared.snapshots.Node.{Node}
 use Rattle.mesh_base.specs.declared.snapshots.Ref.{Ref}
 use Rattle.mesh_base.specs.declared.snapshots.Snapshot.{Snapshot}
 use Rattle.mesh_book.specs.declared.book.Book.{Book}
 use Rattle.mesh_book.specs.WellFormed.{are_kept, is_kept, is_well_formed_book, snapshot_at}
 use Rattle.mesh_book.proofs.Exchanged.{found_key}
-use Rattle.mesh_scratch.specs.Closures.{Closure, closures, own_of}
+use Rattle.mesh_scratch.specs.Closures.{own_of}
 use Rattle.mesh_laws.proofs.Finding.{one_passes}
 use Rattle.mesh_laws.proofs.Has.{Has}
 use Rattle.mesh_category.specs.Stated.{stated as stated_all, stated_name, stated_with}
 use Rattle.mesh_reuse.specs.Categories.{Stated}
-use Rattle.mesh_listed.specs.Closing.{IsSnapshot, closed, closing}
+use Rattle.mesh_listed.specs.Closing.{closed, closing}
 use Rattle.mesh_listed.specs.Listed.{as_node, entries, is_list_fit, listed}
 use Rattle.mesh_listed.proofs.Books.{fits, its_ref, kept_at}
 use Rattle.mesh_listed.proofs.Entries.{entry_of, env_lists_fit, is_entry, one_of_name}
 use Rattle.mesh_listed.proofs.Projects.{closures_are}
-use Rattle.mesh_changes.specs.Environments.{env_at, prod}
-use Rattle.mesh_changes.specs.Planning.{compared, compared_list, stated}
+use Rattle.mesh_changes.specs.Environments.{env_at}
+use Rattle.mesh_changes.specs.Planning.{stated}
 use Rattle.mesh_versions.specs.Clashes.{compared_in}
 use Rattle.mesh_versions.proofs.Without.{all_at}
 

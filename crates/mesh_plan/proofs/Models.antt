@@ -1,26 +1,24 @@
 -- The models of a plan, beside their nodes, closures and entries.
-use Rattle.std.proofs.Common.{◌≡◌, ℕ, zero, suc, true, inl, inr, List, [], ◌∷◌, map, length, take, ◌++◌, Some, None, refl, sym, ◌∙◌, ap, subst, arith}
-use Rattle.std.specs.List.{All, AllByRecursion, AllZip, slice_get}
+use Rattle.std.proofs.Common.{◌≡◌, ℕ, zero, suc, true, List, [], ◌∷◌, map, length, take, ◌++◌, Some, None, refl, sym, ◌∙◌, ap, subst, arith}
+use Rattle.std.specs.List.{AllByRecursion, AllZip, slice_get}
 use Rattle.std.specs.Option.{option_map}
 use Rattle.std.specs.declared.option.Option.{Option}
 use Rattle.std.proofs.lemmas.List.{length-map}
 use Rattle.mesh_values.specs.declared.values.Name.{Name}
-use Rattle.mesh_base.specs.declared.forgets.Restate.{Restate}
 use Rattle.mesh_base.specs.declared.plans.Category.{Category}
 use Rattle.mesh_base.specs.declared.plans.Entry.{Entry}
 use Rattle.mesh_base.specs.declared.snapshots.Node.{Node}
 use Rattle.mesh_base.specs.declared.snapshots.Ref.{Ref}
-use Rattle.mesh_base.specs.declared.snapshots.Snapshot.{Snapshot}
 use Rattle.mesh_book.specs.declared.book.Book.{Book}
 use Rattle.mesh_book.specs.WellFormed.{is_well_formed_book}
 use Rattle.mesh_scratch.specs.Closures.{Closure, closures, own_of}
 use Rattle.mesh_scratch.proofs.Listed.{one_each}
-use Rattle.mesh_category.specs.Stated.{HaveCategories, IsCategoryAmong, counterpart, stated as stated_all, stated_name, stated_with}
+use Rattle.mesh_category.specs.Stated.{HaveCategories, IsCategoryAmong, stated as stated_all, stated_with}
 use Rattle.mesh_reuse.specs.Categories.{HasCategory, Stated}
 use Rattle.mesh_listed.specs.Listed.{is_list_fit, listed}
 use Rattle.mesh_due.specs.Plans.{Planned, planned, planned_by}
 use Rattle.mesh_due.specs.Versions.{version}
-use Rattle.mesh_changes.specs.Planning.{HasObject, compared, compared_list, stated, stated_new}
+use Rattle.mesh_changes.specs.Planning.{HasObject, compared_list, stated}
 use Rattle.mesh_versions.specs.Clashes.{compared_in, versions}
 use Rattle.mesh_versions.proofs.Steps.{have_as_many, take_got, versions_long}
 use Rattle.mesh_plan.specs.Entries.{AreEntries, entries_of, entry_of}
@@ -116,4 +114,3 @@ module _ (b : Book) (env : List ℕ) (well : is_well_formed_book b ≡ true) (fi
   objects_are nodes es are =
       subst (λ (x : List Entry). AllByRecursion (HasObject b env) (planned nodes x)) (sym are.are)
       (objects_by nodes (closures nodes) are.categories are.objects (one_each nodes) are.have are.named)
-

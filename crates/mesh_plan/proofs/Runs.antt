@@ -4,9 +4,6 @@ use Rattle.std.specs.Prelude.{IsSome}
 use Rattle.std.specs.List.{AllByRecursion, AllZip, Contains, slice_get}
 use Rattle.std.specs.Int.Signed.{lt_z}
 use Rattle.std.specs.Option.{is_some}
-use Rattle.std.specs.declared.option.Option.{Option}
-use Rattle.std.proofs.lemmas.List.{length-map}
-use Rattle.mesh_base.specs.Keys.{snapshot_ref}
 use Rattle.mesh_base.specs.declared.forgets.Forget.{Forget}
 use Rattle.mesh_base.specs.declared.plans.Due.{Due}
 use Rattle.mesh_base.specs.declared.plans.Entry.{Entry}
@@ -31,14 +28,13 @@ use Rattle.mesh_due.specs.Dues.{again, dues}
 use Rattle.mesh_due.specs.Plans.{Planned, planned, planned_by}
 use Rattle.mesh_due.specs.Versions.{node_ref}
 use Rattle.mesh_changes.specs.Environments.{env_at}
-use Rattle.mesh_changes.specs.Planning.{IsKept, IsRunPlan}
+use Rattle.mesh_changes.specs.Planning.{IsKept}
 use Rattle.mesh_marks.specs.Long.{first_too_long}
 use Rattle.mesh_versions.specs.declared.faults.PlanFault.{PlanFault}
 use Rattle.mesh_versions.specs.declared.faults.PlanFault.TheVariants.{Model, Moment, EnvUnknown, EnvPending, Memory}
 use Rattle.mesh_versions.proofs.Steps.{take_got}
 use Rattle.mesh_plan.specs.Entries.{IsRecorded}
 use Rattle.mesh_plan.specs.Intervals.{RefusesUnits}
-use Rattle.mesh_plan.specs.Plans.{promised}
 use Rattle.mesh_plan.specs.Running.{IsRunOf, RefusesRunOf}
 use Rattle.mesh_plan.proofs.Beside.{list_fits}
 use Rattle.mesh_plan.proofs.Models.{closures_are, nodes_are}
@@ -88,16 +84,17 @@ module _ (b : Book) (list : List Ref) (well : is_well_formed_book b ≡ true) (f
   kept_by (s ∷ ss) sub (x ∷ xs) have =
       let known = known_is s (sub s (inl refl)) in
       let both : Some have.0.snapshot ≡ Some s = sym have.0.known ∙ known in
-      let same : have.0.snapshot ≡ s = cc in
-      (record {
-        snapshot = s;
-        known = known;
-        own = refl;
-        rank = refl;
-        object = sym (ap (λ (y : Entry). y.object) have.0.is ∙ ap (λ (y : Snapshot). y.object) same);
-        closure = refl;
-      },
-      kept_by ss (λ u k. sub u (inr k)) xs have.1)
+      let same : have.0.snapshot ≡ s = cc in (
+        record {
+          snapshot = s;
+          known = known;
+          own = refl;
+          rank = refl;
+          object = sym (ap (λ (y : Entry). y.object) have.0.is ∙ ap (λ (y : Snapshot). y.object) same);
+          closure = refl;
+        },
+        kept_by ss (λ u k. sub u (inr k)) xs have.1,
+      )
 
   pub all_kept : (xs : List Entry) → AllZip (IsRecorded b) (listed all list) xs → AllByRecursion (IsKept b) (planned (listed all list) xs)
   all_kept xs have =
@@ -129,13 +126,13 @@ module _ (b : Book) (env : List ℕ) (e : Env) (t : ℤ) (project : ProjectNodes
         short = short;
         dues_are = ds;
         keeps = λ clock shows.
-          let seen : planned project.nodes entries_ ≡ planned nodes entries_ = ap (λ (ns : List Node). planned ns entries_) are in
-          record {
-            env = e;
-            known = known;
-            nodes = ap (map (λ (p : Planned). p.node)) seen ∙ nodes_are nodes entries_ long;
-            closed = ap (map (λ (p : Planned). p.closure)) seen ∙ closures_are nodes entries_ long;
-            models = subst (AllByRecursion (IsKept b)) (sym seen) (all_kept b e.list well (list_fits b env e well known) entries_ recorded);
-            forgets = is clock shows ∙ ap (again clock b None) (sym seen);
-          };
+            let seen : planned project.nodes entries_ ≡ planned nodes entries_ = ap (λ (ns : List Node). planned ns entries_) are in
+            record {
+              env = e;
+              known = known;
+              nodes = ap (map (λ (p : Planned). p.node)) seen ∙ nodes_are nodes entries_ long;
+              closed = ap (map (λ (p : Planned). p.closure)) seen ∙ closures_are nodes entries_ long;
+              models = subst (AllByRecursion (IsKept b)) (sym seen) (all_kept b e.list well (list_fits b env e well known) entries_ recorded);
+              forgets = is clock shows ∙ ap (again clock b None) (sym seen);
+            };
       }

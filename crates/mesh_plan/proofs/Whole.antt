@@ -1,6 +1,5 @@
 -- Plans, as wholes: their parts make them what a plan says.
-use Rattle.std.proofs.Common.{◌≡◌, ℕ, ℤ, true, false, inl, inr, List, map, length, None, refl, sym, ◌∙◌, ap, subst, arith, FitsSigned, w64, to_z, of_z}
-use Rattle.std.specs.List.{All}
+use Rattle.std.proofs.Common.{◌≡◌, ℕ, ℤ, true, false, inl, inr, List, length, None, refl, arith, FitsSigned, w64, to_z, of_z}
 use Rattle.std.specs.Int.Signed.{lt_z}
 use Rattle.std.specs.declared.option.Option.{Option}
 use Rattle.std.proofs.lemmas.Int.{ints}

@@ -1,5 +1,5 @@
 -- The objects of a project's models beside their categories, and the models that are gone.
-use Rattle.std.specs.Prelude.{◌≡◌, ℕ, List, [], ◌∷◌, map, Some, None, if◌then◌else◌}
+use Rattle.std.specs.Prelude.{◌≡◌, List, [], ◌∷◌, map, Some, None, if◌then◌else◌}
 use Rattle.std.specs.declared.option.Option.{Option}
 use Rattle.mesh_values.specs.declared.values.Name.{Name}
 use Rattle.mesh_values.specs.declared.values.Pair.{Pair}

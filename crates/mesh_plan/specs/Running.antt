@@ -1,11 +1,9 @@
 -- What a plan of a run says, and why there is none.
-use Rattle.std.specs.Prelude.{◌≡◌, ℕ, ℤ, Bool, true, false, List, [], map, Some, None}
+use Rattle.std.specs.Prelude.{◌≡◌, ℕ, ℤ, true, false, List, [], Some, None}
 use Rattle.std.specs.List.{AllZip}
 use Rattle.std.specs.declared.option.Option.{Option}
 use Rattle.std.specs.Int.Signed.{lt_z}
-use Rattle.mesh_values.specs.declared.values.Name.{Name}
 use Rattle.mesh_base.specs.declared.snapshots.Env.{Env}
-use Rattle.mesh_base.specs.declared.snapshots.Node.{Node}
 use Rattle.mesh_rules.specs.declared.plans.Plan.{Plan}
 use Rattle.mesh_book.specs.declared.book.Book.{Book}
 use Rattle.mesh_scratch.specs.Closures.{closures}
@@ -13,7 +11,6 @@ use Rattle.mesh_scratch.specs.Horizons.{Clock, Shows}
 use Rattle.mesh_listed.specs.Listed.{listed}
 use Rattle.mesh_due.specs.Dues.{dues}
 use Rattle.mesh_due.specs.Plans.{planned}
-use Rattle.mesh_changes.specs.Environments.{env_at}
 use Rattle.mesh_changes.specs.Planning.{IsRunPlan}
 use Rattle.mesh_marks.specs.Long.{first_too_long}
 use Rattle.mesh_versions.specs.declared.faults.PlanFault.{PlanFault}

@@ -24,12 +24,7 @@ use mesh_versions::PlanFault;
 use std::alloc::Global;
 
 // The models that are gone, and those that aren't steady.
-fn noted(
-    alloc: Global,
-    p: &Project,
-    b: &Book,
-    base: &Refs,
-) -> Result<(Pairs, Pairs), Memory>
+fn noted(alloc: Global, p: &Project, b: &Book, base: &Refs) -> Result<(Pairs, Pairs), Memory>
     ensures gone { IfOk result (λ made. made.0 ≡ removed b.now base.now p.now.nodes) }
     ensures unsteady { IfOk result (λ made. made.1 ≡ unsteady (closures p.now.nodes)) }
 {

@@ -88,14 +88,7 @@ fn run_of(alloc: Global, b: &Book, env: &Str, e: &Env, t: i64) -> Result<Plan, P
 {
     let project = project_of(alloc, b, &e.list)?;
     let entries = kept_entries(alloc, b, project.as_slice())?;
-    match compute(
-        alloc,
-        project.as_slice(),
-        entries.as_slice(),
-        b,
-        t,
-        None,
-    ) {
+    match compute(alloc, project.as_slice(), entries.as_slice(), b, t, None) {
         Ok(computed) => {
             let made = as_plan(alloc, env, t, project, entries, computed)?;
             Ok(made)

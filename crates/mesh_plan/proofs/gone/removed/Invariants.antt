@@ -1,5 +1,4 @@
 use Rattle.std.proofs.Common.{◌≡◌, take}
-use Rattle.mesh_base.specs.declared.snapshots.Node.{Node}
 use Rattle.mesh_plan.specs.Plans.{removed}
 use Rattle.mesh_plan.proofs.gone.removed.Given as goal
 

@@ -1,6 +1,5 @@
 use Rattle.std.proofs.Common.{◌≡◌, true, false, List, length, sym, ap, ◌∙◌, subst, w64, to_z, of_z}
 use Rattle.std.specs.Option.{option_copied}
-use Rattle.mesh_base.specs.declared.plans.Entry.{Entry}
 use Rattle.mesh_base.specs.declared.snapshots.Node.{Node}
 use Rattle.mesh_base.specs.declared.snapshots.Ref.{Ref}
 use Rattle.mesh_rules.specs.declared.plans.Plan.{Plan}

@@ -1,7 +1,6 @@
 use Rattle.std.proofs.Common.{◌≡◌, true, None, List, [], length, sym, ap, ◌∙◌, subst, w64, to_z, of_z}
 use Rattle.std.specs.Prelude.{IsSome}
 use Rattle.std.specs.List.{AllZip, Contains}
-use Rattle.mesh_base.specs.declared.plans.Entry.{Entry}
 use Rattle.mesh_base.specs.declared.snapshots.Node.{Node}
 use Rattle.mesh_rules.specs.declared.plans.Plan.{Plan}
 use Rattle.mesh_book.specs.WellFormed.{snapshot_at}
