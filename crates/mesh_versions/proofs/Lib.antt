@@ -1,0 +1,14 @@
+-- Prints: fingerprints that stand in a list once, or more often.
+pub mod Prints
+-- Books: the snapshots of a well-formed book, each under its own name and fingerprint.
+pub mod Books
+-- Alone: whether a model's fingerprint stands for it alone.
+pub mod Alone
+-- Choices: the first free name, as it is looked for.
+pub mod Choices
+-- Ranks: snapshots by rank and name, and their places.
+pub mod Ranks
+-- Steps: references and objects, one after another.
+pub mod Steps
+-- Without: models that are alone are a plan without a clash.
+pub mod Without
