@@ -6,3 +6,5 @@ pub mod Books
 pub mod Put
 -- Maps: a book has one map, and moves by it where no two renames give one reference.
 pub mod Maps
+-- Near: the renames of one model stand together.
+pub mod Near

@@ -1,6 +1,5 @@
 -- Maps of a book: there is one, and where no two of its renames give one reference, no two snapshots become one.
-use Rattle.std.proofs.Common.{◌≡◌, ℕ, zero, suc, ◌<◌, ◌≤◌, ◌+◌, nat_eq, nat_lt, Bool, true, false, cond, List, [], ◌∷◌, map, inl, inr, Some, None, refl, sym, ◌∙◌, ap, subst, arith}
-use Rattle.std.specs.declared.cmp.Ordering.{Ordering}
+use Rattle.std.proofs.Common.{◌≡◌, ℕ, zero, suc, ◌<◌, ◌≤◌, ◌+◌, nat_lt, Bool, true, false, cond, List, [], ◌∷◌, map, inl, inr, Some, None, refl, sym, ◌∙◌, ap, arith}
 use Rattle.std.specs.declared.option.Option.{Option}
 use Rattle.std.specs.List.{count_by}
 use Rattle.std.specs.Cmp.{Equal-is}
@@ -15,7 +14,7 @@ use Rattle.mesh_base.specs.declared.snapshots.Snapshot.{Snapshot}
 use Rattle.mesh_base.specs.Keys.{ref_cmp, refs_exact, refs_total, snapshot_ref}
 use Rattle.mesh_book.specs.declared.book.Book.{Book}
 use Rattle.mesh_book.specs.WellFormed.{is_well_formed_book, snapshot_at}
-use Rattle.mesh_laws.proofs.Has.{Has, Has_map_from}
+use Rattle.mesh_laws.proofs.Has.{Has}
 use Rattle.mesh_listed.proofs.Books.{fits}
 use Rattle.mesh_listed.proofs.Lists.{none_passes}
 use Rattle.mesh_moves.specs.Renames.{has_twins, renamed, renamed_all, renamed_snapshot, times}

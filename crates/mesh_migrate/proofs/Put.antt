@@ -1,7 +1,6 @@
 -- Each snapshot's new fingerprint, put in place from the lowest rank up: what is put later changes none that stands.
-use Rattle.std.proofs.Common.{◌≡◌, ℕ, zero, suc, ◌<◌, ◌≤◌, nat_eq, nat_le, ◌⊎◌, inl, inr, Bool, true, false, cond, List, [], ◌∷◌, map, Some, None, refl, sym, ◌∙◌, ap, subst, arith, eqb-true}
+use Rattle.std.proofs.Common.{◌≡◌, ℕ, zero, suc, ◌<◌, ◌≤◌, nat_eq, nat_le, ◌⊎◌, inl, inr, Bool, true, false, cond, List, [], ◌∷◌, map, Some, refl, sym, ◌∙◌, ap, subst, arith, eqb-true}
 use Rattle.std.specs.declared.cmp.Ordering.{Ordering}
-use Rattle.std.specs.declared.cmp.Ordering.TheVariants.{Equal}
 use Rattle.std.specs.declared.option.Option.{Option}
 use Rattle.std.specs.Option.{option_map}
 use Rattle.std.specs.Cmp.{Equal-is}
@@ -21,11 +20,11 @@ use Rattle.mesh_book.specs.WellFormed.{is_well_formed_book, snapshot_at}
 use Rattle.mesh_canon_text.specs.Text.{node_text}
 use Rattle.mesh_laws.proofs.Has.{Has}
 use Rattle.mesh_listed.specs.Closing.{IsSnapshot}
-use Rattle.mesh_listed.proofs.Books.{IsParent, fits, its_ref}
+use Rattle.mesh_listed.proofs.Books.{fits, its_ref}
 use Rattle.mesh_moves.specs.Renames.{rename_old, renamed, renamed_by}
 use Rattle.mesh_migrate.specs.Migration.{IsMap, fingerprint_by, rename_by}
 use Rattle.mesh_migrate.specs.Walk.{layer, layers, limit_from, put, rename_at}
-use Rattle.mesh_migrate.proofs.Books.{below_limit, is_there, its_own, snapshots_ascend}
+use Rattle.mesh_migrate.proofs.Books.{below_limit, its_own, snapshots_ascend}
 use Rattle.mesh_migrate.proofs.Found.{keeps_name}
 
 -- the map gives a snapshot its fingerprint over those that the map gives its parents
@@ -165,7 +164,7 @@ module _ (b : Book) (well : is_well_formed_book b ≡ true) where
     same_at : (r : Ref) (p : Snapshot) → snapshot_at all r ≡ Some p → renamed made r ≡ renamed renames r
     same_at r p e =
         let by_list : renamed made r ≡ record r { fingerprint = (renamed renames (snapshot_ref p)).fingerprint } =
-            given_at (λ (t : Snapshot). (renamed renames (snapshot_ref t)).fingerprint) all r p e in
+        given_at (λ (t : Snapshot). (renamed renames (snapshot_ref t)).fingerprint) all r p e in
         let its : snapshot_ref p ≡ r = its_ref all r p e in
         by_list ∙ ap (λ (k : Ref). record r { fingerprint = (renamed renames k).fingerprint }) its ∙ sym (keeps_name (found ref_cmp rename_old r renames) r)
 

@@ -1,5 +1,5 @@
 -- The fingerprints that the snapshots of a book get, and the first two that would become one.
-use Rattle.std.specs.Prelude.{◌≡◌, ℕ, ⊤, ◌↔◌, List, [], ◌∷◌, Some, None, map}
+use Rattle.std.specs.Prelude.{◌≡◌, ℕ, ⊤, List, [], ◌∷◌, Some, None, map}
 use Rattle.std.specs.declared.option.Option.{Option}
 use Rattle.sha2.specs.Sha256.{sha256}
 use Rattle.mesh_list.specs.Keyed.{found}
@@ -40,19 +40,19 @@ abbrev pub first_twins : List Rename → Option (Rename × Rename)
 first_twins [] = None
 first_twins (m ∷ ms) = twins_or m (found ref_cmp rename_new (rename_new m) ms) (first_twins ms)
 
--- the fault tells the first two renames that give one reference
-pub record AreFirst (renames : List Rename) (fault : MigrationFault) : Type 0 where
+-- the fault tells these two renames
+pub record AreTold (twins : Option (Rename × Rename)) (fault : MigrationFault) : Type 0 where
   pub first : Rename
   pub second : Rename
   pub told : fault ≡ Twins first.old.name first.old.fingerprint second.old.fingerprint
-  pub are_first : first_twins renames ≡ Some (first, second)
+  pub are_twins : twins ≡ Some (first, second)
 
--- why renames don't come to be: memory was wanting, or two of them give one reference
-abbrev pub TellsTwins : List Rename → MigrationFault → Type 0
-TellsTwins renames Memory = ⊤
-TellsTwins renames (Twins name stored given) = AreFirst renames (Twins name stored given)
+-- why renames aren't answered: memory was wanting, or two of them give one reference
+abbrev pub TellsTwins : Option (Rename × Rename) → MigrationFault → Type 0
+TellsTwins twins Memory = ⊤
+TellsTwins twins (Twins name stored given) = AreTold twins (Twins name stored given)
 
 -- why a book isn't moved: memory was wanting, or its map has two renames that give one reference
 abbrev pub IsRefused : Book → MigrationFault → Type 0
 IsRefused b Memory = ⊤
-IsRefused b (Twins name stored given) = (renames : List Rename) × IsMap b renames × AreFirst renames (Twins name stored given)
+IsRefused b (Twins name stored given) = (renames : List Rename) × IsMap b renames × AreTold (first_twins renames) (Twins name stored given)

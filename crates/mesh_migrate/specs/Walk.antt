@@ -1,13 +1,16 @@
 -- The new fingerprints of a book's snapshots, put into a map one rank after another.
-use Rattle.std.specs.Prelude.{ℕ, zero, suc, nat_eq, nat_le, List, [], ◌∷◌, map, if◌then◌else◌}
+use Rattle.std.specs.Prelude.{ℕ, zero, suc, nat_eq, nat_le, List, [], ◌∷◌, map, Some, None, if◌then◌else◌}
+use Rattle.std.specs.declared.option.Option.{Option}
+use Rattle.std.specs.Ordering.{is_eq}
 use Rattle.mesh_list.specs.Keyed.{placed}
+use Rattle.mesh_values.specs.Names.{name_cmp}
 use Rattle.mesh_base.specs.declared.forgets.Rename.{Rename}
 use Rattle.mesh_base.specs.declared.snapshots.Ref.{Ref}
 use Rattle.mesh_base.specs.declared.snapshots.Snapshot.{Snapshot}
 use Rattle.mesh_base.specs.Keys.{ref_cmp, snapshot_ref}
 use Rattle.mesh_moves.specs.Renames.{rename_old, renamed}
 use Rattle.mesh_migrate.specs.declared.entries.Entry.{Entry}
-use Rattle.mesh_migrate.specs.Migration.{rename_by}
+use Rattle.mesh_migrate.specs.Migration.{rename_by, rename_new, twins_or}
 
 -- an entry is found by the reference that its rename names
 abbrev pub entry_old : Entry → Ref
@@ -42,3 +45,16 @@ limit_from limit (s ∷ ss) = limit_from (limit_above limit s.rank) ss
 -- a snapshot with the fingerprint that the map has
 abbrev pub rename_at : List Rename → Snapshot → Rename
 rename_at renames s = record { old = snapshot_ref s; new = (renamed renames (snapshot_ref s)).fingerprint }
+
+-- the first of the renames of this one's model, which stand in front, that gives what this one gives
+abbrev pub near_twin : Rename → List Rename → Option Rename
+near_twin m [] = None
+near_twin m (x ∷ xs) =
+    if is_eq (name_cmp x.old.name m.old.name) then
+    (if is_eq (ref_cmp (rename_new x) (rename_new m)) then Some x else near_twin m xs)
+    else None
+
+-- the first rename that gives what a later one of its model gives, with that one
+abbrev pub near_twins : List Rename → Option (Rename × Rename)
+near_twins [] = None
+near_twins (m ∷ ms) = twins_or m (near_twin m ms) (near_twins ms)

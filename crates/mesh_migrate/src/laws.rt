@@ -6,6 +6,11 @@ ghost use Rattle.mesh_book.specs.WellFormed.{is_well_formed_book};
 ghost use Rattle.mesh_moves.specs.Renames.{has_twins, renamed_all};
 ghost use Rattle.mesh_migrate.specs.Migration.{IsMap, first_twins};
 
+/// A well-formed book has a map.
+pub fn a_book_has_a_map()
+    ensures { (b : Book) → is_well_formed_book b ≡ true → (renames : List Rename) × IsMap b renames }
+{}
+
 /// Two maps of a well-formed book are one.
 pub fn a_book_has_one_map()
     ensures { (b : Book) (one other : List Rename) → is_well_formed_book b ≡ true → IsMap b one → IsMap b other → one ≡ other }

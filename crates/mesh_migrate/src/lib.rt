@@ -12,5 +12,5 @@ mod twins;
 mod walk;
 
 pub use fault::MigrationFault;
-pub use laws::{a_book_has_one_map, a_map_without_twins_moves_the_book};
+pub use laws::{a_book_has_a_map, a_book_has_one_map, a_map_without_twins_moves_the_book};
 pub use renames::book_renames;

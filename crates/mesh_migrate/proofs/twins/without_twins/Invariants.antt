@@ -1,6 +1,6 @@
 use Rattle.std.proofs.Common.{◌≡◌, drop}
-use Rattle.mesh_migrate.specs.Migration.{first_twins}
+use Rattle.mesh_migrate.specs.Walk.{near_twins}
 use Rattle.mesh_migrate.proofs.twins.without_twins.Given as goal
 
 abbrev pub invariant-loop-i : goal.invariant-loop-i
-invariant-loop-i l = first_twins (drop l.i l.renames) ≡ first_twins l.renames
+invariant-loop-i l = near_twins (drop l.i l.renames) ≡ near_twins l.renames

@@ -1,4 +1,4 @@
-use Rattle.std.proofs.Common.{◌∙◌, ap, List}
+use Rattle.std.proofs.Common.{◌∙◌, ap}
 use Rattle.mesh_list.specs.Keyed.{placed}
 use Rattle.mesh_base.specs.declared.forgets.Rename.{Rename}
 use Rattle.mesh_base.specs.Keys.{ref_cmp}
