@@ -1,5 +1,5 @@
 -- What a command that only looks answers, and the environment that it looks at.
-use Rattle.std.specs.Prelude.{◌≡◌, ◌⊎◌, ℕ, Bool, true, false, nat_eq, if◌then◌else◌, List, [], ◌∷◌, codes, Some, None, Result, Ok, Err, IsErrOf}
+use Rattle.std.specs.Prelude.{◌≡◌, ◌⊎◌, ℕ, Bool, true, false, nat_eq, if◌then◌else◌, List, Some, None, Result, Ok, Err, IsErrOf}
 use Rattle.std.specs.declared.option.Option.{Option}
 use Rattle.mesh_list.specs.Counts.{Rose}
 use Rattle.mesh_values.specs.declared.values.Cell.{Cell}
