@@ -1,0 +1,4 @@
+-- Looks: what a command that only looks answers.
+pub mod Looks
+-- Fetched: the text of the rows of a query over an environment's models.
+pub mod Fetched
