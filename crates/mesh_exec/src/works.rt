@@ -1,0 +1,70 @@
+// What is to be done for each model of a plan.
+ghost use Rattle.std.specs.Prelude.{◌≡◌, ◌≤◌, IfOk, length, map, take, drop};
+ghost use Rattle.mesh_exec.specs.Executable.{place_of};
+ghost use Rattle.mesh_exec.specs.Dues.{leading, behind};
+ghost use Rattle.mesh_exec.specs.Works.{part_of, parts_from};
+
+use mesh_base::{Due, Entry, Node};
+use mesh_list::{Memory, Seq};
+use std::alloc::Global;
+
+/// What is due of a model, or a part of that. What makes its object comes before the first part.
+#[derive(Clone, Copy)]
+pub(crate) struct Work<'a> {
+    pub(crate) node: &'a Node,
+    pub(crate) entry: &'a Entry,
+    pub(crate) first: bool,
+    pub(crate) dues: &'a [Due],
+}
+
+pub(crate) type Works<'a> = Seq<Work<'a>>;
+
+fn place_of(due: &Due) -> u32
+    ensures { result ≡ place_of due.now }
+{
+    match due {
+        Due::Whole { node, .. } => *node,
+        Due::Unit { node, .. } => *node,
+    }
+}
+
+/// How many of the dues that are left are those of the model at a place.
+fn count_leading(dues: &[Due], place: usize) -> usize
+    ensures within { result ≤ length dues.now }
+    ensures front { take result dues.now ≡ leading place dues.now }
+    ensures rest { drop result dues.now ≡ behind place dues.now }
+{
+    for (i, due) in dues.iter().enumerate() {
+        if place_of(due) as usize != place {
+            return i;
+        }
+    }
+    dues.len()
+}
+
+/// The models of a plan, each with all that is due of it.
+pub(crate) fn works_of<'a>(
+    alloc: Global,
+    nodes: &'a [Node],
+    entries: &'a [Entry],
+    dues: &'a [Due],
+) -> Result<Works<'a>, Memory>
+    ensures { IfOk result (λ works. map part_of works ≡ parts_from 0 nodes.now entries.now dues.now) }
+{
+    let mut works = Seq::new(alloc);
+    let mut rest = dues;
+    for (i, node) in nodes.iter().enumerate() {
+        let Some(entry) = entries.get(i) else {
+            return Ok(works);
+        };
+        let (dues, behind) = rest.split_at(count_leading(rest, i));
+        rest = behind;
+        works.push(Work {
+            node,
+            entry,
+            first: true,
+            dues,
+        })?;
+    }
+    Ok(works)
+}
