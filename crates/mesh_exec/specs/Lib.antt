@@ -14,3 +14,9 @@ pub mod Jobs
 pub mod Waves
 -- Cuts: how a plan is cut into waves.
 pub mod Cuts
+-- Sources: the sources of due models, looked at before anything is changed.
+pub mod Sources
+-- Lost: which object dangles where the tables of models are looked up.
+pub mod Lost
+-- Answers: what a call that makes a plan leaves of a house.
+pub mod Answers

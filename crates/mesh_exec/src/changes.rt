@@ -12,7 +12,7 @@ ghost use Rattle.mesh_exec.specs.Executed.{written};
 ghost use Rattle.mesh_exec.specs.Plain.{model_of, opening, parents_at, part_makes, part_making, plain_models, puts_of};
 ghost use Rattle.mesh_exec.specs.Works.{part_of};
 
-use crate::works::Work;
+use crate::works::{Work, model_at};
 use mesh_base::{Due, Entry, Forgets, Marks, Node, Ref, Refs, Snapshot};
 use mesh_columns::columns_of;
 use mesh_house::{Change, Changes};
@@ -47,7 +47,6 @@ fn push_ref(refs: &mut Refs, node: &Node) -> Result<(), Memory>
 }
 
 /// The model at a place with its object, where there is one.
-#[tactic(auto, using(crate::proofs::Places::plain_at))]
 fn push_target_at(
     targets: &mut Pairs,
     nodes: &[Node],
@@ -56,14 +55,13 @@ fn push_target_at(
 ) -> Result<(), Memory>
     ensures { OnOk result (targets.new ≡ targets.old ++ map target_of (option_to_list (slice_get (plain_models nodes.now entries.now) place))) }
 {
-    match (nodes.get(place as usize), entries.get(place as usize)) {
-        (Some(node), Some(entry)) => push_target(targets, node, entry),
-        _ => Ok(()),
+    match model_at(nodes, entries, place) {
+        Some((node, entry)) => push_target(targets, node, entry),
+        None => Ok(()),
     }
 }
 
 /// The model at a place by its fingerprint, where there is one.
-#[tactic(auto, using(crate::proofs::Places::plain_at))]
 fn push_ref_at(
     refs: &mut Refs,
     nodes: &[Node],
@@ -72,9 +70,9 @@ fn push_ref_at(
 ) -> Result<(), Memory>
     ensures { OnOk result (refs.new ≡ refs.old ++ map planned_ref (option_to_list (slice_get (plain_models nodes.now entries.now) place))) }
 {
-    match (nodes.get(place as usize), entries.get(place as usize)) {
-        (Some(node), Some(_)) => push_ref(refs, node),
-        _ => Ok(()),
+    match model_at(nodes, entries, place) {
+        Some((node, _)) => push_ref(refs, node),
+        None => Ok(()),
     }
 }
 

@@ -3,5 +3,10 @@
 
 mod changes;
 mod cuts;
+mod faults;
 mod jobs;
+mod sources;
+mod tables;
 mod works;
+
+pub use faults::ExecFault;

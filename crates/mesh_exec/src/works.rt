@@ -1,5 +1,8 @@
 // What is to be done for each model of a plan.
 ghost use Rattle.std.specs.Prelude.{◌≡◌, ◌≤◌, IfOk, length, map, take, drop};
+ghost use Rattle.std.specs.List.{slice_get};
+ghost use Rattle.std.specs.Option.{option_copied, option_map};
+ghost use Rattle.mesh_exec.specs.Plain.{model_of, plain_models};
 ghost use Rattle.mesh_exec.specs.Executable.{place_of};
 ghost use Rattle.mesh_exec.specs.Dues.{leading, behind};
 ghost use Rattle.mesh_exec.specs.Works.{part_of, parts_from};
@@ -67,4 +70,34 @@ pub(crate) fn works_of<'a>(
         })?;
     }
     Ok(works)
+}
+
+fn node_at(nodes: &[Node], place: u32) -> Option<&Node>
+    ensures { option_copied result ≡ slice_get nodes.now place }
+{
+    nodes.get(place as usize)
+}
+
+fn entry_at(entries: &[Entry], place: u32) -> Option<&Entry>
+    ensures { option_copied result ≡ slice_get entries.now place }
+{
+    entries.get(place as usize)
+}
+
+/// The model at a place, and its entry.
+#[tactic(auto, using(crate::proofs::Places::plain_at))]
+pub(crate) fn model_at<'a>(
+    nodes: &'a [Node],
+    entries: &'a [Entry],
+    place: u32,
+) -> Option<(&'a Node, &'a Entry)>
+    ensures { option_map (λ m. model_of m.0.now m.1.now) result ≡ slice_get (plain_models nodes.now entries.now) place }
+{
+    match node_at(nodes, place) {
+        None => None,
+        Some(node) => match entry_at(entries, place) {
+            None => None,
+            Some(entry) => Some((node, entry)),
+        },
+    }
 }
