@@ -1,4 +1,4 @@
--- Cutting: a plan's parts are cut and put together in waves.
-pub mod Cutting
 -- Places: the models of a plan by their places.
 pub mod Places
+-- Tables: the tables that models read, parent by parent.
+pub mod Tables

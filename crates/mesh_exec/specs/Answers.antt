@@ -23,7 +23,8 @@ use Rattle.mesh_layer.specs.declared.faults.ShowFault.{ShowFault}
 use Rattle.mesh_layer.specs.declared.faults.ShowFault.TheVariants as show
 use Rattle.mesh_exec.specs.declared.faults.ExecFault.{ExecFault}
 use Rattle.mesh_exec.specs.declared.faults.ExecFault.TheVariants as fault
-use Rattle.mesh_exec.specs.Executed.{Fits, Task, bare, executed, is_any, models, outline, tasks}
+use Rattle.mesh_exec.specs.Dues.{is_any}
+use Rattle.mesh_exec.specs.Executed.{Fits, Task, bare, executed, models, outline, tasks}
 use Rattle.mesh_exec.specs.Sources.{first_lack}
 
 abbrev pub of_house : WhFail → ExecFault

@@ -6,9 +6,10 @@ use Rattle.mesh_due.specs.Marks.{is_computed}
 use Rattle.mesh_due.specs.Plans.{Planned}
 use Rattle.mesh_house.specs.declared.world.World.{World}
 use Rattle.mesh_layer.specs.Lost.{first_of, lost_object}
+use Rattle.mesh_exec.specs.declared.works.Work.{Work}
 use Rattle.mesh_exec.specs.Dues.{is_any}
 use Rattle.mesh_exec.specs.Works.{Part}
-use Rattle.mesh_exec.specs.Plain.{parents_at}
+use Rattle.mesh_exec.specs.Plain.{parents_at, work_model}
 
 abbrev pub lost_parent : World → Planned → Option Name
 lost_parent w p = lost_object w p.object
@@ -27,5 +28,5 @@ reads p = is_any p.dues && is_computed p.node.own.kind
 abbrev pub lost_part : World → List Planned → Part → Option Name
 lost_part w all p = lost_if (reads p) w (parents_at all p.node.parents)
 
-abbrev pub lost_parts : World → List Planned → List Part → Option Name
-lost_parts w all parts = first_of (map (lost_part w all) parts)
+abbrev pub lost_work : World → Work → Option Name
+lost_work w k = lost_parent w (work_model k)

@@ -10,6 +10,7 @@ use Rattle.mesh_house.specs.declared.world.Change.{Change}
 use Rattle.mesh_house.specs.declared.world.Change.TheVariants.{Moment, PutSnapshot}
 use Rattle.mesh_due.specs.Plans.{Planned}
 use Rattle.mesh_changes.specs.Changes.{forgetting, makes, snapshot_of}
+use Rattle.mesh_exec.specs.declared.works.Work.{Work}
 use Rattle.mesh_exec.specs.Dues.{is_any}
 use Rattle.mesh_exec.specs.Works.{Part}
 
@@ -21,6 +22,9 @@ abbrev pub plain_models : List Node → List Entry → List Planned
 plain_models [] es = []
 plain_models (n ∷ ns) [] = []
 plain_models (n ∷ ns) (e ∷ es) = model_of n e ∷ plain_models ns es
+
+abbrev pub work_model : Work → Planned
+work_model w = model_of w.node.now w.entry.now
 
 -- the models at some places
 abbrev pub parents_at : List Planned → List ℕ → List Planned

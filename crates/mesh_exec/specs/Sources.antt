@@ -15,7 +15,8 @@ use Rattle.mesh_tokens.specs.declared.faults.FaultKind.{FaultKind}
 use Rattle.mesh_tokens.specs.declared.faults.FaultKind.TheVariants.{SourceMissing, SourceShape}
 use Rattle.mesh_exec.specs.declared.sources.Breach.{Breach}
 use Rattle.mesh_exec.specs.declared.sources.Lack.{Lack}
-use Rattle.mesh_exec.specs.Executed.{Task, is_any}
+use Rattle.mesh_exec.specs.Dues.{is_any}
+use Rattle.mesh_exec.specs.Executed.{Task}
 use Rattle.mesh_exec.specs.Works.{Part}
 
 -- a declared source isn't there, or it is there without a declared column or its type; further columns are passed over

@@ -1,20 +1,18 @@
 // The tables that models read, as the warehouse shows them.
-ghost use Rattle.std.specs.Prelude.{◌≡◌, ◌++◌, List, IfOk, IsTrue, length, map, Some};
-ghost use Rattle.std.specs.List.{slice_get};
-ghost use Rattle.std.specs.Option.{option_to_list};
-ghost use Rattle.mesh_base.specs.declared.jobs.Input.{Input};
+ghost use Rattle.std.specs.Prelude.{◌≡◌, IfOk, IsTrue, map, Some};
 ghost use Rattle.mesh_house.specs.Sources.{are_plain};
 ghost use Rattle.mesh_scratch.specs.Scratch.{table_of};
 ghost use Rattle.mesh_shown.specs.Shown.{each_there};
 ghost use Rattle.mesh_changes.specs.Changes.{parent_table, tables_read};
+ghost use Rattle.mesh_layer.specs.Lost.{first_of};
 ghost use Rattle.mesh_layer.specs.Shows.{Finds};
+ghost use Rattle.mesh_exec.specs.Lost.{lost_parent, lost_parents, lost_part, lost_work};
 ghost use Rattle.mesh_exec.specs.Plain.{model_of, parents_at, plain_models};
+ghost use Rattle.mesh_exec.specs.Tables.{part_tables, work_table};
 ghost use Rattle.mesh_exec.specs.Works.{part_of};
-ghost use Rattle.mesh_exec.specs.Lost.{lost_parent, lost_parents, lost_part, lost_parts};
-ghost use Rattle.mesh_exec.specs.Waves.{part_tables};
 
-use crate::works::{Work, model_at};
-use mesh_base::{Entry, Input, Inputs, Node, Pools};
+use crate::works::{Work, parents_of};
+use mesh_base::{Entry, Input, Inputs, Node};
 use mesh_columns::columns_of;
 use mesh_house::Warehouse;
 use mesh_layer::{ShowFault, object_rows, source_tables};
@@ -51,44 +49,20 @@ fn parent_table<W: Warehouse>(
     Ok(table)
 }
 
-/// The model at a place as a table behind the others, where there is one.
-fn push_table_at<W: Warehouse>(
-    alloc: Global,
-    house: &mut W,
-    nodes: &[Node],
-    entries: &[Entry],
-    place: u32,
-    tables: &mut Inputs,
-) -> Result<(), ShowFault>
-    ensures { Finds (λ w. IsTrue (are_plain w.sources))
-        (λ w done. (more : List Input) × (each_there (map (parent_table w) (option_to_list (slice_get (plain_models nodes.now entries.now) place))) ≡ Some more) × (tables.new ≡ tables.old ++ more))
-        (λ w. lost_parents w (option_to_list (slice_get (plain_models nodes.now entries.now) place))) (W.told house.old) (W.told house.new) result }
-{
-    match model_at(nodes, entries, place) {
-        None => Ok(()),
-        Some((node, entry)) => {
-            let table = parent_table(alloc, house, node, entry)?;
-            tables.push(table)?;
-            Ok(())
-        }
-    }
-}
-
-/// The parents at these places as tables.
+/// Some models as tables.
 fn parent_tables<W: Warehouse>(
     alloc: Global,
     house: &mut W,
-    nodes: &[Node],
-    entries: &[Entry],
-    places: &[u32],
+    parents: &[Work],
 ) -> Result<Inputs, ShowFault>
     ensures { Finds (λ w. IsTrue (are_plain w.sources))
-        (λ w tables. each_there (map (parent_table w) (parents_at (plain_models nodes.now entries.now) places.now)) ≡ Some tables)
-        (λ w. lost_parents w (parents_at (plain_models nodes.now entries.now) places.now)) (W.told house.old) (W.told house.new) result }
+        (λ w tables. each_there (map (work_table w) parents.now) ≡ Some tables)
+        (λ w. first_of (map (lost_work w) parents.now)) (W.told house.old) (W.told house.new) result }
 {
     let mut tables = Seq::new(alloc);
-    for place in places {
-        push_table_at(alloc, house, nodes, entries, *place, &mut tables)?;
+    for parent in parents {
+        let table = parent_table(alloc, house, parent.node, parent.entry)?;
+        tables.push(table)?;
     }
     Ok(tables)
 }
@@ -106,14 +80,15 @@ fn tables_read<W: Warehouse>(
         (λ w tables. tables_read w (plain_models nodes.now entries.now) (model_of node.now entry.now) ≡ Some tables)
         (λ w. lost_parents w (parents_at (plain_models nodes.now entries.now) node.now.parents)) (W.told house.old) (W.told house.new) result }
 {
+    let parents = parents_of(alloc, nodes, entries, node.parents.as_slice())?;
     let mut read = source_tables(alloc, house, node.own.sources.as_slice())?;
-    let tables = parent_tables(alloc, house, nodes, entries, node.parents.as_slice())?;
+    let tables = parent_tables(alloc, house, parents.as_slice())?;
     read.append(tables)?;
     Ok(read)
 }
 
 /// The tables that have to be there for a part; where nothing is due, and for a seed and a view, there are none.
-fn part_tables<W: Warehouse>(
+pub(crate) fn part_tables<W: Warehouse>(
     alloc: Global,
     house: &mut W,
     nodes: &[Node],
@@ -133,25 +108,4 @@ fn part_tables<W: Warehouse>(
         }
         Kind::View | Kind::Seed => Ok(Seq::new(alloc)),
     }
-}
-
-/// The tables of each part.
-pub(crate) fn pools_of<W: Warehouse>(
-    alloc: Global,
-    house: &mut W,
-    nodes: &[Node],
-    entries: &[Entry],
-    works: &[Work],
-) -> Result<Pools, ShowFault>
-    ensures count { IfOk result (λ pools. length pools ≡ length works.now) }
-    ensures finds { Finds (λ w. IsTrue (are_plain w.sources))
-        (λ w pools. each_there (map (part_tables w (plain_models nodes.now entries.now)) (map part_of works.now)) ≡ Some pools)
-        (λ w. lost_parts w (plain_models nodes.now entries.now) (map part_of works.now)) (W.told house.old) (W.told house.new) result }
-{
-    let mut pools = Seq::new(alloc);
-    for work in works {
-        let tables = part_tables(alloc, house, nodes, entries, work)?;
-        pools.push(tables)?;
-    }
-    Ok(pools)
 }

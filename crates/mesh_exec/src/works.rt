@@ -1,8 +1,8 @@
 // What is to be done for each model of a plan.
-ghost use Rattle.std.specs.Prelude.{◌≡◌, ◌≤◌, IfOk, length, map, take, drop};
+ghost use Rattle.std.specs.Prelude.{◌≡◌, ◌++◌, ◌≤◌, IfOk, OnOk, length, map, take, drop};
 ghost use Rattle.std.specs.List.{slice_get};
-ghost use Rattle.std.specs.Option.{option_copied, option_map};
-ghost use Rattle.mesh_exec.specs.Plain.{model_of, plain_models};
+ghost use Rattle.std.specs.Option.{option_copied, option_map, option_to_list};
+ghost use Rattle.mesh_exec.specs.Plain.{model_of, parents_at, plain_models, work_model};
 ghost use Rattle.mesh_exec.specs.Executable.{place_of};
 ghost use Rattle.mesh_exec.specs.Dues.{leading, behind};
 ghost use Rattle.mesh_exec.specs.Works.{part_of, parts_from};
@@ -100,4 +100,39 @@ pub(crate) fn model_at<'a>(
             Some(entry) => Some((node, entry)),
         },
     }
+}
+
+fn push_model<'a>(
+    models: &mut Works<'a>,
+    nodes: &'a [Node],
+    entries: &'a [Entry],
+    place: u32,
+) -> Result<(), Memory>
+    ensures { OnOk result (map work_model models.new ≡ map work_model models.old ++ option_to_list (slice_get (plain_models nodes.now entries.now) place)) }
+{
+    match model_at(nodes, entries, place) {
+        None => Ok(()),
+        Some((node, entry)) => models.push(Work {
+            node,
+            entry,
+            first: false,
+            dues: &[],
+        }),
+    }
+}
+
+/// The models at these places, with nothing that is due.
+pub(crate) fn parents_of<'a>(
+    alloc: Global,
+    nodes: &'a [Node],
+    entries: &'a [Entry],
+    places: &[u32],
+) -> Result<Works<'a>, Memory>
+    ensures { IfOk result (λ models. map work_model models ≡ parents_at (plain_models nodes.now entries.now) places.now) }
+{
+    let mut models = Seq::new(alloc);
+    for place in places {
+        push_model(&mut models, nodes, entries, *place)?;
+    }
+    Ok(models)
 }
