@@ -1,5 +1,5 @@
 -- The queries by which the rows of due parts are computed.
-use Rattle.std.specs.Prelude.{ℕ, suc, List, [], ◌∷◌, ◌++◌, Some, None}
+use Rattle.std.specs.Prelude.{ℕ, List, Some, None}
 use Rattle.std.specs.List.{flat_map}
 use Rattle.std.specs.Option.{option_to_list}
 use Rattle.std.specs.declared.option.Option.{Option}
@@ -11,7 +11,6 @@ use Rattle.mesh_base.specs.declared.jobs.Job.{Job}
 use Rattle.mesh_base.specs.declared.plans.Due.{Due}
 use Rattle.mesh_base.specs.declared.plans.Due.TheVariants.{Whole, Unit}
 use Rattle.mesh_scratch.specs.Scratch.{no_bounds}
-use Rattle.mesh_exec.specs.Works.{Part}
 
 -- the query by which a due part's rows are computed, if there is one
 abbrev pub due_job : ℕ → Kind → Defn → Due → Option Job
@@ -23,10 +22,5 @@ due_job pool View (Sql q) d = None
 due_job pool Seed (Sql q) d = None
 due_job pool kind (Rows columns rows) d = None
 
-abbrev pub part_jobs : ℕ → Part → List Job
-part_jobs pool p = flat_map (λ d. option_to_list (due_job pool p.node.own.kind p.node.own.defn d)) p.dues
-
--- the queries of some parts, each over the pool of its own place
-abbrev pub jobs_from : ℕ → List Part → List Job
-jobs_from pool [] = []
-jobs_from pool (p ∷ ps) = part_jobs pool p ++ jobs_from (suc pool) ps
+abbrev pub jobs_of : ℕ → Kind → Defn → List Due → List Job
+jobs_of pool kind defn dues = flat_map (λ d. option_to_list (due_job pool kind defn d)) dues

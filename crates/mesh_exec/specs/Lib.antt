@@ -18,3 +18,7 @@ pub mod Tables
 pub mod Jobs
 -- Answers: what a call that makes a plan leaves of a house.
 pub mod Answers
+-- Fills: how the due parts of one model are filled.
+pub mod Fills
+-- Steps: what the models of a plan make of a house, one after another.
+pub mod Steps

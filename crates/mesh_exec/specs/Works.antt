@@ -1,8 +1,14 @@
 -- The parts in which a plan is made: what is due of a model, or some of that.
-use Rattle.std.specs.Prelude.{ℕ, suc, Bool, true, List, [], ◌∷◌}
+use Rattle.std.specs.Prelude.{ℕ, suc, Bool, true, ◌&&◌, List, [], ◌∷◌, Some}
+use Rattle.std.specs.List.{list_all}
+use Rattle.mesh_values.specs.declared.values.Cell.{Cell}
+use Rattle.mesh_base.specs.declared.definitions.Defn.{Defn}
+use Rattle.mesh_base.specs.declared.definitions.Defn.TheVariants.{Seed, Sql}
 use Rattle.mesh_base.specs.declared.plans.Due.{Due}
 use Rattle.mesh_base.specs.declared.plans.Entry.{Entry}
 use Rattle.mesh_base.specs.declared.snapshots.Node.{Node}
+use Rattle.mesh_rules.specs.Proper.{is_body_of}
+use Rattle.mesh_exec.specs.Executable.{is_due_of}
 use Rattle.mesh_exec.specs.declared.works.Work.{Work}
 use Rattle.mesh_exec.specs.Dues.{leading, behind}
 
@@ -21,3 +27,15 @@ abbrev pub parts_from : ℕ → List Node → List Entry → List Due → List P
 parts_from place [] es dues = []
 parts_from place (n ∷ ns) [] dues = []
 parts_from place (n ∷ ns) (e ∷ es) dues = record { node = n; entry = e; first = true; dues = leading place dues } ∷ parts_from (suc place) ns es (behind place dues)
+
+-- a definition has the body of its kind, and what is due fits the model
+abbrev pub is_fit : Node → List Due → Bool
+is_fit n dues = is_body_of n.own.kind n.own.defn && list_all (is_due_of (Some n)) dues
+
+abbrev pub are_fit : List Part → Bool
+are_fit parts = list_all (λ (p : Part). is_fit p.node p.dues) parts
+
+-- a seed's own rows
+abbrev pub seed_rows : Defn → List (List Cell)
+seed_rows (Seed columns rows) = rows
+seed_rows (Sql q) = []

@@ -1,12 +1,10 @@
 // The queries by which the rows of due parts are computed.
-ghost use Rattle.std.specs.Prelude.{◌≡◌, ◌++◌, ◌∷◌, [], IfOk, OnOk, map, Some, None, Ok};
+ghost use Rattle.std.specs.Prelude.{◌≡◌, ◌++◌, ◌∷◌, [], IfOk, OnOk, Some, None, Ok};
 ghost use Rattle.std.specs.Option.{option_to_list};
 ghost use Rattle.mesh_base.specs.declared.jobs.Job.{Job};
 ghost use Rattle.mesh_scratch.specs.Scratch.{no_bounds};
-ghost use Rattle.mesh_exec.specs.Works.{part_of};
-ghost use Rattle.mesh_exec.specs.Jobs.{due_job, jobs_from, part_jobs};
+ghost use Rattle.mesh_exec.specs.Jobs.{due_job, jobs_of};
 
-use crate::works::Work;
 use mesh_base::{Defn, Due, Job, Jobs, Node, Query};
 use mesh_list::{Duplicate, Memory, Seq, both};
 use mesh_values::{Bounds, Kind, Str};
@@ -64,25 +62,13 @@ fn push_job(jobs: &mut Jobs, pool: u32, node: &Node, due: &Due) -> Result<(), Me
     }
 }
 
-fn push_jobs(jobs: &mut Jobs, pool: u32, work: &Work) -> Result<(), Memory>
-    ensures { OnOk result (jobs.new ≡ jobs.old ++ part_jobs pool (part_of work.now)) }
-{
-    for due in work.dues {
-        push_job(jobs, pool, work.node, due)?;
-    }
-    Ok(())
-}
-
-/// The jobs of some parts, each over the pool of its own place.
-pub(crate) fn jobs_of(alloc: Global, works: &[Work]) -> Result<Jobs, Memory>
-    ensures { IfOk result (λ jobs. jobs ≡ jobs_from 0 (map part_of works.now)) }
+/// The jobs of some due parts, all over the first pool.
+pub(crate) fn jobs_of(alloc: Global, node: &Node, dues: &[Due]) -> Result<Jobs, Memory>
+    ensures { IfOk result (λ jobs. jobs ≡ jobs_of 0 node.now.own.kind node.now.own.defn dues.now) }
 {
     let mut jobs = Seq::new(alloc);
-    for (i, work) in works.iter().enumerate() {
-        let Ok(pool) = u32::try_from(i) else {
-            return Err(Memory);
-        };
-        push_jobs(&mut jobs, pool, work)?;
+    for due in dues {
+        push_job(&mut jobs, 0, node, due)?;
     }
     Ok(jobs)
 }

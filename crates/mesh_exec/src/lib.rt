@@ -2,7 +2,6 @@
 #![tactic(auto)]
 
 mod changes;
-mod cuts;
 mod faults;
 mod jobs;
 mod sources;

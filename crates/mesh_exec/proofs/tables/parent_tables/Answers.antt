@@ -1,7 +1,7 @@
 use Rattle.std.proofs.Common.{Some, take, sym, ap, ◌∙◌, arith}
 use Rattle.mesh_layer.proofs.Finding.{and_then, part_fails, told_later}
 use Rattle.mesh_layer.proofs.Heights.{each_step, first_at, none_lost}
-use Rattle.mesh_exec.proofs.Tables.{table_shown}
+use Rattle.mesh_exec.proofs.Parents.{table_shown}
 use Rattle.mesh_exec.specs.Lost.{lost_work}
 use Rattle.mesh_exec.specs.Tables.{work_table}
 use Rattle.mesh_exec.proofs.tables.parent_tables.Goals as goal

@@ -1,6 +1,6 @@
 use Rattle.std.proofs.Common.{◌≡◌, Some, ◌++◌, map, sym, ap, ◌∙◌}
 use Rattle.mesh_layer.proofs.Finding.{and_then, answers, part_fails, told_later}
-use Rattle.mesh_exec.proofs.Tables.{lost_are, read_all}
+use Rattle.mesh_exec.proofs.Parents.{lost_are, read_all}
 use Rattle.mesh_exec.specs.Plain.{model_of, parents_at, plain_models, work_model}
 use Rattle.mesh_exec.proofs.tables.tables_read.Goals as goal
 
