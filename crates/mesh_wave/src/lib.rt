@@ -1,0 +1,16 @@
+//! Waves: the jobs of one rank, evaluated side by side. Its contract: `wave` gives the rows of each job at the job's own
+//! place, whatever the number of workers. It stands on `mesh_eval`, and on the numbers that `mesh_claims` gives out.
+#![tactic(auto)]
+
+mod gates;
+mod jobs;
+mod laws;
+mod parts;
+mod times;
+mod units;
+mod waves;
+mod workers;
+
+pub use gates::{Gate, OpenGate};
+pub use laws::jobs_are_of_models;
+pub use waves::wave;
