@@ -3,6 +3,7 @@
 
 mod changes;
 mod faults;
+mod fills;
 mod jobs;
 mod sources;
 mod tables;
