@@ -1,10 +1,13 @@
 -- The due parts of a model are filled from the rows of their jobs.
-use Rattle.std.proofs.Common.{◌≡◌, ◌≤◌, ◌<◌, ◌+◌, ℕ, zero, suc, Bool, true, false, List, [], ◌∷◌, ◌++◌, length, take, drop, map, map-append, Some, None, refl, sym, ap, ◌∙◌, arith, length-append}
+use Rattle.std.proofs.Common.{◌≡◌, ◌≤◌, ◌<◌, ◌+◌, ℕ, zero, suc, Bool, true, false, List, [], ◌∷◌, ◌++◌, length, take, drop, map, Some, None, refl, sym, ap, ◌∙◌, subst, arith, length-append, append_assoc, Ok, Err, Result}
 use Rattle.std.specs.Prelude.{◌&&◌, not}
 use Rattle.std.specs.List.{All, filter, flat_map, list_all, slice_index_or}
 use Rattle.std.specs.Option.{option_to_list}
+use Rattle.std.specs.Result.{IfOk}
+use Rattle.mesh_list.specs.declared.memory.Memory.{Memory}
 use Rattle.std.specs.declared.option.Option.{Option}
-use Rattle.std.proofs.lemmas.List.{take_all}
+use Rattle.std.proofs.lemmas.List.{map-append, take-append-drop}
+use Rattle.std.proofs.lemmas.List.Elements.{All-append, All-cons, All-nil}
 use Rattle.std.proofs.lemmas.Grind.{flat_map-append}
 use Rattle.mesh_values.specs.Kinds.{is_incremental, time_column}
 use Rattle.mesh_values.specs.declared.kinds.Kind.{Kind}
@@ -12,7 +15,7 @@ use Rattle.mesh_values.specs.declared.kinds.Kind.TheVariants.{Full, View, Seed a
 use Rattle.mesh_values.specs.declared.times.Bounds.{Bounds}
 use Rattle.mesh_values.specs.declared.values.Cell.{Cell}
 use Rattle.mesh_values.specs.declared.values.Column.{Column}
-use Rattle.mesh_base.specs.Outputs.{defn_columns}
+use Rattle.mesh_base.specs.Outputs.{defn_columns, select_columns}
 use Rattle.mesh_base.specs.declared.definitions.Defn.{Defn}
 use Rattle.mesh_base.specs.declared.definitions.Defn.TheVariants.{Seed, Sql}
 use Rattle.mesh_base.specs.declared.jobs.Input.{Input}
@@ -22,6 +25,7 @@ use Rattle.mesh_base.specs.declared.plans.Due.TheVariants.{Whole, Unit as OfUnit
 use Rattle.mesh_base.specs.declared.plans.Entry.{Entry}
 use Rattle.mesh_base.specs.declared.snapshots.Node.{Node}
 use Rattle.mesh_rules.specs.Proper.{is_body_of}
+use Rattle.mesh_meaning.specs.Sel.{Sel}
 use Rattle.mesh_scratch.specs.Scratch.{defn_rows, lies_by, no_bounds}
 use Rattle.mesh_house.specs.declared.world.Change.{Change}
 use Rattle.mesh_due.specs.Marks.{is_computed}
@@ -65,7 +69,7 @@ module _ (n : Node) (e : Entry) (pools : List (List Input)) where
       → map (job_rows pools) (option_to_list (due_job 0 k b d)) ≡ ascending (part_rows p (first_pool pools) d) ∷ []
   unfolding job_rows
   one (Whole place marks) Full (Sql q) kind defn computed body fit =
-      ap (λ (rows : List (List Cell)). ascending rows ∷ []) (all_count _ _ _ ∙ ap (λ (b : Defn). defn_rows b (first_pool pools) no_bounds) (sym defn))
+      ap (λ (rows : List (List Cell)). ascending rows ∷ []) (all_count (select_columns q.selects) no_bounds (Sel q (first_pool pools) no_bounds) ∙ ap (λ (b : Defn). defn_rows b (first_pool pools) no_bounds) (sym defn))
   one (OfUnit place start end) Full (Sql q) kind defn computed body fit = absurd (let i = (is_both (is_incremental n.own.kind) _ fit).0 in let j : is_incremental n.own.kind ≡ false = ap is_incremental kind in cc)
   one (OfUnit place start end) (Incremental time lookback) (Sql q) kind defn computed body fit =
       let u : Bounds = record { start = start; end = end } in
@@ -114,11 +118,83 @@ module _ (n : Node) (e : Entry) (pools : List (List Input)) where
   seed_fills [] is body = refl
   seed_fills (d ∷ ds) is body = λ i. seed_one d is body i ++ seed_fills ds is body i
 
+taken_self : (k : ℕ) (xs : List Due) → take (length (take k xs)) xs ≡ take k xs
+taken_self zero xs = refl
+taken_self (suc k) [] = refl
+taken_self (suc k) (x ∷ xs) = ap (λ l. x ∷ l) (taken_self k xs)
+
 -- some more of the due parts from a place on
-pub taken_more : (dues : List Due) (at : ℕ) (front : List Due) → front ≡ take 256 (drop at dues) → take (at + length front) dues ≡ take at dues ++ front
-taken_more dues zero front is = ap (λ k. take k dues) (omega arith) ∙ front_is 256 dues ∙ sym is
+taken_more : (dues : List Due) (at : ℕ) → take (at + length (take 256 (drop at dues))) dues ≡ take at dues ++ take 256 (drop at dues)
+taken_more dues zero = let e : 0 + length (take 256 dues) ≡ length (take 256 dues) = omega arith in ap (λ k. take k dues) e ∙ taken_self 256 dues
+taken_more [] (suc at) = take_none (suc at + length (take {A = Due} 256 (drop {A = Due} (suc at) [])))
   where
-    front_is : (k : ℕ) (xs : List Due) → take (length front) dues ≡ take 256 dues
-    front_is k xs = ?
-taken_more [] (suc at) front is = ?
-taken_more (d ∷ ds) (suc at) front is = ap (λ l. d ∷ l) (taken_more ds at front is)
+    take_none : (k : ℕ) → take {A = Due} k [] ≡ []
+    take_none zero = refl
+    take_none (suc k) = refl
+taken_more (d ∷ ds) (suc at) =
+    let e : suc at + length (take 256 (drop at ds)) ≡ suc (at + length (take 256 (drop at ds))) = omega arith in
+    ap (λ k. take k (d ∷ ds)) e ∙ ap (λ l. d ∷ l) (taken_more ds at)
+
+module _ (q : Planned) (ts : List Input) where
+  pub fill_more : (dues front : List Due) (at : ℕ) → front ≡ take 256 (drop at dues) → fillings q ts (take (at + length front) dues) ≡ fillings q ts (take at dues) ++ fillings q ts front
+  fill_more dues front at is =
+      ap (λ (l : List Due). fillings q ts (take (at + length l) dues)) is
+      ∙ ap (fillings q ts) (taken_more dues at)
+      ∙ flat_map-append (filled q ts) (take at dues) (take 256 (drop at dues))
+      ∙ ap (λ (l : List Due). fillings q ts (take at dues) ++ fillings q ts l) (sym is)
+
+  pub fill_parts : (dues front : List Due) (at : ℕ) → front ≡ take 256 (drop at dues) → fillings q ts dues ≡ fillings q ts (take at dues) ++ (fillings q ts front ++ fillings q ts (drop 256 (drop at dues)))
+  fill_parts dues front at is =
+      ap (fillings q ts) (sym (take-append-drop at dues))
+      ∙ flat_map-append (filled q ts) (take at dues) (drop at dues)
+      ∙ ap (λ (l : List Change). fillings q ts (take at dues) ++ l)
+      (ap (fillings q ts) (sym (take-append-drop 256 (drop at dues))) ∙ flat_map-append (filled q ts) (take 256 (drop at dues)) (drop 256 (drop at dues)) ∙ ap (λ (l : List Due). fillings q ts l ++ fillings q ts (drop 256 (drop at dues))) (sym is))
+
+  pub fill_rest : (dues front : List Due) (at : ℕ) → front ≡ take 256 (drop at dues) → fillings q ts dues ≡ fillings q ts (take (at + length front) dues) ++ fillings q ts (drop 256 (drop at dues))
+  fill_rest dues front at is =
+      fill_parts dues front at is ∙ sym (append_assoc (fillings q ts (take at dues)) (fillings q ts front) (fillings q ts (drop 256 (drop at dues)))) ∙ ap (λ (l : List Change). l ++ fillings q ts (drop 256 (drop at dues))) (sym (fill_more dues front at is))
+
+all_take : (f : Due → Bool) (n : ℕ) (xs : List Due) → list_all f xs ≡ true → list_all f (take n xs) ≡ true
+all_take f zero xs h = refl
+all_take f (suc n) [] h = refl
+all_take f (suc n) (x ∷ xs) h = let b = is_both (f x) (list_all f xs) h in both_are (f x) (list_all f (take n xs)) b.0 (all_take f n xs b.1)
+
+all_drop : (f : Due → Bool) (n : ℕ) (xs : List Due) → list_all f xs ≡ true → list_all f (drop n xs) ≡ true
+all_drop f zero xs h = h
+all_drop f (suc n) [] h = refl
+all_drop f (suc n) (x ∷ xs) h = all_drop f n xs (is_both (f x) (list_all f xs) h).1
+
+-- a part of what is due fits the model
+pub fit_part : (n : Node) (dues front : List Due) (at : ℕ) → front ≡ take 256 (drop at dues) → is_fit n dues ≡ true → is_fit n front ≡ true
+fit_part n dues front at is h =
+    let b = is_both (is_body_of n.own.kind n.own.defn) (list_all (is_due_of (Some n)) dues) h in
+    both_are (is_body_of n.own.kind n.own.defn) (list_all (is_due_of (Some n)) front) b.0
+    (ap (list_all (is_due_of (Some n))) is ∙ all_take (is_due_of (Some n)) 256 (drop at dues) (all_drop (is_due_of (Some n)) at dues b.1))
+
+pub ok_more : {X : Type 0} (P Q : X → Type 0) (r : Result X Memory) → ((x : X) → P x → Q x) → IfOk r P → IfOk r Q
+ok_more P Q (Ok x) f h = f x h
+ok_more P Q (Err e) f h = tt
+
+pub ok_same : (r : Result (List Change) Memory) (a b : List Change) → a ≡ b → IfOk r (λ x. x ≡ a) → IfOk r (λ x. x ≡ b)
+ok_same r a b is h = ok_more (λ x. x ≡ a) (λ x. x ≡ b) r (λ x k. k ∙ is) h
+
+-- all jobs are over the first pool
+module _ (n : ℕ) (le : 1 ≤ n) where
+  abbrev There : Job → Type 0
+  There j = j.pool < n
+
+  zero_one : (k : Kind) (b : Defn) (d : Due) → All There (option_to_list (due_job 0 k b d))
+  zero_one (Incremental time lookback) (Sql q) (OfUnit place start end) = All-cons There _ [] (omega (arith, le)) (All-nil There)
+  zero_one (Incremental time lookback) (Sql q) (Whole place marks) = All-nil There
+  zero_one Full (Sql q) (Whole place marks) = All-cons There _ [] (omega (arith, le)) (All-nil There)
+  zero_one Full (Sql q) (OfUnit place start end) = All-nil There
+  zero_one View (Sql q) d = All-nil There
+  zero_one SeedKind (Sql q) d = All-nil There
+  zero_one k (Seed columns rows) d = All-nil There
+
+  all_zero : (k : Kind) (b : Defn) (ds : List Due) → All There (jobs_of 0 k b ds)
+  all_zero k b [] = All-nil There
+  all_zero k b (d ∷ ds) = All-append There (option_to_list (due_job 0 k b d)) (jobs_of 0 k b ds) (zero_one k b d) (all_zero k b ds)
+
+  pub pools_there : (k : Kind) (b : Defn) (dues : List Due) (jobs : List Job) → jobs ≡ jobs_of 0 k b dues → All There jobs
+  pools_there k b dues jobs is = subst (All There) (sym is) (all_zero k b dues)

@@ -1,5 +1,5 @@
 // The due parts of a model are filled.
-ghost use Rattle.std.specs.Prelude.{◌≡◌, ◌++◌, ◌+◌, ◌≤◌, OnOk, IfOk, length, true, map, take, drop};
+ghost use Rattle.std.specs.Prelude.{◌≡◌, ◌++◌, ◌+◌, ◌≤◌, [], OnOk, IfOk, length, true, map, take, drop};
 ghost use Rattle.mesh_list.specs.Counts.{risen};
 ghost use Rattle.mesh_changes.specs.Changes.{ascending};
 ghost use Rattle.mesh_base.specs.declared.plans.Entry.{Entry};
@@ -61,10 +61,9 @@ fn push_each(
 }
 
 /// The rows in ascending order.
-fn sorted(rows: &Rows) -> Result<Rows, Memory>
-    ensures { IfOk result (λ made. made ≡ ascending rows.now) }
+fn sorted(rows: Rows) -> Result<Rows, Memory>
+    ensures { IfOk result (λ made. made ≡ ascending rows) }
 {
-    let rows = rows.copy()?;
     sort_rows(rows)
 }
 
@@ -73,7 +72,7 @@ fn seed_rows(alloc: Global, defn: &Defn) -> Result<Rows, Memory>
     ensures { IfOk result (λ rows. rows ≡ ascending (seed_rows defn.now)) }
 {
     match defn {
-        Defn::Seed { rows, .. } => sorted(rows),
+        Defn::Seed { rows, .. } => sorted(rows.copy()?),
         Defn::Sql(_) => Ok(Seq::new(alloc)),
     }
 }
@@ -99,6 +98,49 @@ fn computed<R: Threads + Sync, G: Gate>(
     wave(rt, alloc, pools, &jobs, workers, gate)
 }
 
+/// What fills the due parts of a view, which has no rows.
+fn viewed(alloc: Global, node: &Node, entry: &Entry, dues: &[Due]) -> Result<Changes, Memory>
+    ensures { IfOk result (λ changes. changes ≡ each_with (model_of node.now entry.now) dues.now []) }
+{
+    let mut changes = Seq::new(alloc);
+    push_each(&mut changes, node, entry, dues, &Seq::new(alloc))?;
+    Ok(changes)
+}
+
+/// What fills the due parts of a seed.
+fn seeded(alloc: Global, node: &Node, entry: &Entry, dues: &[Due]) -> Result<Changes, Memory>
+    ensures { IfOk result (λ changes. changes ≡ each_with (model_of node.now entry.now) dues.now (ascending (seed_rows node.now.own.defn))) }
+{
+    let rows = seed_rows(alloc, &node.own.defn)?;
+    let mut changes = Seq::new(alloc);
+    push_each(&mut changes, node, entry, dues, &rows)?;
+    Ok(changes)
+}
+
+/// What fills the due parts of a model whose rows are computed.
+fn waved<R: Threads + Sync, G: Gate>(
+    rt: &R,
+    alloc: Global,
+    node: &Node,
+    entry: &Entry,
+    pools: &Pools,
+    dues: &[Due],
+    workers: u32,
+    gate: &G,
+) -> Result<Changes, Memory>
+    requires workers { (1 ≤ workers) × (workers ≤ 64) }
+    requires few { length dues.now ≤ 256 }
+    requires there { 1 ≤ length pools.now }
+    requires fit { is_fit node.now dues.now ≡ true }
+    requires kind { is_computed node.now.own.kind ≡ true }
+    ensures { IfOk result (λ changes. changes ≡ fillings (model_of node.now entry.now) (first_pool pools.now) dues.now) }
+{
+    let made = computed(rt, alloc, node, pools, dues, workers, gate)?;
+    let mut changes = Seq::new(alloc);
+    push_zipped(&mut changes, node, entry, dues, made.as_slice())?;
+    Ok(changes)
+}
+
 /// What fills some due parts over the tables of the first pool.
 fn changes_of<R: Threads + Sync, G: Gate>(
     rt: &R,
@@ -116,19 +158,12 @@ fn changes_of<R: Threads + Sync, G: Gate>(
     requires fit { is_fit node.now dues.now ≡ true }
     ensures { IfOk result (λ changes. changes ≡ fillings (model_of node.now entry.now) (first_pool pools.now) dues.now) }
 {
-    let mut changes = Seq::new(alloc);
     match &node.own.kind {
-        Kind::View => push_each(&mut changes, node, entry, dues, &Seq::new(alloc))?,
-        Kind::Seed => {
-            let rows = seed_rows(alloc, &node.own.defn)?;
-            push_each(&mut changes, node, entry, dues, &rows)?;
-        }
-        _ => {
-            let made = computed(rt, alloc, node, pools, dues, workers, gate)?;
-            push_zipped(&mut changes, node, entry, dues, made.as_slice())?;
-        }
+        Kind::View => viewed(alloc, node, entry, dues),
+        Kind::Seed => seeded(alloc, node, entry, dues),
+        Kind::Full => waved(rt, alloc, node, entry, pools, dues, workers, gate),
+        Kind::Incremental { .. } => waved(rt, alloc, node, entry, pools, dues, workers, gate),
     }
-    Ok(changes)
 }
 
 /// Fills some due parts, at most as many as a wave may have.

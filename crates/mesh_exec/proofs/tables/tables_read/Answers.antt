@@ -8,14 +8,14 @@ use Rattle.mesh_exec.proofs.tables.tables_read.Goals as goal
 pub returns-in_err-tables : goal.returns-in_err-tables
 returns-in_err-tables g c =
     let all = plain_models c.args.nodes.now c.args.entries.now in
-    let ks : map work_model c.as_slice-2.result.now ≡ parents_at all c.args.node.now.parents = ap (map work_model) c.as_slice-2.ensures ∙ c.in_ok-parents.ensures ∙ ap (parents_at all) c.as_slice.ensures in
+    let ks : map work_model c.as_slice-3.result.now ≡ parents_at all c.args.node.now.parents = ap (map work_model) c.as_slice-3.ensures ∙ c.in_ok-parents.ensures ∙ ap (parents_at all) c.as_slice.ensures in
     part_fails _ _ _ _ _ _ _ _ _ c.in_err-tables.field-0.0 c.from_residual-in_err-tables.result c.in_ok-read.ensures.untouched c.in_err-tables.ensures c.from_residual-in_err-tables.ensures.1
     (λ w told plain. (plain, λ o is. sym (lost_are w _ _ ks) ∙ is))
 
 pub returns : goal.returns
 returns g c =
     let all = plain_models c.args.nodes.now c.args.entries.now in
-    let ks : map work_model c.as_slice-2.result.now ≡ parents_at all c.args.node.now.parents = ap (map work_model) c.as_slice-2.ensures ∙ c.in_ok-parents.ensures ∙ ap (parents_at all) c.as_slice.ensures in
+    let ks : map work_model c.as_slice-3.result.now ≡ parents_at all c.args.node.now.parents = ap (map work_model) c.as_slice-3.ensures ∙ c.in_ok-parents.ensures ∙ ap (parents_at all) c.as_slice.ensures in
     let read = c.in_ok-read.ensures in
     let tables = c.in_ok-tables.ensures in
     answers _ _ _ _ _ _ (and_then _ _ _ read.untouched tables.untouched) (λ w told plain.
