@@ -4,3 +4,7 @@ pub mod Places
 pub mod Parents
 -- Filling: the due parts of a model are filled from the rows of their jobs.
 pub mod Filling
+-- Stepping: lists of changes that are made one after another, world by world.
+pub mod Stepping
+-- Models: a model is made and filled, and then the next one.
+pub mod Models

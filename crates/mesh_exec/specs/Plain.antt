@@ -30,19 +30,17 @@ work_model w = model_of w.node.now w.entry.now
 abbrev pub parents_at : List Planned → List ℕ → List Planned
 parents_at all places = flat_map (λ i. option_to_list (slice_get all i)) places
 
--- what makes the object of the part's model
-abbrev pub part_makes : List Planned → Part → List Change
-part_makes all p = makes p.entry.made all (model_of p.node p.entry) p.node.own.kind (is_any p.dues)
+-- what makes a model's object, where that isn't made; a view's is made again where it is due
+abbrev pub making : List Planned → Part → List Change
+making all p = makes p.entry.made all (model_of p.node p.entry) p.node.own.kind (is_any p.dues)
 
-abbrev pub part_making : List Planned → Part → List Change
-part_making all p = if p.first then part_makes all p else []
+-- all models of a plan
+abbrev pub models : Plan → List Planned
+models p = plain_models p.project.nodes p.entries
 
--- the snapshots of some of all models
 abbrev pub puts_of : ℤ → List Planned → List Planned → List Change
 puts_of t all some_ = map (λ p. PutSnapshot (snapshot_of t all p)) some_
 
 -- the moment, the snapshots where it is no run, and what is forgotten
-abbrev pub opening : Plan → List Change
-opening p =
-    let all = plain_models p.project.nodes p.entries in
-    Moment p.moment ∷ ((if p.run then [] else puts_of p.moment all all) ++ forgetting p.forgets)
+abbrev pub opened : Plan → List Change
+opened p = Moment p.moment ∷ ((if p.run then [] else puts_of p.moment (models p) (models p)) ++ forgetting p.forgets)

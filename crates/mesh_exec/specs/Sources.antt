@@ -16,7 +16,6 @@ use Rattle.mesh_tokens.specs.declared.faults.FaultKind.TheVariants.{SourceMissin
 use Rattle.mesh_exec.specs.declared.sources.Breach.{Breach}
 use Rattle.mesh_exec.specs.declared.sources.Lack.{Lack}
 use Rattle.mesh_exec.specs.Dues.{is_any}
-use Rattle.mesh_exec.specs.Executed.{Task}
 use Rattle.mesh_exec.specs.Works.{Part}
 
 -- a declared source isn't there, or it is there without a declared column or its type; further columns are passed over
@@ -51,14 +50,10 @@ lack_of model (Some b) = Some (record { model = model; kind = kind_of b })
 abbrev pub due_lack : List Input → Own → Bool → Option Lack
 due_lack sources own is_due = if is_due then lack_of own.name (model_breach sources own.sources) else None
 
--- what the first of the due models lacks that lacks something, in the order of the plan
-abbrev pub first_lack : List Input → List Task → Option Lack
-first_lack sources [] = None
-first_lack sources (t ∷ ts) = option_or (due_lack sources t.model.node.own (is_any t.dues)) (first_lack sources ts)
-
 abbrev pub part_lack : List Input → Part → Option Lack
 part_lack sources p = due_lack sources p.node.own (is_any p.dues)
 
-abbrev pub parts_lack : List Input → List Part → Option Lack
-parts_lack sources [] = None
-parts_lack sources (p ∷ ps) = option_or (part_lack sources p) (parts_lack sources ps)
+-- what the first of the due models lacks that lacks something, in the order of the plan
+abbrev pub first_lack : List Input → List Part → Option Lack
+first_lack sources [] = None
+first_lack sources (p ∷ ps) = option_or (part_lack sources p) (first_lack sources ps)

@@ -1,5 +1,5 @@
--- The parts in which a plan is made: what is due of a model, or some of that.
-use Rattle.std.specs.Prelude.{ℕ, suc, Bool, true, ◌&&◌, List, [], ◌∷◌, Some}
+-- The models of a plan with what is due of each.
+use Rattle.std.specs.Prelude.{ℕ, suc, Bool, ◌&&◌, List, [], ◌∷◌, Some}
 use Rattle.std.specs.List.{list_all}
 use Rattle.mesh_values.specs.declared.values.Cell.{Cell}
 use Rattle.mesh_base.specs.declared.definitions.Defn.{Defn}
@@ -7,26 +7,29 @@ use Rattle.mesh_base.specs.declared.definitions.Defn.TheVariants.{Seed, Sql}
 use Rattle.mesh_base.specs.declared.plans.Due.{Due}
 use Rattle.mesh_base.specs.declared.plans.Entry.{Entry}
 use Rattle.mesh_base.specs.declared.snapshots.Node.{Node}
+use Rattle.mesh_rules.specs.declared.plans.Plan.{Plan}
 use Rattle.mesh_rules.specs.Proper.{is_body_of}
 use Rattle.mesh_exec.specs.Executable.{is_due_of}
 use Rattle.mesh_exec.specs.declared.works.Work.{Work}
 use Rattle.mesh_exec.specs.Dues.{leading, behind}
 
--- some of what is due of a model; what makes its object comes before the first part
+-- a model of a plan, its entry, and what is due of it
 pub record Part : Type 0 where
   pub node : Node
   pub entry : Entry
-  pub first : Bool
   pub dues : List Due
 
 abbrev pub part_of : Work → Part
-part_of w = record { node = w.node.now; entry = w.entry.now; first = w.first; dues = w.dues.now }
+part_of w = record { node = w.node.now; entry = w.entry.now; dues = w.dues.now }
 
--- the models of a plan from a place on, each as one part
+-- the models of a plan from a place on, each with what is due of it
 abbrev pub parts_from : ℕ → List Node → List Entry → List Due → List Part
 parts_from place [] es dues = []
 parts_from place (n ∷ ns) [] dues = []
-parts_from place (n ∷ ns) (e ∷ es) dues = record { node = n; entry = e; first = true; dues = leading place dues } ∷ parts_from (suc place) ns es (behind place dues)
+parts_from place (n ∷ ns) (e ∷ es) dues = record { node = n; entry = e; dues = leading place dues } ∷ parts_from (suc place) ns es (behind place dues)
+
+abbrev pub parts : Plan → List Part
+parts p = parts_from 0 p.project.nodes p.entries p.dues
 
 -- a definition has the body of its kind, and what is due fits the model
 abbrev pub is_fit : Node → List Due → Bool

@@ -9,7 +9,7 @@ ghost use Rattle.mesh_house.specs.declared.world.Change.TheVariants.{ForgetUnits
 ghost use Rattle.mesh_changes.specs.Changes.{forgetting, planned_ref, snapshot_of, target_of};
 ghost use Rattle.mesh_due.specs.Versions.{node_ref};
 ghost use Rattle.mesh_exec.specs.Executed.{written};
-ghost use Rattle.mesh_exec.specs.Plain.{model_of, opening, parents_at, part_makes, part_making, plain_models, puts_of};
+ghost use Rattle.mesh_exec.specs.Plain.{making, model_of, opened, parents_at, plain_models, puts_of};
 ghost use Rattle.mesh_exec.specs.Works.{part_of};
 
 use crate::works::{Work, model_at};
@@ -138,14 +138,14 @@ fn view_change(
 }
 
 /// What makes the object of a model, where that isn't made; a view's is made again where it is due.
-fn push_makes(
+pub(crate) fn push_making(
     alloc: Global,
     changes: &mut Changes,
     nodes: &[Node],
     entries: &[Entry],
     work: &Work,
 ) -> Result<(), Memory>
-    ensures { OnOk result (changes.new ≡ changes.old ++ part_makes (plain_models nodes.now entries.now) (part_of work.now)) }
+    ensures { OnOk result (changes.new ≡ changes.old ++ making (plain_models nodes.now entries.now) (part_of work.now)) }
 {
     match &work.node.own.kind {
         Kind::View => {
@@ -165,23 +165,6 @@ fn push_makes(
                 push_made(changes, table_change(work.node, work.entry))
             }
         }
-    }
-}
-
-/// The same before the first part of what is due of the model, and nothing before another.
-pub(crate) fn push_making(
-    alloc: Global,
-    changes: &mut Changes,
-    nodes: &[Node],
-    entries: &[Entry],
-    work: &Work,
-) -> Result<(), Memory>
-    ensures { OnOk result (changes.new ≡ changes.old ++ part_making (plain_models nodes.now entries.now) (part_of work.now)) }
-{
-    if work.first {
-        push_makes(alloc, changes, nodes, entries, work)
-    } else {
-        Ok(())
     }
 }
 
@@ -339,7 +322,7 @@ fn push_forgetting(changes: &mut Changes, forgets: &Forgets) -> Result<(), Memor
 /// The changes before those of the models.
 pub(crate) fn opening(alloc: Global, p: &Plan) -> Result<Changes, Memory>
     requires { IsTrue (is_moment p.now.moment) }
-    ensures { IfOk result (λ changes. changes ≡ opening p.now) }
+    ensures { IfOk result (λ changes. changes ≡ opened p.now) }
 {
     let nodes = p.project.as_slice();
     let mut changes = Seq::new(alloc);

@@ -5,6 +5,7 @@ mod changes;
 mod faults;
 mod fills;
 mod jobs;
+mod making;
 mod sources;
 mod tables;
 mod works;

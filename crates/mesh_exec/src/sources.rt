@@ -8,7 +8,7 @@ ghost use Rattle.mesh_house.specs.Sources.{are_plain};
 ghost use Rattle.mesh_layer.specs.Shows.{Finds};
 ghost use Rattle.mesh_scratch.specs.Sources.{has_shape, is_of_type, source_named};
 ghost use Rattle.mesh_exec.specs.Works.{part_of};
-ghost use Rattle.mesh_exec.specs.Sources.{breach, breach_by, first_by_name, kind_of, lack_of, model_breach, part_lack, parts_lack};
+ghost use Rattle.mesh_exec.specs.Sources.{breach, breach_by, first_by_name, kind_of, lack_of, model_breach, first_lack, part_lack};
 
 use crate::works::Work;
 use mesh_base::Decl;
@@ -191,7 +191,7 @@ pub(crate) fn first_lack<W: Warehouse>(
     works: &[Work],
 ) -> Result<Option<Lack>, ShowFault>
     ensures { Finds (λ w. IsTrue (are_plain w.sources))
-        (λ w lack. lack ≡ parts_lack w.sources (map part_of works.now))
+        (λ w lack. lack ≡ first_lack w.sources (map part_of works.now))
         (λ w. None) (W.told house.old) (W.told house.new) result }
 {
     for work in works {

@@ -11,12 +11,11 @@ use mesh_base::{Due, Entry, Node};
 use mesh_list::{Memory, Seq};
 use std::alloc::Global;
 
-/// What is due of a model, or a part of that. What makes its object comes before the first part.
+/// A model of a plan, its entry, and what is due of it.
 #[derive(Clone, Copy)]
 pub(crate) struct Work<'a> {
     pub(crate) node: &'a Node,
     pub(crate) entry: &'a Entry,
-    pub(crate) first: bool,
     pub(crate) dues: &'a [Due],
 }
 
@@ -65,7 +64,6 @@ pub(crate) fn works_of<'a>(
         works.push(Work {
             node,
             entry,
-            first: true,
             dues,
         })?;
     }
@@ -115,7 +113,6 @@ fn push_model<'a>(
         Some((node, entry)) => models.push(Work {
             node,
             entry,
-            first: false,
             dues: &[],
         }),
     }

@@ -1,5 +1,6 @@
 use Rattle.std.proofs.Common.{◌≡◌, List, Some, ◌++◌, map, sym, ap, ◌∙◌}
 use Rattle.mesh_base.specs.declared.jobs.Input.{Input}
+use Rattle.mesh_scratch.specs.Sources.{declared}
 use Rattle.mesh_layer.proofs.Finding.{and_then, answers, part_fails, told_later}
 use Rattle.mesh_exec.proofs.Parents.{lost_are, read_all}
 use Rattle.mesh_exec.specs.Plain.{model_of, parents_at, plain_models, work_model}
@@ -22,4 +23,5 @@ returns g c =
     let front = read.ok w told plain in
     let back = tables.ok w (told_later _ _ w read.untouched told) plain in
     let joined : c.append.new.self ≡ c.in_ok-read.read ++ c.in_ok-tables.tables = c.in_ok-append.ensures in
-    read_all w all (model_of c.args.node.now c.args.entry.now) _ c.in_ok-tables.tables ks back ∙ ?)
+    read_all w all (model_of c.args.node.now c.args.entry.now) _ c.in_ok-tables.tables ks back
+    ∙ ap Some (sym (joined ∙ ap (λ (l : List Input). l ++ c.in_ok-tables.tables) (front ∙ ap (map (declared w.sources)) c.as_slice-2.ensures))))
