@@ -8,3 +8,7 @@ pub mod Filling
 pub mod Stepping
 -- Models: a model is made and filled, and then the next one.
 pub mod Models
+-- Fitting: what is due in a plan fits its models.
+pub mod Fitting
+-- Whole: a plan is looked at and made.
+pub mod Whole

@@ -87,7 +87,7 @@ pub record Looks {T : Type 0} (parts : List Part) (old new : Told) (result : Res
   pub untouched : IsUntouched old new
   pub ok : OnOk result ((w : World) → Tells old w → first_lack w.sources parts ≡ None)
   pub lacking : (name : Name) (kind : FaultKind) → result ≡ Err (fault.Model name kind) → (w : World) → Tells old w → first_lack w.sources parts ≡ Some (record { model = name; kind = kind })
-  pub dangling : (object : Name) → result ≡ Err (fault.Dangling object) → ⊥
+  pub dangling : (object : Name) → result ≡ Err (fault.Dangling object) → (w : World) → Tells old w → ⊥
   pub failed : IsErrOf result fault.Warehouse → Rose old.faults new.faults
 
 -- a call that is to make all changes of a plan
