@@ -1,5 +1,5 @@
 -- A model is made and filled, and then the next one.
-use Rattle.std.proofs.Common.{◌≡◌, ◌≤◌, ◌<◌, ◌+◌, ℕ, zero, suc, List, [], ◌∷◌, ◌++◌, length, take, drop, map, get_or, Some, None, Ok, Err, Result, IsTrue, refl, sym, ap, ◌∙◌, subst, arith, append_assoc, add-one, length-append}
+use Rattle.std.proofs.Common.{◌≡◌, ◌≤◌, ◌<◌, ◌+◌, ℕ, zero, suc, true, List, [], ◌∷◌, ◌++◌, length, take, drop, map, get_or, Some, None, Ok, Err, Result, IsTrue, refl, sym, ap, ◌∙◌, subst, arith, append_assoc, add-one, length-append}
 use Rattle.std.specs.Result.{IsErrAnd}
 use Rattle.std.specs.Option.{option_map}
 use Rattle.std.specs.List.{Contains, flat_map}
@@ -34,8 +34,9 @@ use Rattle.mesh_exec.specs.Lost.{lost_part}
 use Rattle.mesh_exec.specs.Plain.{making, model_of}
 use Rattle.mesh_exec.specs.Steps.{IsLost, IsPartMade, MakesPart, MakesParts, Tries, or_nothing}
 use Rattle.mesh_exec.specs.Tables.{part_tables, tables_if}
-use Rattle.mesh_exec.specs.Works.{Part, part_of}
+use Rattle.mesh_exec.specs.Works.{Part, are_fit, is_fit, part_of}
 use Rattle.mesh_exec.specs.declared.works.Work.{Work}
+use Rattle.mesh_exec.proofs.Filling.{is_both}
 use Rattle.mesh_exec.proofs.Stepping.{each_many, each_sources, making_sources, none_made, prefix_more, prefix_then, run_then, whole_prefix, written_many, written_sources}
 
 -- the tables that a part finds are those that its fills are over
@@ -428,3 +429,8 @@ pub loop_ends : (all : List Planned) (works : List Work) (i n : ℕ) (a b : Told
 loop_ends all works i n a b le so_far =
     all_made all (map part_of works) (map part_of (take i works)) n a b (ap (map part_of) (take_all i works le))
     (subst (λ (l : List Work). SoFar all (map part_of works) (map part_of (take i works)) (map part_of l) n a b) (drop_all i works le) so_far)
+
+pub fit_at : (works : List Work) (i : ℕ) (x : Work) → are_fit (map part_of works) ≡ true → i < length works → x ≡ get_or works i x → is_fit x.node.now x.dues.now ≡ true
+fit_at [] i x h lt here = absurd (omega arith)
+fit_at (k ∷ ks) zero x h lt here = ap (λ (y : Work). is_fit y.node.now y.dues.now) here ∙ (is_both (is_fit k.node.now k.dues.now) (are_fit (map part_of ks)) h).0
+fit_at (k ∷ ks) (suc i) x h lt here = fit_at ks i x (is_both (is_fit k.node.now k.dues.now) (are_fit (map part_of ks)) h).1 (omega arith) here

@@ -1,5 +1,5 @@
 -- A plan is looked at and made.
-use Rattle.std.proofs.Common.{◌≡◌, ◌+◌, ℕ, Bool, true, false, cond, List, [], ◌∷◌, ◌++◌, length, map, Some, None, Ok, Err, Result, IsTrue, refl, sym, ap, ◌∙◌, subst, arith, length-append}
+use Rattle.std.proofs.Common.{◌≡◌, ◌+◌, ℕ, ℤ, Bool, true, false, cond, List, [], ◌∷◌, ◌++◌, length, map, Some, None, Ok, Err, Result, IsTrue, refl, sym, ap, ◌∙◌, subst, arith, length-append}
 use Rattle.std.specs.Result.{IsErrAnd}
 use Rattle.std.specs.declared.option.Option.{Option}
 use Rattle.std.proofs.lemmas.List.{append-nil}
@@ -95,6 +95,10 @@ module _ (p : Plan) where
     number = tt;
     calls = tt;
   }
+
+  -- the models and their parts are the plan's
+  pub at_plan : (b c : Told) (r : Result ℕ ExecFault) (all : List Planned) (ps : List Part) → all ≡ models p → ps ≡ parts p → MakesParts all ps b c r → MakesParts (models p) (parts p) b c r
+  at_plan b c r all ps same_all same_parts h = subst (λ (l : List Part). MakesParts (models p) l b c r) same_parts (subst (λ (q : List Planned). MakesParts q ps b c r) same_all h)
 
   pub parts_stop : (a b c : Told) (x : ℕ) (ps : List Part) (e : ExecFault) (r : Result ℕ ExecFault) → ps ≡ parts p → Makes (λ w. opened p) a b (Ok x) → MakesParts (models p) ps b c (Err e) → IsErrAnd r (λ f. f ≡ e) → MakesPlan p a c r
   parts_stop a b c x ps e (Ok y) same made rest is = absurd is
@@ -192,24 +196,24 @@ module _ (ps : List Part) where
   look_stops a b e (Ok x) found is = absurd is
   look_stops a b e (Err f) found is = look_err a b e f found is
 
-  pub look_clear : (a b : Told) (x : Unit {0}) → Found a b (Ok None) → Looks ps a b (Ok x)
-  look_clear a b x found = record {
+  pub look_clear : (a b : Told) (x : Unit {0}) (o : Option Lack) → o ≡ None → Found a b (Ok o) → Looks ps a b (Ok x)
+  look_clear a b x o is found = record {
     untouched = found.untouched;
-    ok = λ w t. sym (found.ok w t.world t.plain);
+    ok = λ w t. sym (found.ok w t.world t.plain) ∙ is;
     lacking = λ name kind k. absurd (cc);
     dangling = λ o k w t. absurd (cc);
     failed = λ k. absurd (cc);
   }
 
-  pub look_lacks : (a b : Told) (l : Lack) → Found a b (Ok (Some l)) → Looks ps a b (unit_err (fault.Model l.model l.kind))
-  look_lacks a b l found = record {
+  pub look_lacks : (a b : Told) (l : Lack) (o : Option Lack) → o ≡ Some l → Found a b (Ok o) → Looks ps a b (unit_err (fault.Model l.model l.kind))
+  look_lacks a b l o is found = record {
     untouched = found.untouched;
     ok = tt;
     lacking = λ name kind k w t.
         let n : l.model ≡ name = cc in
         let m : l.kind ≡ kind = cc in
-        sym (found.ok w t.world t.plain) ∙ (λ i. Some (record { model = n i; kind = m i }));
-    dangling = λ o k w t. absurd (cc);
+        sym (found.ok w t.world t.plain) ∙ is ∙ (λ i. Some (record { model = n i; kind = m i }));
+    dangling = λ q k w t. absurd (cc);
     failed = λ k. absurd (cc);
   }
 
@@ -235,7 +239,7 @@ module _ (p : Plan) where
     calls = tt;
   }
 
-  pub looks_stop : (a b : Told) (ps : List Part) (e : ExecFault) (r : Result Done ExecFault) → ps ≡ parts p → Looks ps a b (Err e) → IsErrAnd r (λ f. f ≡ e) → Executes p a b r
+  pub looks_stop : (a b : Told) (ps : List Part) (e : ExecFault) (r : Result Done ExecFault) → ps ≡ parts p → Looks {T = Unit {0}} ps a b (Err e) → IsErrAnd r (λ f. f ≡ e) → Executes p a b r
   looks_stop a b ps e (Ok x) same looked is = absurd is
   looks_stop a b ps e (Err f) same looked is = record {
     faults = looked.untouched.faults;

@@ -27,7 +27,8 @@ use std::thread::Threads;
 fn look<W: Warehouse>(alloc: Global, house: &mut W, works: &[Work]) -> Result<(), ExecFault>
     ensures { Looks (map part_of works.now) (W.told house.old) (W.told house.new) result }
 {
-    match first_lack(alloc, house, works)? {
+    let found = first_lack(alloc, house, works)?;
+    match found {
         None => Ok(()),
         Some(lack) => Err(ExecFault::Model {
             name: lack.model,

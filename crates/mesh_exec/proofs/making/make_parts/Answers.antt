@@ -1,5 +1,5 @@
 use Rattle.std.proofs.Common.{map, arith}
-use Rattle.mesh_exec.proofs.Models.{begun, loop_counts, loop_ends, loop_more, loop_stops}
+use Rattle.mesh_exec.proofs.Models.{begun, fit_at, loop_counts, loop_ends, loop_more, loop_stops}
 use Rattle.mesh_exec.specs.Plain.{plain_models}
 use Rattle.mesh_exec.specs.Works.{part_of}
 use Rattle.mesh_exec.proofs.making.make_parts.Goals as goal
@@ -21,3 +21,6 @@ loop-work-preserved g c =
 
 pub returns : goal.returns
 returns g c = loop_ends (plain_models c.args.nodes.now c.args.entries.now) c.args.works.now c.loop-work.work-index c.loop-work.made _ _ (omega arith) c.loop-work.invariant
+
+pub make_part-requires-clause-fit : goal.make_part-requires-clause-fit
+make_part-requires-clause-fit g c κs within = fit_at c.args.works.now c.loop-work.work-index c.work-item.result c.requires.fit c.loop-work-test.true c.work-item.is
