@@ -12,7 +12,7 @@ use Rattle.mesh_tokens.specs.declared.faults.FaultKind.{FaultKind}
 use Rattle.mesh_house.specs.declared.house.WhFail.{WhFail}
 use Rattle.mesh_house.specs.declared.house.WhFail.TheVariants as house
 use Rattle.mesh_house.specs.declared.world.Change.{Change}
-use Rattle.mesh_house.specs.declared.world.Change.TheVariants.{Moment}
+use Rattle.mesh_house.specs.declared.world.Change.TheVariants.{Moment, PutSnapshot}
 use Rattle.mesh_house.specs.declared.world.World.{World}
 use Rattle.mesh_house.specs.House.{Told}
 use Rattle.mesh_house.specs.Runs.{IsRun, IsPrefixRun, Makes}
@@ -20,7 +20,7 @@ use Rattle.mesh_house.specs.Sources.{are_plain}
 use Rattle.mesh_house.specs.Step.{run, step}
 use Rattle.mesh_house.proofs.Runs.{run-append}
 use Rattle.mesh_due.specs.Plans.{Planned}
-use Rattle.mesh_changes.specs.Changes.{forgetting}
+use Rattle.mesh_changes.specs.Changes.{forgetting, snapshot_of}
 use Rattle.mesh_layer.specs.Shows.{Finds, IsUntouched, Tells}
 use Rattle.mesh_layer.specs.declared.faults.ShowFault.{ShowFault}
 use Rattle.mesh_layer.specs.declared.faults.ShowFault.TheVariants as show
@@ -43,9 +43,9 @@ abbrev nat_err : ExecFault → Result ℕ ExecFault
 nat_err f = Err f
 
 -- what comes before the models keeps the sources
-puts_sources : (w : World) (t : ℤ) (all ps : List Planned) → (run w (puts_of t all ps)).sources ≡ w.sources
-puts_sources w t all [] = refl
-puts_sources w t all (p ∷ ps) = puts_sources _ t all ps
+puts_sources : (t : ℤ) (all ps : List Planned) (w : World) → (run w (puts_of t all ps)).sources ≡ w.sources
+puts_sources t all [] w = refl
+puts_sources t all (p ∷ ps) w = puts_sources t all ps (step w (PutSnapshot (snapshot_of t all p)))
 
 forget_sources : (w : World) (list : List Forget) → (run w (forgetting list)).sources ≡ w.sources
 forget_sources w [] = refl
@@ -53,7 +53,7 @@ forget_sources w (q ∷ qs) = refl
 
 either_puts : (b : Bool) (w : World) (t : ℤ) (all : List Planned) → (run w (cond b [] (puts_of t all all))).sources ≡ w.sources
 either_puts true w t all = refl
-either_puts false w t all = puts_sources w t all all
+either_puts false w t all = puts_sources t all all w
 
 module _ (p : Plan) where
   opened_sources : (w : World) → (run w (opened p)).sources ≡ w.sources
