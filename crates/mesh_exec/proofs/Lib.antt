@@ -12,3 +12,5 @@ pub mod Models
 pub mod Fitting
 -- Whole: a plan is looked at and made.
 pub mod Whole
+-- Books: a plan of a book makes the changes that the book's plan asks for.
+pub mod Books

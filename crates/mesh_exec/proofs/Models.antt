@@ -124,10 +124,12 @@ module _ (all : List Planned) (p : Part) where
       at (show.Dangling object) is name kind k = cc
       at show.Warehouse is name kind k = cc
       at show.Memory is name kind k = cc
+
       dangles : (e : ShowFault) → f ≡ of_show e → (o : Name) → err f ≡ err (fault.Dangling o) → show_err e ≡ show_err (show.Dangling o)
       dangles (show.Dangling object) is o k = cc
       dangles show.Warehouse is o k = absurd (cc)
       dangles show.Memory is o k = absurd (cc)
+
       fails : (e : ShowFault) → f ≡ of_show e → err f ≡ err fault.Warehouse → show_err e ≡ show_err show.Warehouse
       fails (show.Dangling object) is k = absurd (cc)
       fails show.Warehouse is k = refl

@@ -77,13 +77,33 @@ prefix_more g rest w k c q = record {
 -- all of a list is a prefix of a longer one
 pub whole_prefix : (f rest : List Change) (w : World) (k : ℕ) (c : Told) → IsRun f w k c → IsPrefixRun (f ++ rest) w k c
 whole_prefix f rest w k c p = record {
-  made = f; rest = rest; parts = refl; world = p.world; sure = f; tail = []; cut = sym (append-nil f); more = 0; one = omega arith; next = omega arith; calls = omega (arith, p.calls);
+  made = f;
+  rest = rest;
+  parts = refl;
+  world = p.world;
+  sure = f;
+  tail = [];
+  cut = sym (append-nil f);
+  more = 0;
+  one = omega arith;
+  next = omega arith;
+  calls = omega (arith, p.calls);
 }
 
 -- nothing of a list was made
 pub none_made : (list : List Change) (w : World) (k : ℕ) (c : Told) → c.world ≡ Some w → c.calls ≡ k → IsPrefixRun list w k c
 none_made list w k c world calls = record {
-  made = []; rest = list; parts = refl; world = world; sure = []; tail = []; cut = refl; more = 0; one = omega arith; next = omega arith; calls = omega (arith, calls);
+  made = [];
+  rest = list;
+  parts = refl;
+  world = world;
+  sure = [];
+  tail = [];
+  cut = refl;
+  more = 0;
+  one = omega arith;
+  next = omega arith;
+  calls = omega (arith, calls);
 }
 
 -- sources stay where an object is made or filled

@@ -124,8 +124,7 @@ module _ (p : Plan) where
   whole a b c x y made h w t =
       let r = made.ok.told w t.world in
       let v = run w (opened p) in
-      let s = h.ok v (later a b w t r) in
-      (
+      let s = h.ok v (later a b w t r) in (
         run_then (opened p) (executes (models p) (parts p) v) w a.calls b c r s.0,
         omega (arith, s.1, length-append (opened p) (executes (models p) (parts p) v), length-append (opened p) (parts_outline (models p) (parts p))),
       )

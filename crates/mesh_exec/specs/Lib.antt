@@ -22,3 +22,5 @@ pub mod Answers
 pub mod Fills
 -- Steps: what the models of a plan make of a house, one after another.
 pub mod Steps
+-- Planned: a plan beside the plan of a project's nodes in a book.
+pub mod Planned

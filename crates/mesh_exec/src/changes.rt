@@ -62,12 +62,7 @@ fn push_target_at(
 }
 
 /// The model at a place by its fingerprint, where there is one.
-fn push_ref_at(
-    refs: &mut Refs,
-    nodes: &[Node],
-    entries: &[Entry],
-    place: u32,
-) -> Result<(), Memory>
+fn push_ref_at(refs: &mut Refs, nodes: &[Node], entries: &[Entry], place: u32) -> Result<(), Memory>
     ensures { OnOk result (refs.new ≡ refs.old ++ map planned_ref (option_to_list (slice_get (plain_models nodes.now entries.now) place))) }
 {
     match model_at(nodes, entries, place) {
@@ -93,12 +88,7 @@ fn targets_at(
 }
 
 /// The parents at these places by their fingerprints.
-fn refs_at(
-    alloc: Global,
-    nodes: &[Node],
-    entries: &[Entry],
-    places: &[u32],
-) -> Result<Refs, Memory>
+fn refs_at(alloc: Global, nodes: &[Node], entries: &[Entry], places: &[u32]) -> Result<Refs, Memory>
     ensures { IfOk result (λ made. made ≡ map planned_ref (parents_at (plain_models nodes.now entries.now) places.now)) }
 {
     let mut made = Seq::new(alloc);

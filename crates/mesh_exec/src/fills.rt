@@ -236,9 +236,7 @@ pub(crate) fn fill_all<R: Threads + Sync, W: Warehouse, G: Gate>(
     let mut at: usize = 0;
     while at < dues.len() {
         let front = part_from(dues, at);
-        let more = fill_some(
-            rt, alloc, house, node, entry, pools, front, workers, gate,
-        )?;
+        let more = fill_some(rt, alloc, house, node, entry, pools, front, workers, gate)?;
         made = added(made, more)?;
         at += front.len();
     }

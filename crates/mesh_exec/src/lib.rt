@@ -9,6 +9,7 @@ mod executing;
 mod faults;
 mod fills;
 mod jobs;
+mod laws;
 mod making;
 mod sources;
 mod tables;
@@ -16,3 +17,4 @@ mod works;
 
 pub use executing::execute;
 pub use faults::ExecFault;
+pub use laws::a_plan_of_a_book_makes_what_is_asked;

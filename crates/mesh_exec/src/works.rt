@@ -61,11 +61,7 @@ pub(crate) fn works_of<'a>(
         };
         let (dues, behind) = rest.split_at(count_leading(rest, i));
         rest = behind;
-        works.push(Work {
-            node,
-            entry,
-            dues,
-        })?;
+        works.push(Work { node, entry, dues })?;
     }
     Ok(works)
 }

@@ -28,5 +28,5 @@ loop-parent-preserved g c =
           let here = so_far.told w told plain in
           let found = there.ok w (told_later _ _ w so_far.untouched told) plain in
           each_step (work_table w) c.args.parents.now c.loop-parent.parent-index c.parent-item.result c.loop-parent.tables c.in_ok-table.table (omega arith) c.parent-item.is here found
-              ∙ ap Some (sym c.in_ok-push.ensures.ok);
+          ∙ ap Some (sym c.in_ok-push.ensures.ok);
     }
