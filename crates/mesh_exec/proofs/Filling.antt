@@ -1,7 +1,7 @@
 -- The due parts of a model are filled from the rows of their jobs.
 use Rattle.std.proofs.Common.{◌≡◌, ◌≤◌, ◌<◌, ◌+◌, ℕ, zero, suc, Bool, true, false, List, [], ◌∷◌, ◌++◌, length, take, drop, map, Some, None, refl, sym, ap, ◌∙◌, subst, arith, length-append, append_assoc, Ok, Err, Result}
 use Rattle.std.specs.Prelude.{◌&&◌, not}
-use Rattle.std.specs.List.{All, filter, flat_map, list_all, slice_index_or}
+use Rattle.std.specs.List.{All, filter, list_all}
 use Rattle.std.specs.Option.{option_to_list}
 use Rattle.std.specs.Result.{IfOk}
 use Rattle.mesh_list.specs.declared.memory.Memory.{Memory}

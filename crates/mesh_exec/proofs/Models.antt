@@ -5,7 +5,7 @@ use Rattle.std.specs.Option.{option_map}
 use Rattle.std.specs.List.{Contains, flat_map}
 use Rattle.std.specs.declared.option.Option.{Option}
 use Rattle.std.proofs.lemmas.List.{append-nil, drop_all, take_all}
-use Rattle.mesh_list.specs.Counts.{risen, Rose}
+use Rattle.mesh_list.specs.Counts.{risen}
 use Rattle.mesh_values.specs.declared.values.Name.{Name}
 use Rattle.mesh_tokens.specs.declared.faults.FaultKind.{FaultKind}
 use Rattle.mesh_base.specs.declared.jobs.Input.{Input}
@@ -15,7 +15,7 @@ use Rattle.mesh_house.specs.declared.house.WhFail.TheVariants as house
 use Rattle.mesh_house.specs.declared.world.Change.{Change}
 use Rattle.mesh_house.specs.declared.world.World.{World}
 use Rattle.mesh_house.specs.House.{Told}
-use Rattle.mesh_house.specs.Runs.{IsRun, IsPrefixRun, Makes, Ran}
+use Rattle.mesh_house.specs.Runs.{IsRun, IsPrefixRun, Makes}
 use Rattle.mesh_house.specs.Sources.{are_plain}
 use Rattle.mesh_house.specs.Step.{run}
 use Rattle.mesh_house.proofs.Runs.{run-append}
@@ -32,7 +32,7 @@ use Rattle.mesh_exec.specs.Executed.{executes, fills, filled, part_fills, part_f
 use Rattle.mesh_exec.specs.Fills.{fillings}
 use Rattle.mesh_exec.specs.Lost.{lost_part}
 use Rattle.mesh_exec.specs.Plain.{making, model_of}
-use Rattle.mesh_exec.specs.Steps.{IsLost, IsPartMade, MakesPart, MakesParts, Tries, or_nothing}
+use Rattle.mesh_exec.specs.Steps.{IsPartMade, MakesPart, MakesParts, Tries, or_nothing}
 use Rattle.mesh_exec.specs.Tables.{part_tables, tables_if}
 use Rattle.mesh_exec.specs.Works.{Part, are_fit, is_fit, part_of}
 use Rattle.mesh_exec.specs.declared.works.Work.{Work}

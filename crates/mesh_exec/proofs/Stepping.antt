@@ -1,5 +1,5 @@
 -- Lists of changes that are made one after another, world by world.
-use Rattle.std.proofs.Common.{◌≡◌, ℕ, ℤ, ◌+◌, ◌≤◌, Bool, true, false, cond, List, [], ◌∷◌, ◌++◌, length, map, Some, None, Ok, Err, Result, refl, sym, ap, ◌∙◌, subst, arith, append_assoc, length-append}
+use Rattle.std.proofs.Common.{◌≡◌, ℕ, ℤ, Bool, true, false, cond, List, [], ◌∷◌, ◌++◌, length, map, Some, None, refl, sym, ap, ◌∙◌, arith, append_assoc, length-append}
 use Rattle.std.specs.Prelude.{◌&&◌, not}
 use Rattle.std.specs.List.{flat_map}
 use Rattle.std.specs.declared.option.Option.{Option}
@@ -9,7 +9,6 @@ use Rattle.mesh_values.specs.declared.kinds.Kind.TheVariants.{Full, View, Seed, 
 use Rattle.mesh_values.specs.declared.values.Cell.{Cell}
 use Rattle.mesh_values.specs.declared.values.Column.{Column}
 use Rattle.mesh_values.specs.declared.values.Name.{Name}
-use Rattle.mesh_base.specs.declared.jobs.Input.{Input}
 use Rattle.mesh_base.specs.declared.plans.Due.{Due}
 use Rattle.mesh_base.specs.declared.plans.Due.TheVariants.{Whole, Unit as OfUnit}
 use Rattle.mesh_base.specs.Outputs.{columns_of}
@@ -26,7 +25,7 @@ use Rattle.mesh_house.specs.declared.world.World.{World}
 use Rattle.mesh_house.specs.House.{Told}
 use Rattle.mesh_house.specs.Objects.{is_physical}
 use Rattle.mesh_house.specs.Runs.{IsRun, IsPrefixRun}
-use Rattle.mesh_house.specs.Step.{filled as filled_body, filled_at, make, run, step, with_book, with_object, written_at}
+use Rattle.mesh_house.specs.Step.{filled as filled_body, filled_at, run, step, with_book, with_object, written_at}
 use Rattle.mesh_house.specs.World.{object_at}
 use Rattle.mesh_house.proofs.Runs.{run-append}
 use Rattle.mesh_due.specs.Plans.{Planned}

@@ -1,5 +1,5 @@
 -- A plan is looked at and made.
-use Rattle.std.proofs.Common.{◌≡◌, ◌+◌, ℕ, ℤ, Bool, true, false, cond, List, [], ◌∷◌, ◌++◌, length, map, Some, None, Ok, Err, Result, IsTrue, refl, sym, ap, ◌∙◌, subst, arith, length-append}
+use Rattle.std.proofs.Common.{◌≡◌, ◌+◌, ℕ, ℤ, Bool, true, false, cond, List, [], ◌∷◌, ◌++◌, length, Some, None, Ok, Err, Result, IsTrue, refl, sym, ap, ◌∙◌, subst, arith, length-append}
 use Rattle.std.specs.Result.{IsErrAnd}
 use Rattle.std.specs.declared.option.Option.{Option}
 use Rattle.std.proofs.lemmas.List.{append-nil}
@@ -33,7 +33,6 @@ use Rattle.mesh_exec.specs.Plain.{models, opened, puts_of}
 use Rattle.mesh_exec.specs.Sources.{first_lack}
 use Rattle.mesh_exec.specs.Steps.{Looks, MakesParts, MakesPlan}
 use Rattle.mesh_exec.specs.Works.{Part, parts}
-use Rattle.mesh_exec.proofs.Models.{tells_later}
 use Rattle.mesh_exec.proofs.Stepping.{none_made, prefix_more, prefix_then, run_then, whole_prefix}
 
 abbrev unit_err : ExecFault → Result (Unit {0}) ExecFault

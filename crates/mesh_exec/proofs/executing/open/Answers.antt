@@ -1,4 +1,4 @@
-use Rattle.std.proofs.Common.{◌≡◌, List, [], subst, refl, ◌∙◌}
+use Rattle.std.proofs.Common.{List, [], subst, refl, ◌∙◌}
 use Rattle.mesh_house.specs.declared.world.Change.{Change}
 use Rattle.mesh_house.specs.Runs.{Makes}
 use Rattle.mesh_house.proofs.Runs.{memory_then, ran_nothing}

@@ -1,4 +1,4 @@
-use Rattle.std.proofs.Common.{◌≡◌, List, length, map, ap, ◌∙◌, sym, arith}
+use Rattle.std.proofs.Common.{◌≡◌, List, length, map, ap, ◌∙◌, arith}
 use Rattle.mesh_values.specs.declared.values.Cell.{Cell}
 use Rattle.mesh_base.specs.declared.plans.Entry.{Entry}
 use Rattle.mesh_changes.specs.Changes.{ascending}

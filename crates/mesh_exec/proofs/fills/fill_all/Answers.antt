@@ -1,4 +1,4 @@
-use Rattle.std.proofs.Common.{◌≡◌, ◌+◌, length, take, drop, ap, arith, length-take, length-append, length-drop}
+use Rattle.std.proofs.Common.{◌+◌, length, take, drop, ap, arith, length-take, length-append, length-drop}
 use Rattle.mesh_house.proofs.Runs.{makes_err, memory_then, ran_then}
 use Rattle.mesh_exec.proofs.Filling.{fill_more, fill_parts, fill_rest, fit_part}
 use Rattle.mesh_exec.specs.Fills.{fillings, first_pool}

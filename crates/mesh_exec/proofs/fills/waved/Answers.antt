@@ -1,4 +1,4 @@
-use Rattle.std.proofs.Common.{◌≡◌, ◌++◌, List, ap, ◌∙◌}
+use Rattle.std.proofs.Common.{◌++◌, List, ap, ◌∙◌}
 use Rattle.mesh_house.specs.declared.world.Change.{Change}
 use Rattle.mesh_exec.proofs.Filling.{zip_fills}
 use Rattle.mesh_exec.specs.Fills.{zipped}

@@ -1,4 +1,4 @@
-use Rattle.std.proofs.Common.{◌≡◌, length, ap, arith}
+use Rattle.std.proofs.Common.{length, ap, arith}
 use Rattle.mesh_exec.proofs.Models.{filling_ok, filling_stops, memory_stops, tables_stop}
 use Rattle.mesh_exec.specs.Fills.{first_pool}
 use Rattle.mesh_exec.specs.Plain.{plain_models}
