@@ -1,0 +1,16 @@
+-- Places: the models of a plan by their places.
+pub mod Places
+-- Parents: the tables that models read, parent by parent.
+pub mod Parents
+-- Filling: the due parts of a model are filled from the rows of their jobs.
+pub mod Filling
+-- Stepping: lists of changes that are made one after another, world by world.
+pub mod Stepping
+-- Models: a model is made and filled, and then the next one.
+pub mod Models
+-- Fitting: what is due in a plan fits its models.
+pub mod Fitting
+-- Whole: a plan is looked at and made.
+pub mod Whole
+-- Books: a plan of a book makes the changes that the book's plan asks for.
+pub mod Books

@@ -1,0 +1,45 @@
+-- What a call that makes a plan leaves of a house, and why it stops.
+use Rattle.std.specs.Prelude.{◌≡◌, ◌≤◌, length, Some, None, Err, Result, OnOk, OnErr, IfOk, IsErrOf}
+use Rattle.std.specs.Option.{ForSome}
+use Rattle.mesh_list.specs.Counts.{risen, Rose}
+use Rattle.mesh_values.specs.declared.values.Name.{Name}
+use Rattle.mesh_base.specs.declared.jobs.Done.{Done}
+use Rattle.mesh_rules.specs.declared.plans.Plan.{Plan}
+use Rattle.mesh_tokens.specs.declared.faults.FaultKind.{FaultKind}
+use Rattle.mesh_house.specs.declared.house.WhFail.{WhFail}
+use Rattle.mesh_house.specs.declared.house.WhFail.TheVariants as house
+use Rattle.mesh_house.specs.declared.world.World.{World}
+use Rattle.mesh_house.specs.House.{Told}
+use Rattle.mesh_house.specs.Runs.{IsRun, IsPrefixRun}
+use Rattle.mesh_layer.specs.Shows.{Tells}
+use Rattle.mesh_layer.specs.declared.faults.ShowFault.{ShowFault}
+use Rattle.mesh_layer.specs.declared.faults.ShowFault.TheVariants as show
+use Rattle.mesh_exec.specs.declared.faults.ExecFault.{ExecFault}
+use Rattle.mesh_exec.specs.declared.faults.ExecFault.TheVariants as fault
+use Rattle.mesh_exec.specs.Executed.{executed, outline}
+use Rattle.mesh_exec.specs.Plain.{models}
+use Rattle.mesh_exec.specs.Sources.{first_lack}
+use Rattle.mesh_exec.specs.Steps.{IsLost}
+use Rattle.mesh_exec.specs.Works.{parts}
+
+abbrev pub of_house : WhFail → ExecFault
+of_house house.Failed = fault.Warehouse
+of_house house.Memory = fault.Memory
+
+abbrev pub of_show : ShowFault → ExecFault
+of_show (show.Dangling object) = fault.Dangling object
+of_show show.Warehouse = fault.Warehouse
+of_show show.Memory = fault.Memory
+
+-- A call that is to make a plan. It is refused for a source before anything is changed; it stops at an object that dangles
+-- in the world that it reached; and a fault of the warehouse is told only where its count rose.
+pub record Executes (p : Plan) (old new : Told) (result : Result Done ExecFault) : Type 0 where
+  pub faults : old.faults ≤ new.faults
+  pub ok : OnOk result ((w : World) → Tells old w → (first_lack w.sources (parts p) ≡ None) × IsRun (executed p w) w old.calls new × (length (executed p w) ≡ length (outline p)))
+  pub err : OnErr result ((w : World) → Tells old w → IsPrefixRun (executed p w) w old.calls new)
+  pub unmade : (name : Name) (kind : FaultKind) → result ≡ Err (fault.Model name kind) → (new.world ≡ old.world) × (new.calls ≡ old.calls)
+  pub lacking : (name : Name) (kind : FaultKind) → result ≡ Err (fault.Model name kind) → (w : World) → Tells old w → first_lack w.sources (parts p) ≡ Some (record { model = name; kind = kind })
+  pub dangling : (object : Name) → result ≡ Err (fault.Dangling object) → (w : World) → Tells old w → (first_lack w.sources (parts p) ≡ None) × ForSome new.world (λ v. IsLost (models p) (parts p) v object)
+  pub failed : IsErrOf result fault.Warehouse → Rose old.faults new.faults
+  pub number : IfOk result (λ done. done ≡ record { units = length p.dues; changes = length (outline p) })
+  pub calls : IfOk result (λ done. new.calls ≡ risen done.changes old.calls)

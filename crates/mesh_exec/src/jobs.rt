@@ -1,0 +1,74 @@
+// The queries by which the rows of due parts are computed.
+ghost use Rattle.std.specs.Prelude.{◌≡◌, ◌++◌, ◌∷◌, [], IfOk, OnOk, Some, None, Ok};
+ghost use Rattle.std.specs.Option.{option_to_list};
+ghost use Rattle.mesh_base.specs.declared.jobs.Job.{Job};
+ghost use Rattle.mesh_scratch.specs.Scratch.{no_bounds};
+ghost use Rattle.mesh_exec.specs.Jobs.{due_job, jobs_of};
+
+use mesh_base::{Defn, Due, Job, Jobs, Node, Query};
+use mesh_list::{Duplicate, Memory, Seq, both};
+use mesh_values::{Bounds, Kind, Str};
+use std::alloc::Global;
+
+fn unit_job(pool: u32, q: &Query, time: &Str, start: i64, end: i64) -> Result<Job, Memory>
+    ensures { IfOk result (λ job. job ≡ record { query = q.now; pool = pool; bounds = record { start = start; end = end }; time = Some time.now }) }
+{
+    let (query, time) = both(q, time)?;
+    Ok(Job {
+        query,
+        pool,
+        bounds: Bounds { start, end },
+        time: Some(time),
+    })
+}
+
+fn whole_job(pool: u32, q: &Query) -> Result<Job, Memory>
+    ensures { IfOk result (λ job. job ≡ record { query = q.now; pool = pool; bounds = no_bounds; time = None }) }
+{
+    Ok(Job {
+        query: q.copy()?,
+        pool,
+        bounds: Bounds { start: 0, end: 0 },
+        time: None,
+    })
+}
+
+fn push_made(jobs: &mut Jobs, job: Result<Job, Memory>) -> Result<(), Memory>
+    ensures { OnOk result ((made : Job) × (job ≡ Ok made) × (jobs.new ≡ jobs.old ++ made ∷ [])) }
+{
+    let made = job?;
+    jobs.push(made)
+}
+
+/// The job of a due part, where its rows are computed.
+fn push_job(jobs: &mut Jobs, pool: u32, node: &Node, due: &Due) -> Result<(), Memory>
+    ensures { OnOk result (jobs.new ≡ jobs.old ++ option_to_list (due_job pool node.now.own.kind node.now.own.defn due.now)) }
+{
+    match &node.own.defn {
+        Defn::Seed { .. } => Ok(()),
+        Defn::Sql(q) => match &node.own.kind {
+            Kind::Incremental { time, .. } => match due {
+                Due::Unit { start, end, .. } => {
+                    push_made(jobs, unit_job(pool, q, time, *start, *end))
+                }
+                Due::Whole { .. } => Ok(()),
+            },
+            Kind::Full => match due {
+                Due::Whole { .. } => push_made(jobs, whole_job(pool, q)),
+                Due::Unit { .. } => Ok(()),
+            },
+            Kind::View | Kind::Seed => Ok(()),
+        },
+    }
+}
+
+/// The jobs of some due parts, all over the first pool.
+pub(crate) fn jobs_of(alloc: Global, node: &Node, dues: &[Due]) -> Result<Jobs, Memory>
+    ensures { IfOk result (λ jobs. jobs ≡ jobs_of 0 node.now.own.kind node.now.own.defn dues.now) }
+{
+    let mut jobs = Seq::new(alloc);
+    for due in dues {
+        push_job(&mut jobs, 0, node, due)?;
+    }
+    Ok(jobs)
+}

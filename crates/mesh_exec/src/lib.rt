@@ -1,0 +1,20 @@
+//! Plans are made. Its contract: `execute` makes exactly the changes of a plan up to those of the environment's views, one
+//! call each and in the plan's order, over the rows that the warehouse shows; it is refused for a source of a due model
+//! before anything is changed, and stops at an object that dangles. It stands on `mesh_wave`, which computes rows,
+//! `mesh_layer`, which shows those of objects, `mesh_making` and the lists of changes in `mesh_changes`.
+#![tactic(auto)]
+
+mod changes;
+mod executing;
+mod faults;
+mod fills;
+mod jobs;
+mod laws;
+mod making;
+mod sources;
+mod tables;
+mod works;
+
+pub use executing::execute;
+pub use faults::ExecFault;
+pub use laws::a_plan_of_a_book_makes_what_is_asked;
