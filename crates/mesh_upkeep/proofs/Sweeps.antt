@@ -1,5 +1,5 @@
 -- What the janitor's calls leave, as a command tells it.
-use Rattle.std.proofs.Common.{◌≡◌, ◌⊎◌, ◌↔◌, ◌≤◌, ◌&&◌, not, inl, inr, Ok, Err, Some, Result, Bool, true, false, cond, ℕ, ℤ, List, [], ◌∷◌, refl, sym, ◌∙◌, ap, subst, arith}
+use Rattle.std.proofs.Common.{◌≡◌, ◌↔◌, ◌&&◌, not, inl, inr, Ok, Err, Some, Result, Bool, true, false, cond, ℕ, ℤ, List, [], ◌∷◌, refl, sym, ◌∙◌, ap, subst, arith}
 use Rattle.std.specs.Prelude.{IsTrue}
 use Rattle.std.specs.Int.Signed.{lt_z}
 use Rattle.std.specs.Option.{is_none, is_some}
@@ -21,8 +21,8 @@ use Rattle.mesh_janitor.specs.declared.faults.SweepFault.TheVariants as faults
 use Rattle.mesh_janitor.specs.Sweeping.{Sweeps, numbers}
 use Rattle.mesh_printed.specs.declared.refusals.Refusal.{Refusal}
 use Rattle.mesh_printed.specs.declared.refusals.Refusal.TheVariants.{Warehouse, Memory, MomentBehind, EnvUnknown}
-use Rattle.mesh_upkeep.specs.Answered.{Answered, IsCause}
-use Rattle.mesh_upkeep.specs.Upkeep.{InvalidateRefused, IsBehind, IsUnknown, JanitorRefused, invalidate_changes, janitor_changes}
+use Rattle.mesh_upkeep.specs.Answered.{Answered}
+use Rattle.mesh_upkeep.specs.Upkeep.{InvalidateRefused, JanitorRefused, invalidate_changes, janitor_changes}
 use Rattle.mesh_upkeep.proofs.Told.{idle}
 
 -- a call of the janitor that made a list, or stopped, where the list is that of a command

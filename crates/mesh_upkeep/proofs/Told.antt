@@ -1,5 +1,5 @@
 -- What a command answers, over what it read.
-use Rattle.std.proofs.Common.{◌≡◌, ◌⊎◌, ◌≤◌, inl, inr, Ok, Err, Some, Result, List, [], ◌++◌, refl, sym, ◌∙◌, ap, subst, arith}
+use Rattle.std.proofs.Common.{◌≡◌, ◌≤◌, inl, inr, Ok, Err, Some, Result, List, [], refl, sym, ◌∙◌, ap, subst, arith}
 use Rattle.std.specs.Prelude.{IfSome}
 use Rattle.std.specs.declared.option.Option.{Option}
 use Rattle.std.proofs.lemmas.List.{append-nil}
@@ -9,13 +9,13 @@ use Rattle.mesh_house.specs.declared.world.Change.{Change}
 use Rattle.mesh_house.specs.declared.house.WhFail.{WhFail}
 use Rattle.mesh_house.specs.declared.house.WhFail.TheVariants as fails
 use Rattle.mesh_house.specs.House.{Told, Reads}
-use Rattle.mesh_house.specs.Runs.{Ran, Stopped}
+use Rattle.mesh_house.specs.Runs.{Stopped}
 use Rattle.mesh_house.specs.World.{book}
 use Rattle.mesh_house.proofs.Runs.{ran_none, ran_then, stopped_none, stopped_then}
 use Rattle.mesh_printed.specs.declared.refusals.Refusal.{Refusal}
 use Rattle.mesh_printed.specs.declared.refusals.Refusal.TheVariants.{Warehouse, Memory, BookBroken, StateOld}
-use Rattle.mesh_upkeep.specs.Answered.{Answered, IsCause, LeftAlone, as_refusal}
-use Rattle.mesh_upkeep.specs.Upkeep.{IsBroken, IsNotPresent, IsOld}
+use Rattle.mesh_upkeep.specs.Answered.{Answered, IsCause, as_refusal}
+use Rattle.mesh_upkeep.specs.Upkeep.{IsNotPresent}
 
 -- nothing was called for but to read
 pub idle : (list : World → List Change) (a c : Told) → c.world ≡ a.world → c.calls ≡ a.calls → a.faults ≤ c.faults → Stopped list a c

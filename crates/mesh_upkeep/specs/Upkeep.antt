@@ -1,8 +1,7 @@
 -- What the commands that keep a book in order make and print, and why they are refused.
-use Rattle.std.specs.Prelude.{◌≡◌, ◌⊎◌, ℕ, ℤ, true, false, not, ◌&&◌, nat_eq, List, [], ◌∷◌, length, Some, if◌then◌else◌}
+use Rattle.std.specs.Prelude.{◌≡◌, ◌⊎◌, ℕ, ℤ, true, false, ◌&&◌, nat_eq, List, [], ◌∷◌, Some, if◌then◌else◌}
 use Rattle.std.specs.Int.Signed.{lt_z}
 use Rattle.std.specs.Option.{is_none, is_some}
-use Rattle.mesh_base.specs.declared.forgets.Rename.{Rename}
 use Rattle.mesh_base.specs.declared.jobs.Swept.{Swept}
 use Rattle.mesh_book.specs.declared.book.Book.{Book}
 use Rattle.mesh_book.specs.declared.fault.BookFault.{BookFault}

@@ -1,15 +1,11 @@
-use Rattle.std.proofs.Common.{◌≡◌, ℕ, Err, List, refl, inl, sym, ◌∙◌, ap, subst}
+use Rattle.std.proofs.Common.{rules, ◌≡◌, ℕ, Err, List, sym, subst, FitsSigned, w64, to_z, of_z}
+use Rattle.std.proofs.lemmas.Int.{to_z-of_z}
 use Rattle.mesh_house.specs.declared.world.World.{World}
-use Rattle.mesh_changes.specs.Commands.{Invalidate, Janitor, changes}
-use Rattle.mesh_janitor.specs.declared.faults.Swept.{Swept}
-use Rattle.mesh_janitor.specs.declared.faults.SweepFault.{SweepFault}
-use Rattle.mesh_janitor.specs.Sweeping.{numbers}
+use Rattle.mesh_changes.specs.Commands.{Janitor, changes}
 use Rattle.mesh_printed.specs.declared.refusals.Refusal.{Refusal}
-use Rattle.mesh_printed.specs.Reports.{invalidated_line, janitor_line}
 use Rattle.mesh_upkeep.specs.Answered.{Answered}
-use Rattle.mesh_upkeep.specs.Upkeep.{InvalidateRefused, JanitorRefused, invalidate_changes, janitor_changes, swept_line}
-use Rattle.mesh_upkeep.proofs.Told.{not_present, read_first, told_then, unread, wanting, wanting_then}
-use Rattle.mesh_upkeep.proofs.Sweeps.{behind, unknown}
+use Rattle.mesh_upkeep.specs.Upkeep.{JanitorRefused, janitor_changes, swept_line}
+use Rattle.mesh_upkeep.proofs.Told.{read_first, unread}
 use Rattle.mesh_upkeep.proofs.upkeep.janitor.Goals as goal
 
 pub returns-in-Err : goal.returns-in-Err
@@ -18,4 +14,8 @@ returns-in-Err g c = λ clock.
     (unread (changes clock (Janitor c.args.t)) (λ w. swept_line c.args.t w.book) (λ w. JanitorRefused c.args.t w.book) _ _ c.in-Err.fail c.in-Err.ensures)
 
 pub returns-in-Ok : goal.returns-in-Ok
-returns-in-Ok g c = λ clock. read_first (janitor_changes c.args.t) (swept_line c.args.t) (JanitorRefused c.args.t) _ _ _ c.in-Ok.b c.in-Ok.ensures c.janitor_by.result c.janitor_by.ensures
+returns-in-Ok g c = λ clock.
+    let fits : FitsSigned w64 c.args.t = search rules in
+    let same : to_z w64 (of_z w64 c.args.t) ≡ c.args.t = simp to_z-of_z in
+    read_first (janitor_changes c.args.t) (swept_line c.args.t) (JanitorRefused c.args.t) _ _ _ c.in-Ok.b c.in-Ok.ensures c.janitor_by.result (subst (λ t. Answered {T = List ℕ} (λ w. janitor_changes t c.in-Ok.b) (λ w. swept_line t c.in-Ok.b) (λ w. JanitorRefused t c.in-Ok.b)
+    (g.W.Warehouse.told c.book.new.self) (g.W.Warehouse.told c.janitor_by.new.house) c.janitor_by.result) same c.janitor_by.ensures)
