@@ -1,0 +1,4 @@
+-- Told: what a command answers, over what it read.
+pub mod Told
+-- Sweeps: what the janitor's calls leave, as a command tells it.
+pub mod Sweeps

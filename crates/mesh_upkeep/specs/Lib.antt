@@ -1,0 +1,4 @@
+-- Answered: what a command answers and leaves of a house.
+pub mod Answered
+-- Upkeep: what the commands that keep a book in order make, and why they are refused.
+pub mod Upkeep

@@ -1,0 +1,73 @@
+-- What the commands that keep a book in order make and print, and why they are refused.
+use Rattle.std.specs.Prelude.{◌≡◌, ◌⊎◌, ℕ, ℤ, true, false, ◌&&◌, nat_eq, List, [], ◌∷◌, Some, if◌then◌else◌}
+use Rattle.std.specs.Int.Signed.{lt_z}
+use Rattle.std.specs.Option.{is_none, is_some}
+use Rattle.mesh_base.specs.declared.jobs.Swept.{Swept}
+use Rattle.mesh_book.specs.declared.book.Book.{Book}
+use Rattle.mesh_book.specs.declared.fault.BookFault.{BookFault}
+use Rattle.mesh_book.specs.WellFormed.{book_fault, is_well_formed_book}
+use Rattle.mesh_house.specs.declared.world.Change.{Change}
+use Rattle.mesh_house.specs.declared.world.Change.TheVariants.{Expire}
+use Rattle.mesh_changes.specs.Commands.{is_not_behind, is_present}
+use Rattle.mesh_changes.specs.Environments.{env_at}
+use Rattle.mesh_changes.specs.Kept.{sweeps}
+use Rattle.mesh_janitor.specs.Sweeping.{numbers}
+use Rattle.mesh_printed.specs.declared.refusals.Refusal.{Refusal}
+use Rattle.mesh_printed.specs.declared.refusals.Refusal.TheVariants.{BookBroken, StateOld, MomentBehind, EnvUnknown}
+use Rattle.mesh_printed.specs.Reports.{janitor_line}
+
+-- the book breaks a rule, and this is told
+pub record IsBroken (b : Book) (r : Refusal) : Type 0 where
+  pub fault : BookFault
+  pub first : book_fault b ≡ Some fault
+  pub told : r ≡ BookBroken fault.part fault.place
+
+-- the book breaks no rule and is of another version, and this is told
+pub record IsOld (b : Book) (r : Refusal) : Type 0 where
+  pub well_formed : is_well_formed_book b ≡ true
+  pub version : nat_eq b.version 2 ≡ false
+  pub told : r ≡ StateOld b.version
+
+abbrev pub IsNotPresent : Book → Refusal → Type 0
+IsNotPresent b r = IsBroken b r ⊎ IsOld b r
+
+-- the book is as it has to be and of a later moment, and this is told
+pub record IsBehind (t : ℤ) (b : Book) (r : Refusal) : Type 0 where
+  pub present : is_present b ≡ true
+  pub behind : lt_z t b.moment ≡ true
+  pub told : r ≡ MomentBehind t b.moment
+
+-- the book is as it has to be and has no such environment, and this is told
+pub record IsUnknown (env : List ℕ) (b : Book) (r : Refusal) : Type 0 where
+  pub present : is_present b ≡ true
+  pub unknown : is_none (env_at b env) ≡ true
+  pub told : r ≡ EnvUnknown env
+
+-- why `janitor` is refused
+abbrev pub JanitorRefused : ℤ → Book → Refusal → Type 0
+JanitorRefused t b r = IsNotPresent b r ⊎ IsBehind t b r
+
+-- why `invalidate` is refused
+abbrev pub InvalidateRefused : List ℕ → Book → Refusal → Type 0
+InvalidateRefused env b r = IsNotPresent b r ⊎ IsUnknown env b r
+
+-- the changes of `janitor`, by the book
+abbrev pub janitor_changes : ℤ → Book → List Change
+janitor_changes t b = if is_present b && is_not_behind t b then sweeps b t else []
+
+-- the changes of `invalidate`, by the book
+abbrev pub invalidate_changes : List ℕ → Book → List Change
+invalidate_changes env b = if is_present b && is_some (env_at b env) then Expire env ∷ [] else []
+
+-- how much a sweep takes out
+abbrev pub swept : ℤ → Book → Swept
+swept t b = record {
+  environments = (numbers b t).environments;
+  objects = (numbers b t).objects;
+  snapshots = (numbers b t).snapshots;
+  changes = (numbers b t).changes;
+}
+
+-- the line of `janitor`
+abbrev pub swept_line : ℤ → Book → List ℕ
+swept_line t b = janitor_line t (swept t b)
