@@ -1,14 +1,12 @@
 -- Plans can be made.
-use Rattle.std.proofs.Common.{◌≡◌, ℕ, ℤ, pos, true, List, length, IsTrue, Some, None, refl, sym, ◌∙◌, ap, subst}
+use Rattle.std.proofs.Common.{◌≡◌, ℕ, ℤ, pos, true, List, length, Some, None, sym, ◌∙◌, ap}
 use Rattle.std.specs.Int.Signed.{le_z}
-use Rattle.std.specs.List.{All, list_all}
+use Rattle.std.specs.List.{list_all}
 use Rattle.std.specs.declared.option.Option.{Option}
 use Rattle.mesh_list.specs.Keyed.{ascends}
 use Rattle.mesh_days.specs.Moments.{IsMoment}
 use Rattle.mesh_time.proofs.Apart.{le_true}
 use Rattle.mesh_base.specs.declared.forgets.Restate.{Restate}
-use Rattle.mesh_base.specs.declared.plans.Due.{Due}
-use Rattle.mesh_base.specs.declared.plans.Entry.{Entry}
 use Rattle.mesh_base.specs.declared.snapshots.Env.{Env}
 use Rattle.mesh_base.specs.declared.snapshots.Node.{Node}
 use Rattle.mesh_rules.specs.Proper.{is_proper}
@@ -17,7 +15,7 @@ use Rattle.mesh_book.specs.WellFormed.{is_moment}
 use Rattle.mesh_book.specs.declared.book.Book.{Book}
 use Rattle.mesh_laws.proofs.Projects.{have_crons}
 use Rattle.mesh_scratch.specs.Closures.{closures}
-use Rattle.mesh_scratch.specs.Horizons.{Clock, HasCrons, Shows}
+use Rattle.mesh_scratch.specs.Horizons.{Clock, Shows}
 use Rattle.mesh_scratch.proofs.Clocks.{shown}
 use Rattle.mesh_due.specs.Dues.{dues}
 use Rattle.mesh_due.specs.Plans.{planned}
@@ -26,7 +24,7 @@ use Rattle.mesh_exec.specs.Executable.{IsExecutable, due_cmp, due_itself, is_due
 use Rattle.mesh_changes.specs.Planning.{compared_list}
 use Rattle.mesh_plan.specs.Entries.{IsRecorded}
 use Rattle.mesh_plan.specs.Plans.{IsPlanOf}
-use Rattle.mesh_plan.specs.Running.{IsRunIn, IsRunOf}
+use Rattle.mesh_plan.specs.Running.{IsRunIn}
 use Rattle.mesh_plan.proofs.Models.{as_many}
 use Rattle.mesh_plan.proofs.Runs.{zipped_long}
 use Rattle.mesh_plan_laws.proofs.InOrder.{both_true, dues_fit}

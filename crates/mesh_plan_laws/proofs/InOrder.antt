@@ -1,5 +1,5 @@
 -- What is due of a plan stands in its order, each part once, and fits its models.
-use Rattle.std.proofs.Common.{◌≡◌, ℕ, zero, suc, ◌+◌, ◌<◌, ◌≤◌, ℤ, pos, negsuc, ◌*◌, ◌+ℤ◌, ◌*ℤ◌, ◌<ℤ◌, ◌≤ℤ◌, Bool, true, false, cond, not, List, [], ◌∷◌, ◌++◌, length, map, IsTrue, Some, None, refl, sym, ◌∙◌, ap, arith, subst}
+use Rattle.std.proofs.Common.{◌≡◌, ℕ, zero, suc, ◌+◌, ◌<◌, ◌≤◌, ℤ, pos, negsuc, ◌*◌, ◌+ℤ◌, ◌*ℤ◌, ◌<ℤ◌, ◌≤ℤ◌, Bool, true, false, cond, not, List, [], ◌∷◌, ◌++◌, map, Some, None, refl, sym, ◌∙◌, ap, arith, subst}
 use Rattle.std.specs.Prelude.{◌&&◌}
 use Rattle.std.specs.List.{All, AllByRecursion, filter, list_all, range_with_len, slice_get}
 use Rattle.std.specs.Int.Signed.{le_z, lt_z}
@@ -19,18 +19,15 @@ use Rattle.mesh_values.specs.declared.times.Bounds.{Bounds}
 use Rattle.mesh_values.specs.declared.times.Schedule.{Schedule}
 use Rattle.mesh_values.specs.declared.times.Unit.{Unit as TimeUnit}
 use Rattle.mesh_values.specs.declared.times.Unit.TheVariants.{Hour, Day}
-use Rattle.mesh_values.specs.declared.values.Name.{Name}
 use Rattle.mesh_days.specs.Moments.{IsMoment}
 use Rattle.mesh_time.specs.Ranges.{unit_size, unit_at, unit_count}
 use Rattle.mesh_time.proofs.Apart.{le_true, lt_true}
-use Rattle.mesh_base.specs.declared.definitions.Own.{Own}
 use Rattle.mesh_base.specs.declared.forgets.Forget.{Forget}
 use Rattle.mesh_base.specs.declared.forgets.Forget.TheVariants.{Marks}
 use Rattle.mesh_base.specs.declared.plans.Due.{Due}
-use Rattle.mesh_base.specs.declared.plans.Due.TheVariants.{Whole, Unit as OfUnit}
+use Rattle.mesh_base.specs.declared.plans.Due.TheVariants.{Unit as OfUnit}
 use Rattle.mesh_base.specs.declared.plans.Entry.{Entry}
 use Rattle.mesh_base.specs.declared.snapshots.Node.{Node}
-use Rattle.mesh_rules.specs.Proper.{is_proper}
 use Rattle.mesh_book.specs.declared.book.Book.{Book}
 use Rattle.mesh_scratch.specs.Closures.{Closure, closures, own_of}
 use Rattle.mesh_scratch.specs.Horizons.{Clock, HasCrons, Shows, horizon, schedule, units_from}
