@@ -1,0 +1,8 @@
+-- Loaded: what the files of a project mean, as a command tells it.
+pub mod Loaded
+-- Planning: the plan of a command, and why there is none.
+pub mod Planning
+-- Applying: what the commands that plan make and print, and why they are refused.
+pub mod Applying
+-- Migrating: the same of moving a book.
+pub mod Migrating

@@ -1,0 +1,46 @@
+-- What moving a book makes and prints, and why it is refused.
+use Rattle.std.specs.Prelude.{◌≡◌, ◌⊎◌, ℕ, true, nat_eq, if◌then◌else◌, List, [], length, Result, Ok, Err}
+use Rattle.mesh_values.specs.declared.values.Name.{Name}
+use Rattle.mesh_base.specs.declared.forgets.Rename.{Rename}
+use Rattle.mesh_tokens.specs.declared.faults.FaultKind.TheVariants.{FingerprintClash}
+use Rattle.mesh_book.specs.declared.book.Book.{Book}
+use Rattle.mesh_book.specs.WellFormed.{is_well_formed_book}
+use Rattle.mesh_scratch.specs.Horizons.{Clock}
+use Rattle.mesh_house.specs.declared.world.Change.{Change}
+use Rattle.mesh_house.specs.declared.world.World.{World}
+use Rattle.mesh_changes.specs.Commands.{MigrateAll, changes}
+use Rattle.mesh_fault_text.specs.Lines.{name_text}
+use Rattle.mesh_migrate.specs.Migration.{IsMap, IsRefused}
+use Rattle.mesh_migrate.specs.declared.fault.MigrationFault.TheVariants.{Twins}
+use Rattle.mesh_printed.specs.Reports.{migrated_line}
+use Rattle.mesh_printed.specs.declared.refusals.Refusal.{Refusal}
+use Rattle.mesh_printed.specs.declared.refusals.Refusal.TheVariants.{Model}
+use Rattle.mesh_commands.specs.Present.{IsBroken}
+
+-- a well-formed book of the former version has such a map
+pub record IsMoved (b : Book) (renames : List Rename) : Type 0 where
+  pub well_formed : is_well_formed_book b ≡ true
+  pub former : nat_eq b.version 1 ≡ true
+  pub map : IsMap b renames
+
+-- `migrate` moves a book of the former version, and leaves another one
+abbrev pub MigrateMakes : World → List Change → Type 0
+MigrateMakes w list = (renames : List Rename) × IsMoved w.book renames × ((clock : Clock) → list ≡ changes clock (MigrateAll renames) w)
+
+-- how many snapshots are moved
+abbrev pub moved_number : Book → ℕ
+moved_number b = if nat_eq b.version 1 then length b.snapshots else 0
+
+-- two snapshots of one name would get one fingerprint, and the first such are told
+pub record IsClashing (b : Book) (r : Refusal) : Type 0 where
+  pub well_formed : is_well_formed_book b ≡ true
+  pub former : nat_eq b.version 1 ≡ true
+  pub name : Name
+  pub stored : List ℕ
+  pub given : List ℕ
+  pub first : IsRefused b (Twins name stored given)
+  pub told : r ≡ Model (name_text name) 0 (FingerprintClash stored given)
+
+abbrev pub MigrateGives : World → Result (List ℕ) Refusal → Type 0
+MigrateGives w (Ok text) = (is_well_formed_book w.book ≡ true) × (text ≡ migrated_line (moved_number w.book))
+MigrateGives w (Err r) = IsBroken w.book r ⊎ IsClashing w.book r

@@ -1,0 +1,21 @@
+//! The commands that plan: `plan` prints what an apply would do, `apply` and `run` do it, and `migrate` moves a book of the
+//! former version. Its contract: each makes exactly the changes that the promise has for the command (`mesh_changes`) in the
+//! world that the house tells, and answers the text that is printed, or a refusal whose cause stands there. It stands on
+//! `mesh_project` for projects, `mesh_plan` for plans, `mesh_exec` and `mesh_promote` for their changes, `mesh_migrate` for
+//! maps of fingerprints, and `mesh_commands`.
+#![tactic(auto)]
+
+mod apply;
+mod faults;
+mod listing;
+mod loaded;
+mod migrate;
+mod planned;
+mod promote;
+mod run;
+
+pub use apply::apply;
+pub use loaded::of_load;
+pub use migrate::migrate;
+pub use planned::plan;
+pub use run::run;

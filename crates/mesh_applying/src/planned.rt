@@ -1,0 +1,147 @@
+// Plans, by a book that is as it has to be, and `plan`.
+ghost use Rattle.std.specs.Prelude.{◌≡◌, true, false, IfOk, IfErr};
+ghost use Rattle.std.specs.Option.{option_copied};
+ghost use Rattle.mesh_days.specs.Moments.{IsMoment};
+ghost use Rattle.mesh_changes.specs.Commands.{is_present};
+ghost use Rattle.mesh_commands.specs.Answers.{Answers, is_fault, no_changes};
+ghost use Rattle.mesh_applying.specs.Applying.{PlanGives};
+ghost use Rattle.mesh_applying.specs.Loaded.{OfProject};
+ghost use Rattle.mesh_applying.specs.Planning.{IsPlanned, PlanRefused, has_named};
+
+use crate::faults::{name_text, of_plan};
+use crate::loaded::of_load;
+use mesh_base::{Node, Restate};
+use mesh_book::Book;
+use mesh_commands::present_book;
+use mesh_house::Warehouse;
+use mesh_io::Folder;
+use mesh_list::{Memory, Seq};
+use mesh_plan_text::plan_text;
+use mesh_printed::Refusal;
+use mesh_project::load;
+use mesh_rules::{Plan, Project};
+use mesh_tokens::FaultKind;
+use mesh_values::{Name, Str};
+use std::alloc::Global;
+
+fn is_named(nodes: &[Node], name: &Name) -> bool {
+    for node in nodes {
+        if node.own.name.compare(name).is_eq() {
+            return true;
+        }
+    }
+    false
+}
+
+/// Whether the model that is to be computed again is one of the project, where one is named.
+fn has_named(nodes: &[Node], again: Option<&Restate>) -> bool
+    ensures { result ≡ has_named nodes.now (option_copied again.entry) }
+{
+    match again {
+        None => true,
+        Some(again) => is_named(nodes, &again.name),
+    }
+}
+
+fn no_model(alloc: Global, name: &Name) -> Result<Refusal, Memory> {
+    let file = Vec::from_slice(alloc, b"-")?;
+    let name = name_text(alloc, name)?;
+    Ok(Refusal::Model {
+        file: Seq::from_vec(file),
+        at: 0,
+        kind: FaultKind::UnknownRelation { name },
+    })
+}
+
+fn unnamed(alloc: Global, again: &Restate) -> Refusal {
+    match no_model(alloc, &again.name) {
+        Ok(refusal) => refusal,
+        Err(_) => Refusal::Memory,
+    }
+}
+
+fn named(alloc: Global, nodes: &[Node], again: Option<&Restate>, p: Plan) -> Result<Plan, Refusal> {
+    match again {
+        None => Ok(p),
+        Some(again) => {
+            if is_named(nodes, &again.name) {
+                Ok(p)
+            } else {
+                Err(unnamed(alloc, again))
+            }
+        }
+    }
+}
+
+/// The plan of a project for an environment, by a book that is as it has to be.
+pub(crate) fn planned(
+    alloc: Global,
+    b: &Book,
+    project: &Project,
+    env: &Str,
+    t: i64,
+    again: Option<&Restate>,
+) -> Result<Plan, Refusal>
+    requires present { is_present b.now ≡ true }
+    requires moment { IsMoment t }
+    ensures ok { IfOk result (λ p. IsPlanned b.now project.now.nodes env.now t (option_copied again.entry) p) }
+    ensures err { IfErr result (λ r. is_fault r ≡ false → PlanRefused b.now project.now.nodes env.now t (option_copied again.entry) r) }
+{
+    match mesh_plan::plan(alloc, project, b, env, t, again) {
+        Err(fault) => Err(of_plan(alloc, env, fault)),
+        Ok(p) => named(alloc, project.as_slice(), again, p),
+    }
+}
+
+fn text_by(
+    alloc: Global,
+    b: &Book,
+    project: &Project,
+    env: &Str,
+    t: i64,
+    again: Option<&Restate>,
+) -> Result<Str, Refusal> {
+    match planned(alloc, b, project, env, t, again) {
+        Err(refusal) => Err(refusal),
+        Ok(p) => match plan_text(&p) {
+            Ok(text) => Ok(text),
+            Err(_) => Err(Refusal::Memory),
+        },
+    }
+}
+
+fn plan_project<W: Warehouse>(
+    alloc: Global,
+    house: &mut W,
+    project: &Project,
+    env: &Str,
+    t: i64,
+    again: Option<&Restate>,
+) -> Result<Str, Refusal>
+    requires moment { IsMoment t }
+    ensures { Answers no_changes (PlanGives project.now.nodes env.now t (option_copied again.entry)) (W.told house.old) (W.told house.new) result }
+{
+    match present_book(alloc, house) {
+        Err(refusal) => Err(refusal),
+        Ok(b) => text_by(alloc, &b, project, env, t, again),
+    }
+}
+
+/// `plan`: the text of what an apply of the project in `dir` would do for an environment at a moment. Nothing is changed.
+pub fn plan<W: Warehouse, F: Folder>(
+    alloc: Global,
+    folder: &mut F,
+    house: &mut W,
+    dir: &Str,
+    env: &Str,
+    t: i64,
+    again: Option<&Restate>,
+) -> Result<Str, Refusal>
+    requires moment { IsMoment t }
+    ensures { Answers no_changes (λ w. OfProject (F.told folder.old).files dir.now (λ nodes. PlanGives nodes env.now t (option_copied again.entry) w)) (W.told house.old) (W.told house.new) result }
+{
+    match load(alloc, folder, dir) {
+        Err(fault) => Err(of_load(fault)),
+        Ok(project) => plan_project(alloc, house, &project, env, t, again),
+    }
+}

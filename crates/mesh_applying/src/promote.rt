@@ -1,0 +1,66 @@
+// A plan is made whole: its own changes, and then those that give its environment its views.
+use crate::faults::of_exec;
+use crate::listing::{Listing, listing};
+use mesh_book::Book;
+use mesh_commands::as_refusal;
+use mesh_exec::execute;
+use mesh_house::Warehouse;
+use mesh_list::Memory;
+use mesh_printed::Refusal;
+use mesh_promote::promote;
+use mesh_rules::Plan;
+use mesh_wave::OpenGate;
+use std::alloc::Global;
+use std::thread::Threads;
+
+/// The sum of two counts; one that doesn't fit is as if memory were wanting, which no list of changes reaches.
+fn sum(a: u64, b: u64) -> Result<u64, Refusal> {
+    match a.checked_add(b) {
+        Some(sum) => Ok(sum),
+        None => Err(Refusal::Memory),
+    }
+}
+
+fn promoted<W: Warehouse>(
+    alloc: Global,
+    house: &mut W,
+    b: &Book,
+    p: &Plan,
+    listing: &Listing,
+    done: u64,
+) -> Result<u64, Refusal> {
+    match promote(alloc, house, b, &p.env, &listing.list, &listing.objects, p.moment) {
+        Err(fail) => Err(as_refusal(fail)),
+        Ok(made) => sum(done, made),
+    }
+}
+
+fn made<R: Threads + Sync, W: Warehouse>(
+    rt: &R,
+    alloc: Global,
+    house: &mut W,
+    b: &Book,
+    p: &Plan,
+    listing: &Listing,
+    workers: u32,
+) -> Result<u64, Refusal> {
+    match execute(rt, alloc, p, workers, &OpenGate, house) {
+        Err(fault) => Err(of_exec(alloc, fault)),
+        Ok(done) => promoted(alloc, house, b, p, listing, done.changes),
+    }
+}
+
+/// All changes of a plan for an environment are made, and their number is answered.
+pub(crate) fn make_plan<R: Threads + Sync, W: Warehouse>(
+    rt: &R,
+    alloc: Global,
+    house: &mut W,
+    b: &Book,
+    p: &Plan,
+    workers: u32,
+) -> Result<u64, Refusal> {
+    match listing(alloc, p) {
+        Err(Memory) => Err(Refusal::Memory),
+        Ok(listing) => made(rt, alloc, house, b, p, &listing, workers),
+    }
+}

@@ -1,0 +1,4 @@
+-- Answers: what a command answers, and what it leaves of a house.
+pub mod Answers
+-- Present: whether a book is as a command needs it.
+pub mod Present

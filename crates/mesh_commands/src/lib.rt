@@ -1,0 +1,8 @@
+//! What the commands have in common: the book as they need it, and the relation that each of them answers. Its contract:
+//! `present_book` reads the book of a warehouse, which breaks no rule and is of the present version, or tells why it isn't so.
+//! It stands on `mesh_layer` and `mesh_printed`.
+#![tactic(auto)]
+
+mod books;
+
+pub use books::{as_refusal, present, present_book};
