@@ -4,5 +4,7 @@ pub mod Loaded
 pub mod Planning
 -- Applying: what the commands that plan make and print, and why they are refused.
 pub mod Applying
+-- Making: what is left of a house once the changes of a plan were to be made.
+pub mod Making
 -- Migrating: the same of moving a book.
 pub mod Migrating
