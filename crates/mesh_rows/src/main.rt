@@ -20,7 +20,8 @@
 //! - `cuts PATH WORD..` runs a command with each proper prefix of the project's file PATH in its place, each over the world
 //!   as it is; it counts the cuts and those that are refused with one line of that file and no change, and prints the others;
 //! - `stops CALL WORD..` runs a command, and then again from the world before with each call of that kind failing in turn,
-//!   each time followed by the whole command, and prints both statuses, whether the views show the same, and the second text.
+//!   each time followed by the whole command, and prints both statuses, whether the views show the same, and the second text;
+//!   at the end the world is as it was.
 #![tactic(auto)]
 
 mod arrange;

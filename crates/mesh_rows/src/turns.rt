@@ -4,7 +4,7 @@ use crate::report::{Outcome, put, put_outcome, put_views};
 use crate::stage::Stage;
 use crate::trouble::Trouble;
 use mesh_house::World;
-use mesh_list::Duplicate;
+use mesh_list::{Duplicate, Seq};
 use mesh_values::Str;
 use std::alloc::Global;
 use std::thread::Threads;
@@ -122,7 +122,7 @@ pub fn cuts<R: Threads + Sync>(
 ) -> Result<(), Trouble> {
     let mut place = Vec::from_slice(stage.alloc, b"project/")?;
     place.extend_from_slice(path.as_slice())?;
-    let bytes = stage.file(&mesh_list::Seq::from_vec(place))?;
+    let bytes = stage.file(&Seq::from_vec(place))?;
     let mut turns = Turns::new(stage.alloc);
     let (all, refused) = run_cuts(rt, stage, path, &bytes, words, &mut turns)?;
     stage.write(path.copy()?, bytes)?;
@@ -185,7 +185,8 @@ fn run_stops<R: Threads + Sync>(
     Err(Trouble::Script)
 }
 
-/// Runs a command over the same world with each call of a kind failing in turn, and each time the same command again.
+/// Runs a command over the same world with each call of a kind failing in turn, and each time the same command again. At
+/// the end the world is as it was.
 pub fn stops<R: Threads + Sync>(
     rt: &R,
     stage: &mut Stage,
@@ -196,6 +197,7 @@ pub fn stops<R: Threads + Sync>(
     let world = stage.house.world().copy()?;
     let mut turns = Turns::new(stage.alloc);
     let number = run_stops(rt, stage, &world, kind, words, &mut turns)?;
+    stage.restore(&world)?;
     let head = format!(in stage.alloc; "{number} stops\n")?;
     put(report, head.as_bytes())?;
     put(report, turns.report.as_slice())

@@ -1,1 +1,0 @@
-MODEL (name a.f, kind FULL, columns (e TEXT)); SELECT e FROM a.s

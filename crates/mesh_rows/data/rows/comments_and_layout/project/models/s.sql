@@ -1,3 +1,0 @@
--- the seed; it's read
-model(/* a 'text */name a./**/s,kind	seed(path '../seeds/s.csv'),)
-;--x

@@ -1,1 +1,0 @@
-MODEL (kind FULL); SELECT v FROM a.s

@@ -1,1 +1,0 @@
-MODEL (name f, kind FULL); SELECT v FROM a.s

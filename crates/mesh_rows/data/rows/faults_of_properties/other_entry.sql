@@ -1,1 +1,0 @@
-MODEL (name a.f, kind FULL (path 'x')); SELECT v FROM a.s

@@ -1,1 +1,0 @@
-MODEL (name a.f, kind FULL, columns (v FLOAT)); SELECT v FROM a.s

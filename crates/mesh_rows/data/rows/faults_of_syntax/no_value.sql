@@ -1,1 +1,0 @@
-MODEL (name a.f, kind FULL, owner); SELECT v FROM a.s

@@ -1,1 +1,0 @@
-MODEL (name a.f, kind embedded); SELECT v FROM a.s

@@ -1,1 +1,0 @@
-MODEL (name a.f, kind VIEW (materialized true)); SELECT v FROM a.s

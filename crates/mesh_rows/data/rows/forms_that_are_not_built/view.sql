@@ -1,1 +1,0 @@
-MODEL (name a.f, kind VIEW); SELECT v FROM a.s

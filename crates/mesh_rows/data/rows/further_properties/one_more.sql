@@ -1,1 +1,0 @@
-MODEL (name a.f, kind FULL, columns (v INT, k TEXT)); SELECT v FROM a.s

@@ -1,1 +1,0 @@
-MODEL (name a.f, kind FULL, columns (k INT)); SELECT v FROM a.s

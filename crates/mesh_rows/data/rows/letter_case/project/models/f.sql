@@ -1,1 +1,0 @@
-Model ( Name a . F , Kind Full ) ; Select V From a . s

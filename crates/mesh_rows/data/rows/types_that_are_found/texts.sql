@@ -1,1 +1,0 @@
-MODEL (name a.f, kind FULL, columns (d TEXT, t TEXT, id INT)); SELECT d, t, id FROM a.s
