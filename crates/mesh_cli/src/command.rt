@@ -1,11 +1,23 @@
 // One command, over the folder, the clock and the warehouse.
+ghost use Rattle.std.specs.Prelude.{ℕ, true, false, IfSome, List};
+ghost use Rattle.std.specs.Option.{option_copied};
+ghost use Rattle.mesh_days.specs.Moments.{IsMoment};
+ghost use Rattle.mesh_io.specs.Told.{FolderTold};
+ghost use Rattle.mesh_line.specs.declared.line.Command.TheVariants as asked;
+ghost use Rattle.mesh_cli.specs.Ends.{Commanded};
+ghost use Rattle.mesh_cli.specs.Fit.{IsCrew, IsFit};
+ghost use Rattle.mesh_cli.specs.Scripts.{LineAnswers};
+ghost use Rattle.mesh_cli.specs.Sides.{sides};
+
 use crate::moment::moment_of;
+use crate::place::place_or;
 use mesh_applying::{apply, migrate, plan, run};
 use mesh_asking::{evaluate, fetchdf};
 use mesh_base::Restate;
 use mesh_house::Warehouse;
 use mesh_io::{Clock, Folder};
-use mesh_line::Command;
+use mesh_line::{Command, Line};
+use mesh_list::Memory;
 use mesh_printed::Refusal;
 use mesh_upkeep::{ingest, invalidate, janitor};
 use mesh_values::Str;
@@ -21,7 +33,10 @@ fn planned<W: Warehouse, F: Folder, C: Clock>(
     folder: &mut F,
     house: &mut W,
     clock: &mut C,
-) -> Result<Str, Refusal> {
+) -> Result<Str, Refusal>
+    requires { IfSome moment IsMoment }
+    ensures { (workers : ℕ) → Commanded dir.now (asked.Plan env.now false workers moment (option_copied again.entry)) (sides (F.told folder.old) (C.told clock.old) (W.told house.old)) (sides (F.told folder.new) (C.told clock.new) (W.told house.new)) result }
+{
     match moment_of(moment, clock) {
         Err(refusal) => Err(refusal),
         Ok(t) => plan(alloc, folder, house, dir, env, t, again),
@@ -39,7 +54,12 @@ fn applied<R: Threads + Sync, W: Warehouse, F: Folder, C: Clock>(
     folder: &mut F,
     house: &mut W,
     clock: &mut C,
-) -> Result<Str, Refusal> {
+) -> Result<Str, Refusal>
+    requires crew { IsCrew workers }
+    requires moment { IfSome moment IsMoment }
+    ensures apply { Commanded dir.now (asked.Apply env.now workers moment (option_copied again.entry)) (sides (F.told folder.old) (C.told clock.old) (W.told house.old)) (sides (F.told folder.new) (C.told clock.new) (W.told house.new)) result }
+    ensures plan { Commanded dir.now (asked.Plan env.now true workers moment (option_copied again.entry)) (sides (F.told folder.old) (C.told clock.old) (W.told house.old)) (sides (F.told folder.new) (C.told clock.new) (W.told house.new)) result }
+{
     match moment_of(moment, clock) {
         Err(refusal) => Err(refusal),
         Ok(t) => apply(rt, alloc, folder, house, dir, env, t, again, workers),
@@ -54,7 +74,11 @@ fn ran<R: Threads + Sync, W: Warehouse, C: Clock>(
     moment: Option<i64>,
     house: &mut W,
     clock: &mut C,
-) -> Result<Str, Refusal> {
+) -> Result<Str, Refusal>
+    requires crew { IsCrew workers }
+    requires moment { IfSome moment IsMoment }
+    ensures { (dir : List ℕ) (f : FolderTold) → Commanded dir (asked.Run env.now workers moment) (sides f (C.told clock.old) (W.told house.old)) (sides f (C.told clock.new) (W.told house.new)) result }
+{
     match moment_of(moment, clock) {
         Err(refusal) => Err(refusal),
         Ok(t) => run(rt, alloc, house, env, t, workers),
@@ -66,7 +90,10 @@ fn swept<W: Warehouse, C: Clock>(
     moment: Option<i64>,
     house: &mut W,
     clock: &mut C,
-) -> Result<Str, Refusal> {
+) -> Result<Str, Refusal>
+    requires { IfSome moment IsMoment }
+    ensures { (dir : List ℕ) (f : FolderTold) → Commanded dir (asked.Janitor moment) (sides f (C.told clock.old) (W.told house.old)) (sides f (C.told clock.new) (W.told house.new)) result }
+{
     match moment_of(moment, clock) {
         Err(refusal) => Err(refusal),
         Ok(t) => janitor(alloc, house, t),
@@ -82,7 +109,10 @@ pub(crate) fn answered<R: Threads + Sync, W: Warehouse, F: Folder, C: Clock>(
     folder: &mut F,
     house: &mut W,
     clock: &mut C,
-) -> Result<Str, Refusal> {
+) -> Result<Str, Refusal>
+    requires { IsFit command.now }
+    ensures { Commanded dir.now command.now (sides (F.told folder.old) (C.told clock.old) (W.told house.old)) (sides (F.told folder.new) (C.told clock.new) (W.told house.new)) result }
+{
     match command {
         Command::Plan {
             env,
@@ -134,5 +164,24 @@ pub(crate) fn answered<R: Threads + Sync, W: Warehouse, F: Folder, C: Clock>(
         Command::Invalidate { env } => invalidate(alloc, house, env),
         Command::Migrate => migrate(alloc, house),
         Command::Batch => Err(Refusal::Usage),
+    }
+}
+
+/// A command line other than that of a batch, over its own folder or else this one.
+pub(crate) fn line_answer<R: Threads + Sync, W: Warehouse, F: Folder, C: Clock>(
+    rt: &R,
+    alloc: Global,
+    dir: &Str,
+    line: &Line,
+    folder: &mut F,
+    house: &mut W,
+    clock: &mut C,
+) -> Result<Str, Refusal>
+    requires { IsFit line.now.command }
+    ensures { LineAnswers dir.now line.now (sides (F.told folder.old) (C.told clock.old) (W.told house.old)) (sides (F.told folder.new) (C.told clock.new) (W.told house.new)) result }
+{
+    match place_or(&line.paths, dir) {
+        Err(Memory) => Err(Refusal::Memory),
+        Ok(dir) => answered(rt, alloc, &dir, &line.command, folder, house, clock),
     }
 }

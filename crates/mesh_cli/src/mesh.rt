@@ -1,29 +1,37 @@
 // The top call: one command line, from its words to its exit status.
-use crate::batch::{batch, of_usage};
-use crate::command::answered;
-use crate::place::place_of;
+ghost use Rattle.std.specs.Prelude.{ℕ, List};
+ghost use Rattle.mesh_line.specs.Lines.{IsLine};
+ghost use Rattle.mesh_cli.specs.Fit.{IsFit};
+ghost use Rattle.mesh_cli.specs.Scripts.{BatchEnds, LineAnswers, WordsEnd};
+ghost use Rattle.mesh_cli.specs.Sides.{here, place_or, sides, sinks};
+
+use crate::batch::{batch, is_batch, of_usage};
+use crate::command::line_answer;
 use crate::printing::printed;
 use crate::script::script_of;
 use mesh_house::Warehouse;
 use mesh_io::{Clock, Folder, Sink, Source};
-use mesh_line::{Command, Line, read_words};
-use mesh_list::Memory;
+use mesh_line::{Line, read_words};
+use mesh_list::{Duplicate, Memory};
 use mesh_printed::Refusal;
 use mesh_values::Str;
 use std::alloc::Global;
 use std::thread::Threads;
 
-fn line_answer<R: Threads + Sync, W: Warehouse, F: Folder, C: Clock>(
+fn asked<R: Threads + Sync, W: Warehouse, F: Folder, C: Clock>(
     rt: &R,
     alloc: Global,
     line: &Line,
     folder: &mut F,
     house: &mut W,
     clock: &mut C,
-) -> Result<Str, Refusal> {
-    match place_of(alloc, &line.paths) {
+) -> Result<Str, Refusal>
+    requires { IsFit line.now.command }
+    ensures { LineAnswers here line.now (sides (F.told folder.old) (C.told clock.old) (W.told house.old)) (sides (F.told folder.new) (C.told clock.new) (W.told house.new)) result }
+{
+    match u8::copy_items(alloc, b".") {
         Err(Memory) => Err(Refusal::Memory),
-        Ok(dir) => answered(rt, alloc, &dir, &line.command, folder, house, clock),
+        Ok(dir) => line_answer(rt, alloc, &dir, line, folder, house, clock),
     }
 }
 
@@ -45,7 +53,10 @@ fn scripted<
     input: &mut S,
     out: &mut O,
     err: &mut E,
-) -> u8 {
+) -> u8
+    ensures { BatchEnds (place_or top.now.paths here) (S.told input.old) (S.told input.new) (sides (F.told folder.old) (C.told clock.old) (W.told house.old)) (sides (F.told folder.new) (C.told clock.new) (W.told house.new))
+        (sinks (O.told out.old) (E.told err.old)) (sinks (O.told out.new) (E.told err.new)) result }
+{
     match script_of(alloc, input) {
         Err(refusal) => printed(alloc, Err(refusal), out, err),
         Ok(script) => batch(rt, alloc, script.as_slice(), top, folder, house, clock, out, err),
@@ -62,13 +73,16 @@ fn done<R: Threads + Sync, W: Warehouse, F: Folder, C: Clock, S: Source, O: Sink
     input: &mut S,
     out: &mut O,
     err: &mut E,
-) -> u8 {
-    match line.command {
-        Command::Batch => scripted(rt, alloc, line, folder, house, clock, input, out, err),
-        _ => {
-            let answer = line_answer(rt, alloc, line, folder, house, clock);
-            printed(alloc, answer, out, err)
-        }
+) -> u8
+    requires fit { IsFit line.now.command }
+    ensures { (words : List (List ℕ)) → IsLine words line.now → WordsEnd words (S.told input.old) (S.told input.new) (sides (F.told folder.old) (C.told clock.old) (W.told house.old)) (sides (F.told folder.new) (C.told clock.new) (W.told house.new))
+        (sinks (O.told out.old) (E.told err.old)) (sinks (O.told out.new) (E.told err.new)) result }
+{
+    if is_batch(&line.command) {
+        scripted(rt, alloc, line, folder, house, clock, input, out, err)
+    } else {
+        let answer = asked(rt, alloc, line, folder, house, clock);
+        printed(alloc, answer, out, err)
     }
 }
 
@@ -86,7 +100,10 @@ pub fn mesh<R: Threads + Sync, W: Warehouse, F: Folder, C: Clock, S: Source, O: 
     input: &mut S,
     out: &mut O,
     err: &mut E,
-) -> u8 {
+) -> u8
+    ensures { WordsEnd words.now (S.told input.old) (S.told input.new) (sides (F.told folder.old) (C.told clock.old) (W.told house.old)) (sides (F.told folder.new) (C.told clock.new) (W.told house.new))
+        (sinks (O.told out.old) (E.told err.old)) (sinks (O.told out.new) (E.told err.new)) result }
+{
     match read_words(alloc, words) {
         Err(fault) => printed(alloc, Err(of_usage(fault)), out, err),
         Ok(line) => done(rt, alloc, &line, folder, house, clock, input, out, err),

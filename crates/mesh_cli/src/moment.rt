@@ -1,9 +1,15 @@
 // The moment of a command.
+ghost use Rattle.std.specs.Prelude.{◌≡◌, IfSome};
+ghost use Rattle.mesh_days.specs.Moments.{IsMoment};
+ghost use Rattle.mesh_cli.specs.Sides.{Timed, of_io};
+
 use mesh_io::{Clock, IoFail};
 use mesh_printed::Refusal;
 
 /// What a command tells where the outside failed.
-pub(crate) fn of_io(fail: IoFail) -> Refusal {
+pub(crate) fn of_io(fail: IoFail) -> Refusal
+    ensures { result ≡ of_io fail }
+{
     match fail {
         IoFail::Failed => Refusal::Input,
         IoFail::Memory => Refusal::Memory,
@@ -11,7 +17,10 @@ pub(crate) fn of_io(fail: IoFail) -> Refusal {
 }
 
 /// The moment that the words give, or else the clock's.
-pub(crate) fn moment_of<C: Clock>(given: Option<i64>, clock: &mut C) -> Result<i64, Refusal> {
+pub(crate) fn moment_of<C: Clock>(given: Option<i64>, clock: &mut C) -> Result<i64, Refusal>
+    requires { IfSome given IsMoment }
+    ensures { Timed given (C.told clock.old) (C.told clock.new) result }
+{
     match given {
         Some(t) => Ok(t),
         None => match clock.now() {
