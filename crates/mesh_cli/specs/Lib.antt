@@ -1,6 +1,10 @@
--- Places: where the columns of a table stand, so that a row is read by place.
-pub mod Places
--- Apply: the one list of changes that `apply` makes, and the world that it leaves.
-pub mod Apply
--- Mesh: the words of a command, and how it may end.
-pub mod Mesh
+-- Sides: what lies outside of a command, as it tells of itself.
+pub mod Sides
+-- Asked: what each command makes and gives.
+pub mod Asked
+-- Ends: how a command ends.
+pub mod Ends
+-- Scripts: how the lines of a script end.
+pub mod Scripts
+-- Fit: what the values of a command line keep.
+pub mod Fit

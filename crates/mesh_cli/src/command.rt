@@ -1,114 +1,187 @@
-// The top call: one command, from its words to its exit status.
-ghost use Rattle.std.specs.Prelude.{◌≡◌, ◌↔◌, ◌⊎◌, ◌≤◌, true, false};
-ghost use Rattle.mesh_list.specs.Counts.{Rose};
-ghost use Rattle.mesh_list.specs.Keyed.{ascends};
-ghost use Rattle.mesh_values.specs.Names.{name_cmp};
-ghost use Rattle.mesh_picked.specs.Value.{model_name};
-ghost use Rattle.mesh_house.specs.Runs.{Ran, Stopped};
-ghost use Rattle.mesh_fault_text.specs.Lines.{fault_line};
-ghost use Rattle.mesh_cli.specs.Apply.{changes};
-ghost use Rattle.mesh_cli.specs.Mesh.{is_apply, Applied, Halted, Printed, IsRefused, IsCut};
+// One command, over the folder, the clock and the warehouse.
+ghost use Rattle.std.specs.Prelude.{ℕ, true, false, IfSome, List};
+ghost use Rattle.std.specs.Option.{option_copied};
+ghost use Rattle.mesh_days.specs.Moments.{IsMoment};
+ghost use Rattle.mesh_io.specs.Told.{FolderTold};
+ghost use Rattle.mesh_line.specs.declared.line.Command.TheVariants as asked;
+ghost use Rattle.mesh_cli.specs.Ends.{Commanded};
+ghost use Rattle.mesh_cli.specs.Fit.{IsCrew, IsFit};
+ghost use Rattle.mesh_cli.specs.Scripts.{LineAnswers};
+ghost use Rattle.mesh_cli.specs.Sides.{sides};
 
-use crate::apply::apply;
-use mesh_fault_text::fault_line;
-use mesh_files::LoadFault;
-use mesh_house::{Warehouse, WhFail};
-use mesh_io::{Clock, Folder, IoFail, Sink, Source};
-use mesh_list::Sorted;
-use mesh_picked::{Model, load};
-use mesh_tokens::FaultKind;
+use crate::moment::moment_of;
+use crate::place::place_or;
+use mesh_applying::{apply, migrate, plan, run};
+use mesh_asking::{evaluate, fetchdf};
+use mesh_base::Restate;
+use mesh_house::Warehouse;
+use mesh_io::{Clock, Folder};
+use mesh_line::{Command, Line};
+use mesh_list::Memory;
+use mesh_printed::Refusal;
+use mesh_upkeep::{ingest, invalidate, janitor};
 use mesh_values::Str;
 use std::alloc::Global;
 use std::thread::Threads;
 
-fn is_apply(words: &[Str]) -> bool
-    ensures { result ≡ is_apply words.now }
-{
-    match words {
-        [word] => word.as_slice().cmp(&b"apply".as_slice()).is_eq(),
-        _ => false,
-    }
-}
-
-// The exit status after the project was read.
-fn applied<W: Warehouse>(alloc: Global, models: &Sorted<Model>, house: &mut W) -> u8
-    ensures known { (result ≡ 0) ⊎ (result ≡ 3) ⊎ (result ≡ 4) }
-    ensures done { result ≡ 0 → Ran (λ w. changes models.now) (W.told house.old) (W.told house.new) }
-    ensures ascending { ascends name_cmp model_name models.now ≡ true }
-    ensures stopped { 3 ≤ result → Stopped (λ w. changes models.now) (W.told house.old) (W.told house.new) }
-    ensures failed { result ≡ 3 → Rose (W.told house.old).faults (W.told house.new).faults }
-{
-    let _ = models.as_slice();
-    match apply(alloc, models, house) {
-        Ok(()) => 0,
-        Err(WhFail::Failed) => 3,
-        Err(WhFail::Memory) => 4,
-    }
-}
-
-// The exit status once a fault's line was printed.
-fn refused<E: Sink>(alloc: Global, err: &mut E, file: &[u8], at: u64, kind: &FaultKind) -> u8
-    ensures known { (result ≡ 1) ⊎ (result ≡ 4) ⊎ (result ≡ 6) }
-    ensures printed { Printed (fault_line file.now at kind.now) result (E.told err.old) (E.told err.new) }
-{
-    let Ok(line) = fault_line(alloc, file, at, kind) else {
-        return 4;
-    };
-    match err.put(line.as_slice()) {
-        Ok(()) => 1,
-        Err(IoFail::Failed) => 6,
-        Err(IoFail::Memory) => 4,
-    }
-}
-
-/// Runs one command: the words are exactly `apply`. The folder `.` holds the project, and the warehouse gets one table
-/// per model and one view of production at each. The answer is the exit status: 0 where the command was done, 1 where
-/// the project breaks a rule, which is printed on `err`, 2 for other words, 3 for a fault of the warehouse, 4 for want of
-/// memory, 5 for a fault of the folder and 6 for one of `err`. Nothing else is printed.
-pub fn mesh<R: Threads + Sync, W: Warehouse, F: Folder, C: Clock, S: Source, O: Sink, E: Sink>(
-    _rt: &R,
+fn planned<W: Warehouse, F: Folder, C: Clock>(
     alloc: Global,
-    words: &[Str],
+    dir: &Str,
+    env: &Str,
+    moment: Option<i64>,
+    again: Option<&Restate>,
     folder: &mut F,
     house: &mut W,
-    _clock: &mut C,
-    _input: &mut S,
-    _out: &mut O,
-    err: &mut E,
-) -> u8
-    ensures statuses { result ≤ 6 }
-
-    // Done: exactly the project's changes were made, and each view shows its model's value.
-    ensures done { result ≡ 0 → Applied (F.told folder.old).files (W.told house.old) (W.told house.new) }
-
-    // Refused, and the house is as it was: the project breaks a rule, whose line was printed, or the words aren't `apply`.
-    ensures broken { result ≡ 1 → IsRefused (F.told folder.old).files (E.told err.old) (E.told err.new) }
-    ensures words { (result ≡ 2) ↔ (is_apply words.now ≡ false) }
-    ensures unchanged { (result ≡ 1) ⊎ (result ≡ 2) ⊎ (result ≡ 5) ⊎ (result ≡ 6) → W.told house.new ≡ W.told house.old }
-
-    // Stopped by the house, the folder or `err`, whose count rose, or by want of memory.
-    ensures failed { result ≡ 3 → Rose (W.told house.old).faults (W.told house.new).faults }
-    ensures halted { result ≡ 3 → Halted (F.told folder.old).files (W.told house.old) (W.told house.new) }
-    ensures wanting { result ≡ 4 → (W.told house.new ≡ W.told house.old) ⊎ Halted (F.told folder.old).files (W.told house.old) (W.told house.new) }
-    ensures folder { result ≡ 5 → Rose (F.told folder.old).faults (F.told folder.new).faults }
-    ensures unprinted { result ≡ 6 → Rose (E.told err.old).faults (E.told err.new).faults }
-    ensures cut { result ≡ 6 → IsCut (F.told folder.old).files (E.told err.old) (E.told err.new) }
-    ensures unsaid { result ≡ 4 → (E.told err.new ≡ E.told err.old) ⊎ IsCut (F.told folder.old).files (E.told err.old) (E.told err.new) }
-
-    // What the command doesn't need is as it was.
-    ensures unread { result ≡ 2 → F.told folder.new ≡ F.told folder.old }
-    ensures clock { C.told _clock.new ≡ C.told _clock.old }
-    ensures input { S.told _input.new ≡ S.told _input.old }
-    ensures out { O.told _out.new ≡ O.told _out.old }
-    ensures err { (result ≡ 0) ⊎ (result ≡ 2) ⊎ (result ≡ 3) ⊎ (result ≡ 5) → E.told err.new ≡ E.told err.old }
+    clock: &mut C,
+) -> Result<Str, Refusal>
+    requires { IfSome moment IsMoment }
+    ensures { (workers : ℕ) → Commanded dir.now (asked.Plan env.now false workers moment (option_copied again.entry)) (sides (F.told folder.old) (C.told clock.old) (W.told house.old)) (sides (F.told folder.new) (C.told clock.new) (W.told house.new)) result }
 {
-    if !is_apply(words) {
-        return 2;
+    match moment_of(moment, clock) {
+        Err(refusal) => Err(refusal),
+        Ok(t) => plan(alloc, folder, house, dir, env, t, again),
     }
-    match load(alloc, folder) {
-        Ok(models) => applied(alloc, &models, house),
-        Err(LoadFault::Fault { file, at, kind }) => refused(alloc, err, file.as_slice(), at, &kind),
-        Err(LoadFault::Folder) => 5,
-        Err(LoadFault::Memory) => 4,
+}
+
+fn applied<R: Threads + Sync, W: Warehouse, F: Folder, C: Clock>(
+    rt: &R,
+    alloc: Global,
+    dir: &Str,
+    env: &Str,
+    workers: u32,
+    moment: Option<i64>,
+    again: Option<&Restate>,
+    folder: &mut F,
+    house: &mut W,
+    clock: &mut C,
+) -> Result<Str, Refusal>
+    requires crew { IsCrew workers }
+    requires moment { IfSome moment IsMoment }
+    ensures apply { Commanded dir.now (asked.Apply env.now workers moment (option_copied again.entry)) (sides (F.told folder.old) (C.told clock.old) (W.told house.old)) (sides (F.told folder.new) (C.told clock.new) (W.told house.new)) result }
+    ensures plan { Commanded dir.now (asked.Plan env.now true workers moment (option_copied again.entry)) (sides (F.told folder.old) (C.told clock.old) (W.told house.old)) (sides (F.told folder.new) (C.told clock.new) (W.told house.new)) result }
+{
+    match moment_of(moment, clock) {
+        Err(refusal) => Err(refusal),
+        Ok(t) => apply(rt, alloc, folder, house, dir, env, t, again, workers),
+    }
+}
+
+fn ran<R: Threads + Sync, W: Warehouse, C: Clock>(
+    rt: &R,
+    alloc: Global,
+    env: &Str,
+    workers: u32,
+    moment: Option<i64>,
+    house: &mut W,
+    clock: &mut C,
+) -> Result<Str, Refusal>
+    requires crew { IsCrew workers }
+    requires moment { IfSome moment IsMoment }
+    ensures { (dir : List ℕ) (f : FolderTold) → Commanded dir (asked.Run env.now workers moment) (sides f (C.told clock.old) (W.told house.old)) (sides f (C.told clock.new) (W.told house.new)) result }
+{
+    match moment_of(moment, clock) {
+        Err(refusal) => Err(refusal),
+        Ok(t) => run(rt, alloc, house, env, t, workers),
+    }
+}
+
+fn swept<W: Warehouse, C: Clock>(
+    alloc: Global,
+    moment: Option<i64>,
+    house: &mut W,
+    clock: &mut C,
+) -> Result<Str, Refusal>
+    requires { IfSome moment IsMoment }
+    ensures { (dir : List ℕ) (f : FolderTold) → Commanded dir (asked.Janitor moment) (sides f (C.told clock.old) (W.told house.old)) (sides f (C.told clock.new) (W.told house.new)) result }
+{
+    match moment_of(moment, clock) {
+        Err(refusal) => Err(refusal),
+        Ok(t) => janitor(alloc, house, t),
+    }
+}
+
+/// A command other than `batch`, for the project in `dir`: what it prints, or why it isn't done.
+pub(crate) fn answered<R: Threads + Sync, W: Warehouse, F: Folder, C: Clock>(
+    rt: &R,
+    alloc: Global,
+    dir: &Str,
+    command: &Command,
+    folder: &mut F,
+    house: &mut W,
+    clock: &mut C,
+) -> Result<Str, Refusal>
+    requires { IsFit command.now }
+    ensures { Commanded dir.now command.now (sides (F.told folder.old) (C.told clock.old) (W.told house.old)) (sides (F.told folder.new) (C.told clock.new) (W.told house.new)) result }
+{
+    match command {
+        Command::Plan {
+            env,
+            auto_apply: false,
+            moment,
+            again,
+            ..
+        } => planned(alloc, dir, env, *moment, again.as_ref(), folder, house, clock),
+        Command::Plan {
+            env,
+            auto_apply: true,
+            workers,
+            moment,
+            again,
+        }
+        | Command::Apply {
+            env,
+            workers,
+            moment,
+            again,
+        } => applied(
+            rt,
+            alloc,
+            dir,
+            env,
+            *workers,
+            *moment,
+            again.as_ref(),
+            folder,
+            house,
+            clock,
+        ),
+        Command::Run {
+            env,
+            workers,
+            moment,
+        } => ran(rt, alloc, env, *workers, *moment, house, clock),
+        Command::Evaluate {
+            model,
+            env,
+            first,
+            last,
+        } => evaluate(alloc, house, model, env, *first, *last),
+        Command::Fetchdf { query, env } => fetchdf(alloc, house, query, env),
+        Command::Ingest { name, file, append } => {
+            ingest(alloc, folder, house, dir, name, file, *append)
+        }
+        Command::Janitor { moment } => swept(alloc, *moment, house, clock),
+        Command::Invalidate { env } => invalidate(alloc, house, env),
+        Command::Migrate => migrate(alloc, house),
+        Command::Batch => Err(Refusal::Usage),
+    }
+}
+
+/// A command line other than that of a batch, over its own folder or else this one.
+pub(crate) fn line_answer<R: Threads + Sync, W: Warehouse, F: Folder, C: Clock>(
+    rt: &R,
+    alloc: Global,
+    dir: &Str,
+    line: &Line,
+    folder: &mut F,
+    house: &mut W,
+    clock: &mut C,
+) -> Result<Str, Refusal>
+    requires { IsFit line.now.command }
+    ensures { LineAnswers dir.now line.now (sides (F.told folder.old) (C.told clock.old) (W.told house.old)) (sides (F.told folder.new) (C.told clock.new) (W.told house.new)) result }
+{
+    match place_or(&line.paths, dir) {
+        Err(Memory) => Err(Refusal::Memory),
+        Ok(dir) => answered(rt, alloc, &dir, &line.command, folder, house, clock),
     }
 }

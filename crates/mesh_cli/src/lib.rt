@@ -1,11 +1,16 @@
-//! The top call of `mesh`: it reads the words, the project's folder and the warehouse, makes the changes of one command
-//! and answers a status. Its contract is that of `mesh`: where it answers 0, exactly the changes of the project were
-//! made, and each production view shows what its model gives from scratch; where it answers 1, the line of the files'
-//! first fault was printed. It stands on `mesh_io`, `mesh_picked`, `mesh_fault_text` and `mesh_house`.
+//! The top call of `mesh`: it reads the words, runs the command over the project's folder and the warehouse, prints, and answers
+//! a status. Its contract is that of `mesh`, and of `batch` for the lines of a script: what each status means of the warehouse,
+//! of what was printed, and of the outside. It stands on `mesh_line` for words, on `mesh_applying`, `mesh_asking` and
+//! `mesh_upkeep` for the commands, and on `mesh_printed` for what is printed.
 #![tactic(auto)]
 
-mod apply;
+mod batch;
 mod command;
-mod pick;
+mod mesh;
+mod moment;
+mod place;
+mod printing;
+mod script;
 
-pub use command::mesh;
+pub use batch::batch;
+pub use mesh::mesh;

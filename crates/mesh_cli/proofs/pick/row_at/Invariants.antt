@@ -1,6 +1,0 @@
-use Rattle.std.proofs.Common.{◌≡◌, take}
-use Rattle.mesh_cli.specs.Places.{row_at}
-use Rattle.mesh_cli.proofs.pick.row_at.Given as goal
-
-abbrev pub invariant-loop-place : goal.invariant-loop-place
-invariant-loop-place l = l.made.items ≡ row_at l.row (take l.place-index l.places)
