@@ -62,6 +62,13 @@ pub fn failing(kind: &Str, number: u64) -> Result<Option<(Call, u64)>, Trouble> 
     Ok(Some((call_of(kind)?, number)))
 }
 
+fn other_unit(unit: Unit) -> Unit {
+    match unit {
+        Unit::Hour => Unit::Day,
+        Unit::Day => Unit::Hour,
+    }
+}
+
 /// The first snapshot has another definition, or parents that aren't there.
 fn change_snapshot(alloc: Global, world: &mut World, parents: bool) -> Result<(), Trouble> {
     let snapshots = world.book.snapshots.copy()?;
@@ -70,7 +77,7 @@ fn change_snapshot(alloc: Global, world: &mut World, parents: bool) -> Result<()
         return Err(Trouble::Script);
     };
     if !parents {
-        first.own.unit = Unit::Hour;
+        first.own.unit = other_unit(first.own.unit);
     } else {
         let mut refs = Seq::new(alloc);
         for parent in first.parents.as_slice() {
@@ -98,7 +105,7 @@ fn repeat_version(world: &mut World) -> Result<(), Trouble> {
     Ok(())
 }
 
-/// The first environment has a former list, and the new list hasn't the parents of its entries.
+/// The first environment has the first entry of its list alone, and not its parents.
 fn orphan(alloc: Global, world: &mut World) -> Result<(), Trouble> {
     let environments = world.book.environments.copy()?;
     let mut all = environments.into_vec();
@@ -119,6 +126,7 @@ fn change_book(stage: &mut Stage, what: &Str) -> Result<(), Trouble> {
     let mut world = stage.house.world().copy()?;
     match what.as_slice() {
         b"old" => world.book.version = 1,
+        b"present" => world.book.version = 2,
         b"unknown" => world.book.version = 3,
         b"parent" => change_snapshot(stage.alloc, &mut world, true)?,
         b"definition" => change_snapshot(stage.alloc, &mut world, false)?,
@@ -160,6 +168,10 @@ pub fn arrange(stage: &mut Stage, kind: &Str, words: &[Str]) -> Result<(), Troub
             stage.moment = moment_of(moment.as_slice()).ok_or(Trouble::Script)?;
         }
         (b"input", [path]) => stage.input = stage.file(path)?,
+        (b"input", [path, length]) => {
+            let bytes = stage.file(path)?;
+            stage.input = padded(stage.alloc, &bytes, number_of(length)?)?;
+        }
         (b"empty", []) => stage.house = MemHouse::new(stage.alloc),
         (b"book", [what]) => change_book(stage, what)?,
         (b"fail", [call, number]) => stage.failing = failing(call, number_of(number)?)?,

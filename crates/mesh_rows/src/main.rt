@@ -10,15 +10,18 @@
 //! - `cut PATH FILE N` gives it a file with the first N bytes of `rows/NAME/FILE`, and `pad PATH FILE N` one with line feeds
 //!   behind them, N bytes in all;
 //! - `copies N FILE` gives it the files `models/0.sql`, `models/1.sql` and so on, N in all;
-//! - `clock MOMENT` sets the clock, `input FILE` is what commands read as their input, and `empty` empties the warehouse;
-//! - `book old` makes the book one of version 1, `book definition` gives its first snapshot another definition, and
-//!   `book unknown`, `book parent`, `book twice` and `book orphan` break it: its version, a parent of its first snapshot,
-//!   its first version, which stands twice, or the list of its first environment, of which one entry is left;
+//! - `clock MOMENT` sets the clock, and `empty` empties the warehouse; `input FILE` is what commands read as their input,
+//!   and `input FILE N` the same with line feeds behind it, N bytes in all;
+//! - `book old` makes the book one of version 1 and `book present` one of version 2; `book definition` gives its first
+//!   snapshot another definition, the second time the former one; `book unknown`, `book parent`, `book twice` and
+//!   `book orphan` break it: its version, a parent of its first snapshot, its first version, which stands twice, or the list
+//!   of its first environment, of which one entry is left;
 //! - `fail CALL N` has one call of each of the next commands fail, counted from 0 in each; CALL is `before` or `after` for a
 //!   change that fails before or after its effect, `house` for another call of the warehouse, or `folder`, `clock`, `input`,
 //!   `out` or `err`; `fail` alone has none fail;
-//! - `cuts PATH WORD..` runs a command with each proper prefix of the project's file PATH in its place, each over the world
-//!   as it is; it counts the cuts and those that are refused with one line of that file and no change, and prints the others;
+//! - `cuts PATH WORD..` runs a command with the project's file PATH whole and with each proper prefix in its place, each over
+//!   the world as it is; it counts the cuts, those that are refused with one line of that file and no change, and those that
+//!   end as with the whole file, and prints the others;
 //! - `stops CALL WORD..` runs a command, and then again from the world before with each call of that kind failing in turn,
 //!   each time followed by the whole command, and prints both statuses, whether the views show the same, and the second text;
 //!   at the end the world is as it was.

@@ -82,8 +82,39 @@ fn outcome_text(alloc: Global, outcome: &Outcome) -> Result<Vec<u8>, Trouble> {
     Ok(text)
 }
 
-/// Runs a command over the same world with a file cut at each byte, and adds the cuts that aren't refused in the file.
-/// Answers how many cuts there were, and how many were refused in it.
+/// How many cuts of a file there were, how many were refused in it, and how many have the outcome of the whole file.
+#[derive(Drop)]
+struct Tally {
+    all: u64,
+    refused: u64,
+    same: u64,
+}
+
+impl Tally {
+    /// Adds a cut. One of another outcome is added to the turns.
+    fn add(
+        &mut self,
+        turns: &mut Turns,
+        path: &Str,
+        whole: &Outcome,
+        outcome: &Outcome,
+    ) -> Result<(), Trouble> {
+        let number = self.all;
+        self.all = number.saturating_add(1);
+        if is_refused(outcome, path) {
+            self.refused = self.refused.saturating_add(1);
+            return turns.end();
+        }
+        if *outcome == *whole {
+            self.same = self.same.saturating_add(1);
+            return turns.end();
+        }
+        let text = outcome_text(turns.alloc, outcome)?;
+        turns.add(number, text)
+    }
+}
+
+/// Runs a command over the same world with a file whole and cut at each byte.
 fn run_cuts<R: Threads + Sync>(
     rt: &R,
     stage: &mut Stage,
@@ -91,25 +122,25 @@ fn run_cuts<R: Threads + Sync>(
     bytes: &Str,
     words: &[Str],
     turns: &mut Turns,
-) -> Result<(u64, u64), Trouble> {
+) -> Result<Tally, Trouble> {
     let world = stage.house.world().copy()?;
-    let (mut all, mut refused) = (0u64, 0u64);
+    let whole = stage.run(rt, words)?;
+    let mut tally = Tally {
+        all: 0,
+        refused: 0,
+        same: 0,
+    };
     let mut cut = Vec::new(stage.alloc);
     for byte in bytes.as_slice() {
+        stage.restore(&world)?;
         stage.write(path.copy()?, u8::copy_items(stage.alloc, cut.as_slice())?)?;
         let outcome = stage.run(rt, words)?;
-        if is_refused(&outcome, path) {
-            refused = refused.saturating_add(1);
-            turns.end()?;
-        } else {
-            turns.add(all, outcome_text(stage.alloc, &outcome)?)?;
-        }
-        all = all.saturating_add(1);
+        tally.add(turns, path, &whole, &outcome)?;
         cut.push(*byte)?;
-        stage.restore(&world)?;
     }
     turns.end()?;
-    Ok((all, refused))
+    stage.restore(&world)?;
+    Ok(tally)
 }
 
 /// Runs a command with each proper prefix of a file in its place, and gives the project the whole file back.
@@ -124,9 +155,10 @@ pub fn cuts<R: Threads + Sync>(
     place.extend_from_slice(path.as_slice())?;
     let bytes = stage.file(&Seq::from_vec(place))?;
     let mut turns = Turns::new(stage.alloc);
-    let (all, refused) = run_cuts(rt, stage, path, &bytes, words, &mut turns)?;
+    let tally = run_cuts(rt, stage, path, &bytes, words, &mut turns)?;
     stage.write(path.copy()?, bytes)?;
-    let head = format!(in stage.alloc; "{all} cuts, {refused} of them refused in this file\n")?;
+    let (all, refused, same) = (tally.all, tally.refused, tally.same);
+    let head = format!(in stage.alloc; "{all} cuts, {refused} refused in this file, {same} as the whole file\n")?;
     put(report, head.as_bytes())?;
     put(report, turns.report.as_slice())
 }

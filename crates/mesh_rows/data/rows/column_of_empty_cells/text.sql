@@ -1,0 +1,1 @@
+MODEL (name a.f, kind FULL, columns (e TEXT)); SELECT e FROM a.s

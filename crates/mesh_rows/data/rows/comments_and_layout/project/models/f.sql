@@ -1,0 +1,13 @@
+/* SELECT 1; */ MODEL
+(
+  NAME A.F -- (
+  , KIND full,
+)
+;
+
+select
+	V,
+from/**/a
+.s
+;
+-- x

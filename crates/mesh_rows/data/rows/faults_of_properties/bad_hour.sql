@@ -1,0 +1,1 @@
+MODEL (name a.f, kind FULL, cron '0 24 * * *'); SELECT v FROM a.s

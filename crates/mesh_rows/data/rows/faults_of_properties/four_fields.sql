@@ -1,0 +1,1 @@
+MODEL (name a.f, kind FULL, cron '0 0 * *'); SELECT v FROM a.s

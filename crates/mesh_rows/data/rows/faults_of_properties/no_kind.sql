@@ -1,0 +1,1 @@
+MODEL (name a.f, kind HALF); SELECT v FROM a.s

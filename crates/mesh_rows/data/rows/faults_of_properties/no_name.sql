@@ -1,0 +1,1 @@
+MODEL (kind FULL); SELECT v FROM a.s

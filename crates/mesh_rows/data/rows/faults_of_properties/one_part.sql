@@ -1,0 +1,1 @@
+MODEL (name f, kind FULL); SELECT v FROM a.s

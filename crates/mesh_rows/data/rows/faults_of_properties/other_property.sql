@@ -1,0 +1,1 @@
+MODEL (name a.f, kind FULL, partitioned_by k); SELECT v FROM a.s

@@ -1,0 +1,1 @@
+MODEL (name a.f, kind FULL, columns (v FLOAT)); SELECT v FROM a.s

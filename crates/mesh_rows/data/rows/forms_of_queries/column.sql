@@ -1,0 +1,1 @@
+MODEL (name a.f, kind FULL); SELECT w FROM a.s

@@ -1,0 +1,1 @@
+MODEL (name a.f, kind FULL); SELECT DISTINCT v FROM a.s

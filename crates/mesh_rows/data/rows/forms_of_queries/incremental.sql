@@ -1,0 +1,1 @@
+MODEL (name a.f, kind INCREMENTAL_BY_TIME_RANGE (time_column d), start '2024-01-01'); SELECT v FROM a.s

@@ -1,0 +1,1 @@
+MODEL (name a.f); SELECT v FROM a.s

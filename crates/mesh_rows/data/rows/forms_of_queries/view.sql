@@ -1,0 +1,1 @@
+MODEL (name a.f, kind VIEW); SELECT v FROM a.s

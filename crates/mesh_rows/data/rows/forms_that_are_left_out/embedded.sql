@@ -1,0 +1,1 @@
+MODEL (name a.f, kind embedded); SELECT v FROM a.s

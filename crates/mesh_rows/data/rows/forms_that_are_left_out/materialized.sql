@@ -1,0 +1,1 @@
+MODEL (name a.f, kind VIEW (materialized true)); SELECT v FROM a.s

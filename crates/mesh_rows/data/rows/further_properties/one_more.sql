@@ -1,0 +1,1 @@
+MODEL (name a.f, kind FULL, columns (v INT, k TEXT)); SELECT v FROM a.s

@@ -1,0 +1,1 @@
+MODEL (name a.f, kind FULL, columns (v TEXT)); SELECT v FROM a.s

@@ -1,0 +1,1 @@
+Model ( Name a . F , Kind Full ) ; Select V From a . s

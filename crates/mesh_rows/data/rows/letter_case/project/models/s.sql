@@ -1,0 +1,2 @@
+model(NAME A.S,KIND seed(PATH '../seeds/s.csv'),
+	COLUMNS(K text,V int)) ;

@@ -1,0 +1,1 @@
+MODEL (name a.s, kind SEED, columns (k TEXT, v INT));

@@ -1,0 +1,1 @@
+MODEL (name a.s, kind SEED (path '../seeds/S.csv'), columns (k TEXT, v INT));

@@ -1,0 +1,2 @@
+MODEL (name a.s, kind SEED (path '../seeds/s.csv'), columns (k TEXT, v INT));
+SELECT v FROM a.s
