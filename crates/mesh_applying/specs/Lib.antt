@@ -6,5 +6,7 @@ pub mod Planning
 pub mod Applying
 -- Making: what is left of a house once the changes of a plan were to be made.
 pub mod Making
+-- Listing: the models of a plan with their objects, by name.
+pub mod Listing
 -- Migrating: the same of moving a book.
 pub mod Migrating

@@ -1,4 +1,22 @@
-// A plan is made whole: its own changes, and then those that give its environment its views.
+// A plan is made whole: its own changes, and then, where it isn't a run's, those that give its environment its views.
+ghost use Rattle.std.specs.Prelude.{◌≡◌, ◌≤◌, ◌+◌, ℕ, ℤ, true, List, IfOk, IfErr, IsTrue};
+ghost use Rattle.std.specs.declared.option.Option.{Option};
+ghost use Rattle.mesh_days.specs.Moments.{IsMoment};
+ghost use Rattle.mesh_base.specs.declared.forgets.Restate.{Restate};
+ghost use Rattle.mesh_base.specs.declared.snapshots.Node.{Node};
+ghost use Rattle.mesh_rules.specs.Proper.{is_proper};
+ghost use Rattle.mesh_book.specs.WellFormed.{is_moment};
+ghost use Rattle.mesh_changes.specs.Changes.{objects_by_name, refs_by_name};
+ghost use Rattle.mesh_changes.specs.Commands.{Apply, RunAll, is_present};
+ghost use Rattle.mesh_changes.specs.Environments.{env_at};
+ghost use Rattle.mesh_exec.specs.Executable.{IsExecutable};
+ghost use Rattle.mesh_exec.specs.Planned.{planned_models};
+ghost use Rattle.mesh_plan.specs.Plans.{IsPlanOf, promised};
+ghost use Rattle.mesh_plan.specs.Running.{IsRunIn};
+ghost use Rattle.mesh_promote.specs.Promotion.{paired, promotion};
+ghost use Rattle.mesh_printed.specs.declared.refusals.Refusal.TheVariants.{Memory as NoMemory};
+ghost use Rattle.mesh_applying.specs.Making.{MakesAll, Promotes};
+
 use crate::faults::of_exec;
 use crate::listing::{Listing, listing};
 use mesh_book::Book;
@@ -14,7 +32,10 @@ use std::alloc::Global;
 use std::thread::Threads;
 
 /// The sum of two counts; one that doesn't fit is as if memory were wanting, which no list of changes reaches.
-fn sum(a: u64, b: u64) -> Result<u64, Refusal> {
+fn sum(a: u64, b: u64) -> Result<u64, Refusal>
+    ensures ok { IfOk result (λ n. n ≡ a + b) }
+    ensures err { IfErr result (λ r. r ≡ NoMemory) }
+{
     match a.checked_add(b) {
         Some(sum) => Ok(sum),
         None => Err(Refusal::Memory),
@@ -28,7 +49,10 @@ fn promoted<W: Warehouse>(
     p: &Plan,
     listing: &Listing,
     done: u64,
-) -> Result<u64, Refusal> {
+) -> Result<u64, Refusal>
+    requires { IsTrue (is_moment p.now.moment) }
+    ensures { Promotes (promotion b.now p.now.env listing.now.list listing.now.objects p.now.moment) done (W.told house.old) (W.told house.new) result }
+{
     match promote(alloc, house, b, &p.env, &listing.list, &listing.objects, p.moment) {
         Err(fail) => Err(as_refusal(fail)),
         Ok(made) => sum(done, made),
@@ -43,7 +67,15 @@ fn made<R: Threads + Sync, W: Warehouse>(
     p: &Plan,
     listing: &Listing,
     workers: u32,
-) -> Result<u64, Refusal> {
+) -> Result<u64, Refusal>
+    requires workers { (1 ≤ workers) × (workers ≤ 64) }
+    requires present { is_present b.now ≡ true }
+    requires list { listing.now.list ≡ refs_by_name (planned_models p.now) }
+    requires objects { paired listing.now.list listing.now.objects ≡ objects_by_name (planned_models p.now) }
+    requires fit { IsExecutable p.now }
+    requires plan { (nodes : List Node) × (env : List ℕ) × (t : ℤ) × (again : Option Restate) × IsPlanOf b.now nodes env t again p.now }
+    ensures { MakesAll p.now (Apply (promised p.now)) b.now (W.told house.old) (W.told house.new) result }
+{
     match execute(rt, alloc, p, workers, &OpenGate, house) {
         Err(fault) => Err(of_exec(alloc, fault)),
         Ok(done) => promoted(alloc, house, b, p, listing, done.changes),
@@ -58,9 +90,34 @@ pub(crate) fn make_plan<R: Threads + Sync, W: Warehouse>(
     b: &Book,
     p: &Plan,
     workers: u32,
-) -> Result<u64, Refusal> {
+) -> Result<u64, Refusal>
+    requires workers { (1 ≤ workers) × (workers ≤ 64) }
+    requires present { is_present b.now ≡ true }
+    requires plan { (nodes : List Node) × (env : List ℕ) × (t : ℤ) × (again : Option Restate) × IsMoment t × (is_proper p.now.project.nodes ≡ true) × IsPlanOf b.now nodes env t again p.now }
+    ensures { MakesAll p.now (Apply (promised p.now)) b.now (W.told house.old) (W.told house.new) result }
+{
     match listing(alloc, p) {
         Err(Memory) => Err(Refusal::Memory),
         Ok(listing) => made(rt, alloc, house, b, p, &listing, workers),
+    }
+}
+
+/// All changes of a run's plan are made, and their number is answered.
+pub(crate) fn make_run<R: Threads + Sync, W: Warehouse>(
+    rt: &R,
+    alloc: Global,
+    house: &mut W,
+    b: &Book,
+    p: &Plan,
+    workers: u32,
+) -> Result<u64, Refusal>
+    requires workers { (1 ≤ workers) × (workers ≤ 64) }
+    requires present { is_present b.now ≡ true }
+    requires plan { (env : List ℕ) × (t : ℤ) × IsMoment t × (is_proper p.now.project.nodes ≡ true) × IsRunIn b.now env (env_at b.now env) t p.now }
+    ensures { MakesAll p.now (RunAll (promised p.now)) b.now (W.told house.old) (W.told house.new) result }
+{
+    match execute(rt, alloc, p, workers, &OpenGate, house) {
+        Err(fault) => Err(of_exec(alloc, fault)),
+        Ok(done) => Ok(done.changes),
     }
 }
