@@ -1,20 +1,13 @@
 // A plan is made whole: its own changes, and then, where it isn't a run's, those that give its environment its views.
-ghost use Rattle.std.specs.Prelude.{◌≡◌, ◌≤◌, ◌+◌, ℕ, ℤ, true, List, IfOk, IfErr, IsTrue};
-ghost use Rattle.std.specs.declared.option.Option.{Option};
-ghost use Rattle.mesh_days.specs.Moments.{IsMoment};
-ghost use Rattle.mesh_base.specs.declared.forgets.Restate.{Restate};
-ghost use Rattle.mesh_base.specs.declared.snapshots.Node.{Node};
-ghost use Rattle.mesh_rules.specs.Proper.{is_proper};
+ghost use Rattle.std.specs.Prelude.{◌≡◌, ◌≤◌, ◌+◌, true, IfOk, IfErr, IsTrue};
 ghost use Rattle.mesh_book.specs.WellFormed.{is_moment};
 ghost use Rattle.mesh_changes.specs.Changes.{objects_by_name, refs_by_name};
 ghost use Rattle.mesh_changes.specs.Commands.{Apply, RunAll, is_present};
-ghost use Rattle.mesh_changes.specs.Environments.{env_at};
-ghost use Rattle.mesh_exec.specs.Executable.{IsExecutable};
 ghost use Rattle.mesh_exec.specs.Planned.{planned_models};
-ghost use Rattle.mesh_plan.specs.Plans.{IsPlanOf, promised};
-ghost use Rattle.mesh_plan.specs.Running.{IsRunIn};
+ghost use Rattle.mesh_plan.specs.Plans.{promised};
 ghost use Rattle.mesh_promote.specs.Promotion.{paired, promotion};
 ghost use Rattle.mesh_printed.specs.declared.refusals.Refusal.TheVariants.{Memory as NoMemory};
+ghost use Rattle.mesh_applying.specs.Made.{IsPlanFor, IsRunFor};
 ghost use Rattle.mesh_applying.specs.Making.{MakesAll, Promotes};
 
 use crate::faults::of_exec;
@@ -72,8 +65,7 @@ fn made<R: Threads + Sync, W: Warehouse>(
     requires present { is_present b.now ≡ true }
     requires list { listing.now.list ≡ refs_by_name (planned_models p.now) }
     requires objects { paired listing.now.list listing.now.objects ≡ objects_by_name (planned_models p.now) }
-    requires fit { IsExecutable p.now }
-    requires plan { (nodes : List Node) × (env : List ℕ) × (t : ℤ) × (again : Option Restate) × IsPlanOf b.now nodes env t again p.now }
+    requires plan { IsPlanFor b.now p.now }
     ensures { MakesAll p.now (Apply (promised p.now)) b.now (W.told house.old) (W.told house.new) result }
 {
     match execute(rt, alloc, p, workers, &OpenGate, house) {
@@ -93,7 +85,7 @@ pub(crate) fn make_plan<R: Threads + Sync, W: Warehouse>(
 ) -> Result<u64, Refusal>
     requires workers { (1 ≤ workers) × (workers ≤ 64) }
     requires present { is_present b.now ≡ true }
-    requires plan { (nodes : List Node) × (env : List ℕ) × (t : ℤ) × (again : Option Restate) × IsMoment t × (is_proper p.now.project.nodes ≡ true) × IsPlanOf b.now nodes env t again p.now }
+    requires plan { IsPlanFor b.now p.now }
     ensures { MakesAll p.now (Apply (promised p.now)) b.now (W.told house.old) (W.told house.new) result }
 {
     match listing(alloc, p) {
@@ -113,7 +105,7 @@ pub(crate) fn make_run<R: Threads + Sync, W: Warehouse>(
 ) -> Result<u64, Refusal>
     requires workers { (1 ≤ workers) × (workers ≤ 64) }
     requires present { is_present b.now ≡ true }
-    requires plan { (env : List ℕ) × (t : ℤ) × IsMoment t × (is_proper p.now.project.nodes ≡ true) × IsRunIn b.now env (env_at b.now env) t p.now }
+    requires plan { IsRunFor b.now p.now }
     ensures { MakesAll p.now (RunAll (promised p.now)) b.now (W.told house.old) (W.told house.new) result }
 {
     match execute(rt, alloc, p, workers, &OpenGate, house) {
