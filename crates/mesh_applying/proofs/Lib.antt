@@ -12,3 +12,5 @@ pub mod Refusing
 pub mod Loading
 -- Making: what is answered once the changes of a plan were to be made.
 pub mod Making
+-- Migrated: a book is moved by its map.
+pub mod Migrated
