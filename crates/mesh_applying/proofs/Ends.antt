@@ -87,21 +87,22 @@ none_some w all m (d ∷ ds) h fit =
 -- where as many changes are made as there are without rows, nothing dangles, and the last ones come
 pub all_come : (all : List Planned) (last : List Change) (ps : List Part) (w : World) → are_fit ps ≡ true → length (executes all ps w) ≡ length (parts_outline all ps) → tail all last ps w ≡ last
 all_come all last [] w fit long = refl
-all_come all last (p ∷ ps) w fit long = at (part_fills v all p) refl long
+all_come all last (p ∷ ps) w fit long = at (λ u many. all_come all last ps u both.1 many) (part_fills v all p) refl long
   where
-    abbrev v : World
+    v : World
     v = run w (making all p)
 
     both : (is_fit p.node p.dues ≡ true) × (are_fit ps ≡ true)
     both = is_both (is_fit p.node p.dues) (are_fit ps) fit
 
-    at : (o : Option (List Change)) → part_fills v all p ≡ o → length (making all p ++ followed v o (executes all ps)) ≡ length (part_outline all p ++ parts_outline all ps) → after v o (tail all last ps) ≡ last
-    at None is many =
+    at : ((u : World) → length (executes all ps u) ≡ length (parts_outline all ps) → tail all last ps u ≡ last)
+        → (o : Option (List Change)) → part_fills v all p ≡ o → length (making all p ++ followed v o (executes all ps)) ≡ length (part_outline all p ++ parts_outline all ps) → after v o (tail all last ps) ≡ last
+    at next None is many =
         let some_ = none_some v all (model_of p.node p.entry) p.dues is (is_both (is_body_of p.node.own.kind p.node.own.defn) (list_all (is_due_of (Some p.node)) p.dues) both.0).1 in
         absurd (omega (arith, some_, many, length-append (making all p) [], length-append (part_outline all p) (parts_outline all ps), length-append (making all p) (part_filling p)))
-    at (Some list) is many =
+    at next (Some list) is many =
         let same = fills_long (model_of p.node p.entry) v all p.dues list is in
-        all_come all last ps (run v list) both.1
+        next (run v list)
         (omega (
           arith, same, many,
           length-append (making all p) (list ++ executes all ps (run v list)),

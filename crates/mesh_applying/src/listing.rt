@@ -45,12 +45,12 @@ impl Keyed for Target {
 
 /// The list of an environment, and the object of each model in it.
 #[derive(Drop)]
-pub struct Listing {
+pub struct Lists {
     pub list: Refs,
     pub objects: Names,
 }
 
-fn target(node: &Node, entry: &Entry) -> Result<Target, Memory>
+fn as_target(node: &Node, entry: &Entry) -> Result<Target, Memory>
     ensures { IfOk result (λ made. made ≡ target node.now entry.now) }
 {
     let (name, object) = both(&node.own.name, &entry.object)?;
@@ -64,7 +64,7 @@ fn target(node: &Node, entry: &Entry) -> Result<Target, Memory>
 fn place_target(targets: &mut Sorted<Target>, node: &Node, entry: &Entry) -> Result<(), Memory>
     ensures { OnOk result (targets.new ≡ placed name_cmp target_name (target node.now entry.now) targets.old) }
 {
-    let made = target(node, entry)?;
+    let made = as_target(node, entry)?;
     targets.place(made)
 }
 
@@ -111,16 +111,16 @@ fn objects_of(alloc: Global, targets: &[Target]) -> Result<Names, Memory>
     Ok(made)
 }
 
-fn listed(alloc: Global, targets: &[Target]) -> Result<Listing, Memory>
+fn listed(alloc: Global, targets: &[Target]) -> Result<Lists, Memory>
     ensures { IfOk result (λ made. made ≡ record { list = map ref_of targets.now; objects = map object_of targets.now }) }
 {
     let list = refs_of(alloc, targets)?;
     let objects = objects_of(alloc, targets)?;
-    Ok(Listing { list, objects })
+    Ok(Lists { list, objects })
 }
 
 /// The models of a plan by name, each with its object.
-pub(crate) fn listing(alloc: Global, p: &Plan) -> Result<Listing, Memory>
+pub(crate) fn listing(alloc: Global, p: &Plan) -> Result<Lists, Memory>
     ensures list { IfOk result (λ made. made.list ≡ refs_by_name (planned_models p.now)) }
     ensures objects { IfOk result (λ made. paired made.list made.objects ≡ objects_by_name (planned_models p.now)) }
 {

@@ -11,7 +11,7 @@ ghost use Rattle.mesh_applying.specs.Made.{IsPlanFor, IsRunFor};
 ghost use Rattle.mesh_applying.specs.Making.{MakesAll, Promotes};
 
 use crate::faults::of_exec;
-use crate::listing::{Listing, listing};
+use crate::listing::{Lists, listing};
 use mesh_book::Book;
 use mesh_commands::as_refusal;
 use mesh_exec::execute;
@@ -40,13 +40,13 @@ fn promoted<W: Warehouse>(
     house: &mut W,
     b: &Book,
     p: &Plan,
-    listing: &Listing,
+    lists: &Lists,
     done: u64,
 ) -> Result<u64, Refusal>
     requires { IsTrue (is_moment p.now.moment) }
-    ensures { Promotes (promotion b.now p.now.env listing.now.list listing.now.objects p.now.moment) done (W.told house.old) (W.told house.new) result }
+    ensures { Promotes (promotion b.now p.now.env lists.now.list lists.now.objects p.now.moment) done (W.told house.old) (W.told house.new) result }
 {
-    match promote(alloc, house, b, &p.env, &listing.list, &listing.objects, p.moment) {
+    match promote(alloc, house, b, &p.env, &lists.list, &lists.objects, p.moment) {
         Err(fail) => Err(as_refusal(fail)),
         Ok(made) => sum(done, made),
     }
@@ -58,19 +58,19 @@ fn made<R: Threads + Sync, W: Warehouse>(
     house: &mut W,
     b: &Book,
     p: &Plan,
-    listing: &Listing,
+    lists: &Lists,
     workers: u32,
 ) -> Result<u64, Refusal>
     requires workers { (1 ≤ workers) × (workers ≤ 64) }
     requires present { is_present b.now ≡ true }
-    requires list { listing.now.list ≡ refs_by_name (planned_models p.now) }
-    requires objects { paired listing.now.list listing.now.objects ≡ objects_by_name (planned_models p.now) }
+    requires list { lists.now.list ≡ refs_by_name (planned_models p.now) }
+    requires objects { paired lists.now.list lists.now.objects ≡ objects_by_name (planned_models p.now) }
     requires plan { IsPlanFor b.now p.now }
     ensures { MakesAll p.now (Apply (promised p.now)) b.now (W.told house.old) (W.told house.new) result }
 {
     match execute(rt, alloc, p, workers, &OpenGate, house) {
         Err(fault) => Err(of_exec(alloc, fault)),
-        Ok(done) => promoted(alloc, house, b, p, listing, done.changes),
+        Ok(done) => promoted(alloc, house, b, p, lists, done.changes),
     }
 }
 
@@ -90,7 +90,7 @@ pub(crate) fn make_plan<R: Threads + Sync, W: Warehouse>(
 {
     match listing(alloc, p) {
         Err(Memory) => Err(Refusal::Memory),
-        Ok(listing) => made(rt, alloc, house, b, p, &listing, workers),
+        Ok(lists) => made(rt, alloc, house, b, p, &lists, workers),
     }
 }
 
