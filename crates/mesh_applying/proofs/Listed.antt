@@ -1,5 +1,6 @@
 -- The models of a plan, by name, are its references and its objects.
-use Rattle.std.proofs.Common.{◌≡◌, ◌≤◌, ℕ, List, [], ◌∷◌, length, map, refl, sym, ap, ◌∙◌, arith}
+use Rattle.std.proofs.Common.{◌≡◌, ◌≤◌, ◌⊎◌, inl, inr, ℕ, List, [], ◌∷◌, length, map, drop, refl, sym, ap, ◌∙◌}
+use Rattle.std.proofs.lemmas.List.{drop_all}
 use Rattle.std.specs.declared.cmp.Ordering.{Ordering}
 use Rattle.std.specs.declared.cmp.Ordering.TheVariants.{Less, Equal, Greater}
 use Rattle.mesh_list.specs.Keyed.{placed, put_by}
@@ -59,3 +60,12 @@ lists_refs p ts is = ap (map ref_of) is ∙ refs_are p.project.nodes p.entries �
 
 pub lists_objects : (p : Plan) (ts : List Target) → ts ≡ targets p.project.nodes p.entries → paired (map ref_of ts) (map object_of ts) ≡ objects_by_name (planned_models p)
 lists_objects p ts is = paired_are ts ∙ ap (map pair_of) is ∙ pairs_are p.project.nodes p.entries ∙ ap objects_by_name (sym (models_same p)) ∙ objects_stripped (planned_models p)
+
+-- nothing comes behind the last of them
+none_beside : (ns : List Node) → targets ns [] ≡ []
+none_beside [] = refl
+none_beside (n ∷ ns) = refl
+
+pub none_left : (k : ℕ) (ns : List Node) (es : List Entry) → (length ns ≤ k) ⊎ (length es ≤ k) → targets (drop k ns) (drop k es) ≡ []
+none_left k ns es (inl h) = ap (λ (l : List Node). targets l (drop k es)) (drop_all k ns h)
+none_left k ns es (inr h) = ap (targets (drop k ns)) (drop_all k es h) ∙ none_beside (drop k ns)

@@ -71,7 +71,7 @@ fn move_by<W: Warehouse>(alloc: Global, house: &mut W, b: &Book, renames: Rename
     requires has { HasBook b.now (W.told house.old) }
     ensures { Answers MigrateMakes MigrateGives (W.told house.old) (W.told house.new) result }
 {
-    match line_of(alloc, b.snapshots.len() as u64) {
+    match line_of(alloc, b.snapshots.as_slice().len() as u64) {
         Err(refusal) => Err(refusal),
         Ok(line) => moved(alloc, house, renames, line),
     }
