@@ -13,6 +13,7 @@ mod migrating;
 mod planned;
 mod promote;
 mod running;
+mod whole;
 
 pub use applying::apply;
 pub use loaded::of_load;
