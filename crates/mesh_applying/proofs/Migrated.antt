@@ -1,6 +1,8 @@
 -- A book is moved by its map.
-use Rattle.std.proofs.Common.{◌≡◌, ◌⊎◌, ◌≤◌, inl, inr, ℕ, Bool, true, false, cond, not, List, [], ◌∷◌, length, map, Some, None, Ok, Err, Result, refl, sym, ap, ◌∙◌, subst, arith, length-map}
-use Rattle.std.specs.Prelude.{◌&&◌, nat_eq}
+use Rattle.std.proofs.Common.{◌≡◌, ◌⊎◌, ◌≤◌, inl, inr, ℕ, Bool, true, false, cond, not, List, [], ◌∷◌, length, map, Some, None, Ok, Err, IfErr, IfOk, Result, refl, sym, ap, ◌∙◌, subst, ⊎_elim, arith}
+use Rattle.std.specs.Prelude.{◌&&◌, IfSome, nat_eq}
+use Rattle.std.specs.declared.option.Option.{Option}
+use Rattle.std.proofs.lemmas.Bool.Decides.{eqb_tells}
 use Rattle.mesh_values.specs.declared.values.Name.{Name}
 use Rattle.mesh_base.specs.declared.forgets.Rename.{Rename}
 use Rattle.mesh_tokens.specs.declared.faults.FaultKind.TheVariants.{FingerprintClash}
@@ -30,7 +32,7 @@ use Rattle.mesh_printed.specs.Reports.{migrated_line}
 use Rattle.mesh_printed.specs.declared.refusals.Refusal.{Refusal}
 use Rattle.mesh_printed.specs.declared.refusals.Refusal.TheVariants.{BookBroken, Memory, Model, Warehouse}
 use Rattle.mesh_commands.specs.Answers.{Answers, IsAlone, as_refusal}
-use Rattle.mesh_commands.proofs.Answering.{alone_itself, read_first, read_of, refused_first, told_alone, wanting_first}
+use Rattle.mesh_commands.proofs.Answering.{alone_itself, read_first, refused_first, told_alone, wanting_first}
 use Rattle.mesh_applying.specs.Made.{HasBook}
 use Rattle.mesh_applying.specs.Migrating.{IsMoved, MigrateGives, MigrateMakes, Moves, moved_number, of_migration}
 
@@ -127,6 +129,14 @@ module _ (b : Book) (well : is_well_formed_book b ≡ true) (a : Told) (has : Ha
 pub unlined : (a : Told) (r : Refusal) → r ≡ Memory → Done a a (Err r)
 unlined a r is = subst (λ (x : Refusal). Done a a (Err x)) (sym is) (wanting_first MigrateMakes MigrateGives a)
 
+not_one : (n : ℕ) → (n ≡ 1 → ⊥) → nat_eq n 1 ≡ false
+not_one n other = ⊎_elim (λ t. absurd (other t.1)) (λ f. f.0) (eqb_tells n 1)
+
+-- what is answered of a book that stays, whether there was memory for the line or not
+pub left_alone : (b : Book) → is_well_formed_book b ≡ true → (a : Told) → HasBook b a → (b.version ≡ 1 → ⊥) → (r : Result (List ℕ) Refusal) → IfOk r (λ line. line ≡ migrated_line 0) → IfErr r (λ e. e ≡ Memory) → Done a a r
+left_alone b well a has other (Ok line) is none = stays b well a has line (not_one b.version other) is
+left_alone b well a has other (Err r) is none = unlined a r none
+
 -- the book breaks a rule
 pub broken : (b : Book) (a : Told) → HasBook b a → (fault : BookFault) → book_fault b ≡ Some fault → Done a a (Err (BookBroken fault.part fault.place))
 broken b a has fault first =
@@ -153,7 +163,7 @@ not_read a m fails.Memory reads = record {
 -- the book was read, and the house has it
 module _ (a m : Told) (b : Book) (reads : Reads book a m (Ok b)) where
   pub has_it : HasBook b m
-  has_it w is = sym (read_of a m b reads w (sym reads.world ∙ is))
+  has_it w is = sym (subst (λ (o : Option World). IfSome o (λ v. b ≡ v.book)) (sym reads.world ∙ is) reads.ok)
 
   pub by_the_book : (c : Told) (r : Result (List ℕ) Refusal) → Done m c r → Done a c r
   by_the_book c r by = read_first MigrateMakes MigrateGives a m c (record { world = reads.world; calls = reads.calls }) reads.faults r by

@@ -60,28 +60,28 @@ module _ (p : Plan) (c : Command) (b : Book) where
       faults = h.faults;
       failed = λ is. absurd (cc);
       early = λ is. absurd (cc);
-      made = λ w t e. cut_is w e _ (h.err w t);
+      made = λ w t e. cut_is w e (of_exec (fault.Dangling object)) (h.err w t);
       given = λ is w t e. inr (stop_at object h w t);
     }
     as_told (fault.Model name kind) h = record {
       faults = h.faults;
       failed = λ is. absurd (cc);
       early = λ is. let un = h.unmade name kind refl in record { world = un.0; calls = un.1 };
-      made = λ w t e. cut_is w e _ (h.err w t);
+      made = λ w t e. cut_is w e (of_exec (fault.Model name kind)) (h.err w t);
       given = λ is w t e. inl (record { lack = record { model = name; kind = kind }; first = h.lacking name kind refl w t; told = refl });
     }
     as_told fault.Warehouse h = record {
       faults = h.faults;
       failed = λ is. h.failed refl;
       early = λ is. absurd (cc);
-      made = λ w t e. cut_is w e _ (h.err w t);
+      made = λ w t e. cut_is w e Warehouse (h.err w t);
       given = λ is. absurd (cc);
     }
     as_told fault.Memory h = record {
       faults = h.faults;
       failed = λ is. absurd (cc);
       early = λ is. absurd (cc);
-      made = λ w t e. cut_is w e _ (h.err w t);
+      made = λ w t e. cut_is w e Memory (h.err w t);
       given = λ is. absurd (cc);
     }
 
