@@ -23,17 +23,16 @@ use Rattle.mesh_house.specs.World.{version_of}
 use Rattle.mesh_due.specs.Dues.{dues}
 use Rattle.mesh_due.specs.Plans.{is_made, planned}
 use Rattle.mesh_changes.specs.Changes.{executes as book_executes, objects_by_name, opens, promotes, refs_by_name, run_opens}
-use Rattle.mesh_changes.specs.Commands.{Command, Apply, RunAll, asked, changes, is_final, is_not_behind, is_present}
+use Rattle.mesh_changes.specs.Commands.{Apply, RunAll, asked, is_final, is_not_behind, is_present}
 use Rattle.mesh_changes.specs.Environments.{env_at}
-use Rattle.mesh_changes.specs.Planning.{compared_list}
 use Rattle.mesh_exec.specs.Executable.{IsExecutable}
 use Rattle.mesh_exec.specs.Executed.{executed, executes, outline, parts_outline}
 use Rattle.mesh_exec.specs.Plain.{models, opened}
-use Rattle.mesh_exec.specs.Planned.{IsOf, as_planned, opens_of, planned_models}
+use Rattle.mesh_exec.specs.Planned.{IsOf, as_planned, planned_models}
 use Rattle.mesh_exec.specs.Works.{are_fit, parts}
 use Rattle.mesh_exec.proofs.Books.{as_the_book_asks, ends, ends_as_the_book, opens_same}
 use Rattle.mesh_exec.proofs.Fitting.{parts_fit}
-use Rattle.mesh_plan.specs.Entries.{AreEntries, IsRecorded, entries_of}
+use Rattle.mesh_plan.specs.Entries.{IsRecorded, entries_of}
 use Rattle.mesh_plan.specs.Plans.{IsPlanOf, promised}
 use Rattle.mesh_plan.specs.Running.{IsRunIn, IsRunOf}
 use Rattle.mesh_plan_laws.proofs.Executable.{plan_executable}
@@ -147,7 +146,8 @@ pub all_promoted : (b : Book) (p : Plan) → are_fit (parts p) ≡ true → (w :
 all_promoted b p fit w long =
     all_come (models p) (promotes b (promised p)) (parts p) (run w (opened p)) fit
     (omega (
-      arith, long,
+      arith,
+      long,
       length-append (opened p) (executes (models p) (parts p) (run w (opened p))),
       length-append (opened p) (parts_outline (models p) (parts p)),
     ))

@@ -1,6 +1,4 @@
-use Rattle.std.proofs.Common.{◌≡◌, sym, ap, ◌∙◌, subst}
-use Rattle.mesh_changes.specs.Changes.{objects_by_name, refs_by_name}
-use Rattle.mesh_exec.specs.Planned.{planned_models}
+use Rattle.std.proofs.Common.{◌≡◌, ap, ◌∙◌}
 use Rattle.mesh_promote.specs.Promotion.{paired}
 use Rattle.mesh_applying.specs.declared.listing.Lists.{Lists}
 use Rattle.mesh_applying.specs.Listing.{targets}

@@ -1,6 +1,5 @@
-use Rattle.std.proofs.Common.{ℕ, ℤ, List, Err, Result, inl, rules, subst, FitsSigned, w64, to_z, of_z, ◌≡◌}
+use Rattle.std.proofs.Common.{ℕ, ℤ, Err, inl, rules, subst, FitsSigned, w64, to_z, of_z, ◌≡◌}
 use Rattle.std.proofs.lemmas.Int.{to_z-of_z}
-use Rattle.mesh_house.specs.declared.house.WhFail.{WhFail}
 use Rattle.mesh_house.specs.Runs.{Makes}
 use Rattle.mesh_promote.specs.Promotion.{promotion}
 use Rattle.mesh_applying.proofs.promote.promoted.Goals as goal
@@ -16,6 +15,6 @@ returns-in-Err g c =
       c.in-Err.fail,
       c.as_refusal.ensures,
       subst
-      (λ (t : ℤ). Makes {T = ℕ} (λ w. promotion b p.env lists.list lists.objects t) (g.W.Warehouse.told c.args.house.now) (g.W.Warehouse.told c.promote.new.house) (Err c.in-Err.fail))
-      same c.in-Err.ensures.makes,
+          (λ (t : ℤ). Makes {T = ℕ} (λ w. promotion b p.env lists.list lists.objects t) (g.W.Warehouse.told c.args.house.now) (g.W.Warehouse.told c.promote.new.house) (Err c.in-Err.fail))
+          same c.in-Err.ensures.makes,
     )
