@@ -13,7 +13,7 @@ mod migrating;
 mod planned;
 mod promote;
 mod running;
-mod whole;
+mod views;
 
 pub use applying::apply;
 pub use loaded::of_load;

@@ -7,7 +7,7 @@ ghost use Rattle.mesh_applying.specs.Making.{MakesAll};
 
 use crate::faults::of_exec;
 use crate::listing::listing;
-use crate::whole::made;
+use crate::views::made;
 use mesh_book::Book;
 use mesh_exec::execute;
 use mesh_house::Warehouse;
