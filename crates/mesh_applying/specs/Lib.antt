@@ -6,5 +6,7 @@ pub mod Planning
 pub mod Applying
 -- Making: what is left of a house once the changes of a plan were to be made.
 pub mod Making
+-- Made: what a plan has to be for its changes to be made, and what is answered of it.
+pub mod Made
 -- Migrating: the same of moving a book.
 pub mod Migrating

@@ -2,12 +2,14 @@
 ghost use Rattle.std.specs.Prelude.{◌≡◌, ◌≤◌, ◌++◌, true, IfOk};
 ghost use Rattle.std.specs.Option.{option_copied};
 ghost use Rattle.mesh_days.specs.Moments.{IsMoment};
-ghost use Rattle.mesh_changes.specs.Commands.{is_present};
-ghost use Rattle.mesh_commands.specs.Answers.{Answers};
+ghost use Rattle.mesh_changes.specs.Commands.{Apply, is_present};
+ghost use Rattle.mesh_plan.specs.Plans.{promised};
 ghost use Rattle.mesh_plan_text.specs.PlanText.{plan_text};
 ghost use Rattle.mesh_printed.specs.Reports.{applied_line};
+ghost use Rattle.mesh_commands.specs.Answers.{Answers};
 ghost use Rattle.mesh_applying.specs.Applying.{ApplyGives, ApplyMakes};
 ghost use Rattle.mesh_applying.specs.Loaded.{IsProject, OfProject};
+ghost use Rattle.mesh_applying.specs.Made.{ApplyTells, HasBook, IsPlanFor, MakesBy};
 
 use crate::loaded::of_load;
 use crate::planned::planned;
@@ -49,7 +51,13 @@ fn apply_plan<R: Threads + Sync, W: Warehouse>(
     b: &Book,
     p: &Plan,
     workers: u32,
-) -> Result<Str, Refusal> {
+) -> Result<Str, Refusal>
+    requires workers { (1 ≤ workers) × (workers ≤ 64) }
+    requires present { is_present b.now ≡ true }
+    requires plan { IsPlanFor b.now p.now }
+    requires book { HasBook b.now (W.told house.old) }
+    ensures { Answers (MakesBy p.now (Apply (promised p.now))) (ApplyTells p.now) (W.told house.old) (W.told house.new) result }
+{
     match make_plan(rt, alloc, house, b, p, workers) {
         Err(refusal) => Err(refusal),
         Ok(changes) => match applied_text(alloc, p, changes) {
@@ -69,7 +77,13 @@ fn apply_by<R: Threads + Sync, W: Warehouse>(
     t: i64,
     again: Option<&Restate>,
     workers: u32,
-) -> Result<Str, Refusal> {
+) -> Result<Str, Refusal>
+    requires workers { (1 ≤ workers) × (workers ≤ 64) }
+    requires present { is_present b.now ≡ true }
+    requires moment { IsMoment t }
+    requires book { HasBook b.now (W.told house.old) }
+    ensures { Answers (ApplyMakes project.now.nodes env.now t (option_copied again.entry)) (ApplyGives project.now.nodes env.now t (option_copied again.entry)) (W.told house.old) (W.told house.new) result }
+{
     match planned(alloc, b, project, env, t, again) {
         Err(refusal) => Err(refusal),
         Ok(p) => apply_plan(rt, alloc, house, b, &p, workers),

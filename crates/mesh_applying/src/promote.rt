@@ -1,4 +1,10 @@
 // A plan is made whole: its own changes, and then those that give its environment its views.
+ghost use Rattle.std.specs.Prelude.{◌≡◌, ◌≤◌, true};
+ghost use Rattle.mesh_changes.specs.Commands.{Apply, RunAll, is_present};
+ghost use Rattle.mesh_plan.specs.Plans.{promised};
+ghost use Rattle.mesh_applying.specs.Made.{IsPlanFor, IsRunFor};
+ghost use Rattle.mesh_applying.specs.Making.{MakesAll};
+
 use crate::faults::of_exec;
 use crate::listing::{Listing, listing};
 use mesh_book::Book;
@@ -58,9 +64,34 @@ pub(crate) fn make_plan<R: Threads + Sync, W: Warehouse>(
     b: &Book,
     p: &Plan,
     workers: u32,
-) -> Result<u64, Refusal> {
+) -> Result<u64, Refusal>
+    requires workers { (1 ≤ workers) × (workers ≤ 64) }
+    requires present { is_present b.now ≡ true }
+    requires plan { IsPlanFor b.now p.now }
+    ensures { MakesAll p.now (Apply (promised p.now)) b.now (W.told house.old) (W.told house.new) result }
+{
     match listing(alloc, p) {
         Err(Memory) => Err(Refusal::Memory),
         Ok(listing) => made(rt, alloc, house, b, p, &listing, workers),
+    }
+}
+
+/// All changes of a run's plan are made, and their number is answered.
+pub(crate) fn make_run<R: Threads + Sync, W: Warehouse>(
+    rt: &R,
+    alloc: Global,
+    house: &mut W,
+    b: &Book,
+    p: &Plan,
+    workers: u32,
+) -> Result<u64, Refusal>
+    requires workers { (1 ≤ workers) × (workers ≤ 64) }
+    requires present { is_present b.now ≡ true }
+    requires plan { IsRunFor b.now p.now }
+    ensures { MakesAll p.now (RunAll (promised p.now)) b.now (W.told house.old) (W.told house.new) result }
+{
+    match execute(rt, alloc, p, workers, &OpenGate, house) {
+        Err(fault) => Err(of_exec(alloc, fault)),
+        Ok(done) => Ok(done.changes),
     }
 }

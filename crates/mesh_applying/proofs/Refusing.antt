@@ -1,0 +1,83 @@
+-- Why nothing is planned, and what is answered where nothing is changed.
+use Rattle.std.proofs.Common.{◌≡◌, ◌⊎◌, inl, inr, ℕ, ℤ, true, false, List, Ok, Err, Result, IfOk, IfErr, refl, sym, ◌∙◌, ap, subst}
+use Rattle.std.specs.declared.option.Option.{Option}
+use Rattle.mesh_base.specs.declared.forgets.Restate.{Restate}
+use Rattle.mesh_base.specs.declared.snapshots.Node.{Node}
+use Rattle.mesh_tokens.specs.declared.faults.FaultKind.TheVariants.{UnknownRelation}
+use Rattle.mesh_rules.specs.declared.plans.Plan.{Plan}
+use Rattle.mesh_book.specs.declared.book.Book.{Book}
+use Rattle.mesh_house.specs.House.{Told}
+use Rattle.mesh_house.specs.declared.world.World.{World}
+use Rattle.mesh_changes.specs.Commands.{is_present}
+use Rattle.mesh_changes.specs.Environments.{env_at}
+use Rattle.mesh_changes.specs.Planning.{compared_list}
+use Rattle.mesh_fault_text.specs.Lines.{name_text}
+use Rattle.mesh_plan_text.specs.PlanText.{plan_text}
+use Rattle.mesh_plan.specs.Plans.{IsPlanOf, RefusesPlan}
+use Rattle.mesh_plan.specs.Running.{RefusesRun}
+use Rattle.mesh_versions.specs.declared.faults.PlanFault.{PlanFault}
+use Rattle.mesh_versions.specs.declared.faults.PlanFault.TheVariants as fault
+use Rattle.mesh_printed.specs.declared.refusals.Refusal.{Refusal}
+use Rattle.mesh_printed.specs.declared.refusals.Refusal.TheVariants.{Model, Warehouse, Memory, MomentBehind, EnvUnknown, EnvPending}
+use Rattle.mesh_commands.specs.Answers.{Answers, is_fault, no_changes}
+use Rattle.mesh_commands.specs.Present.{ReadsPresent}
+use Rattle.mesh_commands.proofs.Answering.{present_otherwise, refused_alone, refused_first, told_alone}
+use Rattle.mesh_applying.specs.Applying.{PlanGives}
+use Rattle.mesh_applying.specs.Planning.{IsPlanned, IsStray, PlanRefused, RunRefused, no_model, of_plan}
+
+-- no fault of a plan is the warehouse's
+plan_otherwise : (env : List ℕ) (why : PlanFault) → of_plan env why ≡ Warehouse → ⊥
+plan_otherwise env (fault.Model name kind) e = absurd (let clash : Model (name_text name) 0 kind ≡ Warehouse = e in cc)
+plan_otherwise env (fault.Moment given kept) e = absurd (let clash : MomentBehind given kept ≡ Warehouse = e in cc)
+plan_otherwise env fault.EnvUnknown e = absurd (let clash : EnvUnknown env ≡ Warehouse = e in cc)
+plan_otherwise env fault.EnvPending e = absurd (let clash : EnvPending env ≡ Warehouse = e in cc)
+plan_otherwise env fault.Memory e = absurd (let clash : Memory ≡ Warehouse = e in cc)
+
+memory_otherwise : (r : Refusal) → r ≡ Memory → r ≡ Warehouse → ⊥
+memory_otherwise r is e = absurd (let clash : Memory ≡ Warehouse = sym is ∙ e in cc)
+
+module _ (b : Book) (nodes : List Node) (env : List ℕ) (t : ℤ) (again : Option Restate) where
+  -- why nothing is planned isn't that the warehouse failed
+  refused_otherwise : (r : Refusal) → PlanRefused b nodes env t again r → r ≡ Warehouse → ⊥
+  refused_otherwise r (inl not_present) e = present_otherwise b r not_present e
+  refused_otherwise r (inr (inl unplanned)) e = plan_otherwise env unplanned.why (sym unplanned.told ∙ e)
+  refused_otherwise r (inr (inr unnamed)) e = absurd (let clash : no_model unnamed.stray.restate.name ≡ Warehouse = sym unnamed.stray.told ∙ e in cc)
+
+  pub unplanned_otherwise : (r : Refusal) → (r ≡ Memory) ⊎ PlanRefused b nodes env t again r → r ≡ Warehouse → ⊥
+  unplanned_otherwise r (inl memory) e = memory_otherwise r memory e
+  unplanned_otherwise r (inr refused) e = refused_otherwise r refused e
+
+  -- a fault of the plan is told
+  pub fault_told : is_present b ≡ true → (why : PlanFault) → RefusesPlan b (compared_list b env) nodes t why → (r : Refusal) → (r ≡ Memory) ⊎ (r ≡ of_plan env why) → (r ≡ Memory) ⊎ PlanRefused b nodes env t again r
+  fault_told present why stands r (inl memory) = inl memory
+  fault_told present why stands r (inr told) = inr (inr (inl (record { present = present; why = why; stands = stands; told = told })))
+
+  -- a model is named that the project hasn't
+  pub stray_told : is_present b ≡ true → (p : Plan) → IsPlanOf b nodes env t again p → (r : Refusal) → (r ≡ Memory) ⊎ IsStray nodes again r → (r ≡ Memory) ⊎ PlanRefused b nodes env t again r
+  stray_told present p is r (inl memory) = inl memory
+  stray_told present p is r (inr stray) = inr (inr (inr (record { present = present; plan = p; planned = is; stray = stray })))
+
+module _ (b : Book) (env : List ℕ) (t : ℤ) where
+  pub run_otherwise : (r : Refusal) → (r ≡ Memory) ⊎ RunRefused b env t r → r ≡ Warehouse → ⊥
+  run_otherwise r (inl memory) e = memory_otherwise r memory e
+  run_otherwise r (inr (inl not_present)) e = present_otherwise b r not_present e
+  run_otherwise r (inr (inr unplanned)) e = plan_otherwise env unplanned.why (sym unplanned.told ∙ e)
+
+  -- a fault of a run's plan is told
+  pub run_fault_told : is_present b ≡ true → (why : PlanFault) → RefusesRun b (env_at b env) t why → (r : Refusal) → (r ≡ Memory) ⊎ (r ≡ of_plan env why) → (r ≡ Memory) ⊎ RunRefused b env t r
+  run_fault_told present why stands r (inl memory) = inl memory
+  run_fault_told present why stands r (inr told) = inr (inr (record { present = present; why = why; stands = stands; told = told }))
+
+-- what is told is no want of memory
+pub no_wanting : {A : Type 0} (r : Refusal) → is_fault r ≡ false → (r ≡ Memory) ⊎ A → A
+no_wanting r no (inl memory) = absurd (let clash : true ≡ false = sym (ap is_fault memory) ∙ no in cc)
+no_wanting r no (inr x) = x
+
+-- the text of a plan is answered, or why there is none, of the book that was read
+module _ (nodes : List Node) (env : List ℕ) (t : ℤ) (again : Option Restate) (a c : Told) (b : Book) (reads : ReadsPresent a c (Ok b)) where
+  pub looked : (r : Result (List ℕ) Refusal) → IfOk r (λ text. (p : Plan) × IsPlanned b nodes env t again p × (text ≡ plan_text p)) → IfErr r (λ e. (e ≡ Memory) ⊎ PlanRefused b nodes env t again e)
+      → Answers no_changes (PlanGives nodes env t again) a c r
+  looked (Ok text) ok err = told_alone no_changes (PlanGives nodes env t again) a c text reads.alone reads.faults (λ w told. refl)
+      (λ w told. subst (λ (k : Book). (p : Plan) × IsPlanned k nodes env t again p × (text ≡ plan_text p)) (reads.book w told.world) ok)
+  looked (Err r) ok err = refused_alone no_changes (PlanGives nodes env t again) a c r reads.alone reads.faults (λ e. absurd (unplanned_otherwise b nodes env t again r err e))
+      (λ w told no. subst (λ (k : Book). PlanRefused k nodes env t again r) (reads.book w told.world) (no_wanting r no err))
