@@ -8,7 +8,7 @@ ghost use Rattle.mesh_base.specs.Keys.{ref_name};
 ghost use Rattle.mesh_base.specs.Outputs.{columns_of};
 ghost use Rattle.mesh_scratch.specs.Scratch.{defn_rows};
 ghost use Rattle.mesh_house.specs.Sources.{are_plain};
-ghost use Rattle.mesh_layer.specs.Shows.{Finds};
+ghost use Rattle.mesh_layer.specs.Shows.{Finds, Shows};
 ghost use Rattle.mesh_changes.specs.Changes.{ascending};
 ghost use Rattle.mesh_exec.specs.Sources.{kind_of, model_breach};
 ghost use Rattle.mesh_printed.specs.Records.{rows_text};
@@ -178,11 +178,25 @@ fn rows_for(alloc: Global, own: &Own, inputs: &[Input], u: Bounds) -> Result<Row
     }
 }
 
-fn own_text(alloc: Global, own: &Own, inputs: &[Input], u: Bounds) -> Result<Str, Memory>
-    ensures { IfOk result (λ text. text ≡ rows_text (columns_of own.now) (ascending (rows_for own.now u inputs.now))) }
+/// The rows of a model for some seconds, over the tables that it reads.
+fn found_rows<W: Warehouse>(
+    alloc: Global,
+    house: &mut W,
+    env: &Str,
+    s: &Snapshot,
+    u: Bounds,
+) -> Result<Rows, ShowFault>
+    ensures { Shows (found_rows env.now s.now u) (lost_behind env.now s.now) (W.told house.old) (W.told house.new) result }
+{
+    let tables = tables_behind(alloc, house, env, s)?;
+    let rows = rows_for(alloc, &s.own, tables.as_slice(), u)?;
+    Ok(rows)
+}
+
+fn own_text(alloc: Global, own: &Own, rows: Rows) -> Result<Str, Memory>
+    ensures { IfOk result (λ text. text ≡ rows_text (columns_of own.now) (ascending rows)) }
 {
     let columns = columns_of(own)?;
-    let rows = rows_for(alloc, own, inputs, u)?;
     text_of(alloc, columns.as_slice(), rows)
 }
 
@@ -195,10 +209,10 @@ fn shown_text<W: Warehouse>(
 ) -> Result<Str, Refusal>
     ensures { Looks (λ w. printed (columns_of s.now.own) (found_rows env.now s.now u w) (lost_behind env.now s.now w)) (W.told house.old) (W.told house.new) result }
 {
-    match tables_behind(alloc, house, env, s) {
+    match found_rows(alloc, house, env, s, u) {
         Err(fault) => Err(of_show(fault)),
-        Ok(tables) => {
-            let text = own_text(alloc, &s.own, tables.as_slice(), u)?;
+        Ok(rows) => {
+            let text = own_text(alloc, &s.own, rows)?;
             Ok(text)
         }
     }

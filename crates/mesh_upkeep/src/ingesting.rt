@@ -1,6 +1,6 @@
 // `ingest`: a declared source is loaded from a file of the project.
-ghost use Rattle.std.specs.Prelude.{◌≡◌, ◌⊎◌, Ok, IfOk, IsErrOf, length};
-ghost use Rattle.mesh_house.specs.World.{head};
+ghost use Rattle.std.specs.Prelude.{◌≡◌, ◌⊎◌, ◌↔◌, true, IfOk, IsErrOf, IsTrue, length};
+ghost use Rattle.mesh_house.specs.declared.world.Change.TheVariants.{Load};
 ghost use Rattle.mesh_commands.specs.Answers.{Answers};
 ghost use Rattle.mesh_printed.specs.Reports.{ingested_line};
 ghost use Rattle.mesh_printed.specs.declared.refusals.Refusal.TheVariants.{Input, Memory as NoMemory};
@@ -38,14 +38,37 @@ fn other_shape(alloc: Global, name: &Name) -> Refusal
 }
 
 // Whether the columns of the source that is there, if one is, let rows be added.
-fn is_alike(head: &Option<Columns>, columns: &Columns) -> bool {
-    match head {
+fn is_alike(there: &Option<Columns>, columns: &Columns) -> bool
+    ensures { IsTrue result ↔ MayLoad true there.now columns.now }
+{
+    match there {
         None => true,
-        Some(head) => head.same(columns),
+        Some(there) => there.same(columns),
     }
 }
 
-// Whether rows may be loaded: any where they replace the source, and else those of a source with the same columns.
+// Whether rows may be added to the source.
+fn fits_there<W: Warehouse>(
+    alloc: Global,
+    house: &mut W,
+    name: &Name,
+    columns: &Columns,
+) -> Result<(), Refusal>
+    ensures { Fits name.now columns.now true (W.told house.old) (W.told house.new) result }
+{
+    match house.head(alloc, name) {
+        Err(fail) => Err(as_refusal(fail)),
+        Ok(there) => {
+            if is_alike(&there, columns) {
+                Ok(())
+            } else {
+                Err(other_shape(alloc, name))
+            }
+        }
+    }
+}
+
+// Whether the source may be loaded: any may where its rows are replaced.
 fn fits<W: Warehouse>(
     alloc: Global,
     house: &mut W,
@@ -55,43 +78,47 @@ fn fits<W: Warehouse>(
 ) -> Result<(), Refusal>
     ensures { Fits name.now columns.now append (W.told house.old) (W.told house.new) result }
 {
-    if !append {
-        return Ok(());
-    }
-    match house.head(alloc, name) {
-        Err(fail) => Err(as_refusal(fail)),
-        Ok(head) => {
-            if is_alike(&head, columns) {
-                Ok(())
-            } else {
-                Err(other_shape(alloc, name))
-            }
-        }
+    if append {
+        fits_there(alloc, house, name, columns)
+    } else {
+        Ok(())
     }
 }
 
-fn change(alloc: Global, name: &Name, source: Seed, append: bool) -> Result<(Change, Str), Memory> {
+// The change, and the line that is printed when it is made.
+fn load_of(
+    alloc: Global,
+    name: &Name,
+    source: Seed,
+    append: bool,
+) -> Result<(Change, Str), Memory>
+    ensures { IfOk result (λ made. made ≡ (Load name.now source.columns source.rows append, ingested_line name.now (length source.rows))) }
+{
     let line = ingested_line(alloc, name, source.rows.len() as u64)?;
     let name = name.copy()?;
-    let load = Change::Load {
+    let Seed { columns, rows } = source;
+    let change = Change::Load {
         name,
-        columns: source.columns,
-        rows: source.rows,
+        columns,
+        rows,
         keep: append,
     };
-    Ok((load, line))
+    Ok((change, line))
 }
 
-fn loaded<W: Warehouse>(
+fn put<W: Warehouse>(
     alloc: Global,
     house: &mut W,
     name: &Name,
     source: Seed,
     append: bool,
-) -> Result<Str, Refusal> {
-    match change(alloc, name, source, append) {
+) -> Result<Str, Refusal>
+    ensures answers { Answers (LoadMakes name.now source append) (λ w answer. answer ≡ Ok (ingested_line name.now (length source.rows))) (W.told house.old) (W.told house.new) result }
+    ensures alone { IsErrOf result Input → ⊥ }
+{
+    match load_of(alloc, name, source, append) {
         Err(_) => Err(Refusal::Memory),
-        Ok((load, line)) => match house.change(alloc, &load) {
+        Ok((change, line)) => match house.change(alloc, &change) {
             Err(fail) => Err(as_refusal(fail)),
             Ok(()) => Ok(line),
         },
@@ -110,7 +137,7 @@ fn load<W: Warehouse>(
 {
     match fits(alloc, house, name, &source.columns, append) {
         Err(refusal) => Err(refusal),
-        Ok(()) => loaded(alloc, house, name, source, append),
+        Ok(()) => put(alloc, house, name, source, append),
     }
 }
 
