@@ -32,7 +32,7 @@ module _ {X T : Type 0} (found : World → X → Type 0) (answer : World → Res
   not_found (fault.Dangling o) h = record {
     untouched = h.untouched;
     answered = λ w tells not_fault. absurd (let clash : None ≡ Some o = h.dangling o refl w tells.world tells.plain in cc);
-    failed = λ is. absurd (let clash : Err {T = T} (ObjectMissing o) ≡ Err Warehouse = is in cc);
+    failed = λ is. absurd (let clash : Err (ObjectMissing o) ≡ Err Warehouse = is in cc);
   }
   not_found fault.Warehouse h = record {
     untouched = h.untouched;
@@ -42,7 +42,7 @@ module _ {X T : Type 0} (found : World → X → Type 0) (answer : World → Res
   not_found fault.Memory h = record {
     untouched = h.untouched;
     answered = λ w tells not_fault. absurd (no_fault Memory refl not_fault);
-    failed = λ is. absurd (let clash : Err {T = T} Memory ≡ Err Warehouse = is in cc);
+    failed = λ is. absurd (let clash : Err Memory ≡ Err Warehouse = is in cc);
   }
 
   module _ (x : X) (h : Finds (λ w. IsTrue (are_plain w.sources)) found (λ w. None) a b (Ok x)) where

@@ -2,5 +2,5 @@
 pub mod Told
 -- Sweeps: what the janitor's calls leave, as a command tells it.
 pub mod Sweeps
--- Loading: what the load of a source leaves, over what was read.
+-- Loading: what one change leaves where its call stopped.
 pub mod Loading

@@ -1,5 +1,5 @@
 // `ingest`: a declared source is loaded from a file of the project.
-ghost use Rattle.std.specs.Prelude.{◌≡◌, ◌⊎◌, ◌↔◌, true, IfOk, IsErrOf, IsTrue, length};
+ghost use Rattle.std.specs.Prelude.{◌≡◌, ◌⊎◌, ◌↔◌, ◌∷◌, [], true, Ok, IfOk, IsErrOf, IsTrue, length};
 ghost use Rattle.mesh_house.specs.declared.world.Change.TheVariants.{Load};
 ghost use Rattle.mesh_commands.specs.Answers.{Answers};
 ghost use Rattle.mesh_printed.specs.Reports.{ingested_line};
@@ -106,6 +106,22 @@ fn load_of(
     Ok((change, line))
 }
 
+// Makes one change, and hands its line on.
+fn made<W: Warehouse>(
+    alloc: Global,
+    house: &mut W,
+    change: &Change,
+    line: Str,
+) -> Result<Str, Refusal>
+    ensures answers { Answers (λ w list. list ≡ change.now ∷ []) (λ w answer. answer ≡ Ok line) (W.told house.old) (W.told house.new) result }
+    ensures alone { IsErrOf result Input → ⊥ }
+{
+    match house.change(alloc, change) {
+        Err(fail) => Err(as_refusal(fail)),
+        Ok(()) => Ok(line),
+    }
+}
+
 fn put<W: Warehouse>(
     alloc: Global,
     house: &mut W,
@@ -118,10 +134,7 @@ fn put<W: Warehouse>(
 {
     match load_of(alloc, name, source, append) {
         Err(_) => Err(Refusal::Memory),
-        Ok((change, line)) => match house.change(alloc, &change) {
-            Err(fail) => Err(as_refusal(fail)),
-            Ok(()) => Ok(line),
-        },
+        Ok((change, line)) => made(alloc, house, &change, line),
     }
 }
 
