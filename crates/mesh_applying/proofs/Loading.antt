@@ -24,8 +24,8 @@ module _ {T : Type 0} (dir : List ℕ) (gives : List Node → World → Result T
   -- the project wasn't loaded
   pub not_loaded : (makes : World → List Change → Type 0) (fault : LoadFault) → AsksAs {X = ProjectNodes} (λ fs. IsLoaded fs dir) old new (Err fault) → Answers makes given_of a a (Err (of_load fault))
   not_loaded makes (load.Fault file at kind) asks = refused_first makes given_of a (Model file at kind) (λ e. absurd (let clash : Model file at kind ≡ Warehouse = e in cc))
-      (λ w told no. inr (record { file = file; at = at; kind = kind; first = asks.gives; told = refl }))
-  not_loaded makes load.Folder asks = refused_first makes given_of a Input (λ e. absurd (let clash : Input ≡ Warehouse = e in cc)) (λ w told no. absurd (let clash : true ≡ false = no in cc))
+      (λ w told fine. inr (record { file = file; at = at; kind = kind; first = asks.gives; told = refl }))
+  not_loaded makes load.Folder asks = refused_first makes given_of a Input (λ e. absurd (let clash : Input ≡ Warehouse = e in cc)) (λ w told fine. absurd (let clash : true ≡ false = fine in cc))
   not_loaded makes load.Memory asks = wanting_first makes given_of a
 
   module _ (project : ProjectNodes) (asks : AsksAs (λ fs. IsLoaded fs dir) old new (Ok project)) (c : Told) (r : Result T Refusal) where

@@ -34,21 +34,21 @@ module _ {T : Type 0} (p : Plan) (k : Command) (b : Book) (gives : World → Res
     failed = λ is. by.failed (ap (λ (x : Refusal). Err x) (same_refusal {T = T} r Warehouse is));
     early = λ early. by.early early;
     made = λ w told. parts w (by.made w told (has w told.world));
-    given = λ w told no. so w (by.given no w told (has w told.world));
+    given = λ w told fine. so w (by.given fine w told (has w told.world));
   }
     where
       parts : (w : World) → IsWhole p k w a c (Err r) → IsMade {T = T} (MakesBy p k w) w a c (Err r)
       parts w (inl alone) = inl alone
-      parts w (inr is) = inr (is.1.0, ((is.0, is.1.1), is.1.2))
+      parts w (inr is) = inr (is.1.0, (is.0, is.1.1), is.1.2)
 
   -- memory was wanting for the text once they were made
   pub untold : (n : ℕ) → MakesAll p k b a c (Ok n) → Answers (MakesBy p k) gives a c (Err Memory)
   untold n by = record {
     faults = by.faults;
-    failed = λ is. absurd (let clash : Err {T = T} Memory ≡ Err Warehouse = is in cc);
+    failed = λ is. absurd (let clash : Memory ≡ Warehouse = same_refusal {T = T} Memory Warehouse is in cc);
     early = λ early. absurd (let clash : false ≡ true = early in cc);
-    made = λ w told. let is = by.made w told (has w told.world) in inr (is.1.0, ((is.0, is.1.1), whole_prefix is.1.0 w a.calls c is.1.2.0));
-    given = λ w told no. absurd (let clash : true ≡ false = no in cc);
+    made = λ w told. let is = by.made w told (has w told.world) in inr (is.1.0, (is.0, is.1.1), whole_prefix is.1.0 w a.calls c is.1.2);
+    given = λ w told fine. absurd (let clash : true ≡ false = fine in cc);
   }
 
   -- all of them were made, and this is told
@@ -57,8 +57,8 @@ module _ {T : Type 0} (p : Plan) (k : Command) (b : Book) (gives : World → Res
     faults = by.faults;
     failed = λ is. absurd (cc);
     early = tt;
-    made = λ w told. let is = by.made w told (has w told.world) in (is.1.0, ((is.0, is.1.1), is.1.2.0));
-    given = λ w told. let is = by.made w told (has w told.world) in so w is.0 is.1.0 is.1.1 is.1.2.1;
+    made = λ w told. let is = by.made w told (has w told.world) in (is.1.0, (is.0, is.1.1), is.1.2);
+    given = λ w told. let is = by.made w told (has w told.world) in so w is.0 is.1.0 is.1.1 is.1.3;
   }
 
 module _ (p : Plan) (b : Book) (a c : Told) (has : HasBook b a) (n : ℕ) (text : List ℕ) where
@@ -76,19 +76,19 @@ module _ (p : Plan) (b : Book) (a c : Told) (has : HasBook b a) (n : ℕ) (text 
 module _ (b : Book) (nodes : List Node) (env : List ℕ) (t : ℤ) (again : Option Restate) (a : Told) (has : HasBook b a) where
   pub unplanned : (r : Refusal) → (r ≡ Memory) ⊎ PlanRefused b nodes env t again r → Answers (ApplyMakes nodes env t again) (ApplyGives nodes env t again) a a (Err r)
   unplanned r why = refused_first (ApplyMakes nodes env t again) (ApplyGives nodes env t again) a r (unplanned_otherwise b nodes env t again r why)
-      (λ w told no. inl (subst (λ (k : Book). PlanRefused k nodes env t again r) (sym (has w told.world)) (no_wanting r no why)))
+      (λ w told fine. inl (subst (λ (k : Book). PlanRefused k nodes env t again r) (sym (has w told.world)) (no_wanting r fine why)))
 
   module _ (p : Plan) (planned : IsPlanned b nodes env t again p) (c : Told) where
     here : (w : World) → Tells a w → IsPlanned w.book nodes env t again p
     here w told = subst (λ (k : Book). IsPlanned k nodes env t again p) (sym (has w told.world)) planned
 
     gives : (w : World) → Tells a w → (r : Result (List ℕ) Refusal) → ApplyTells p w r → ApplyGives nodes env t again w r
-    gives w told (Ok text) is = (p, (here w told, subst (λ (e : List ℕ). IsApplied p e t w text) planned.plan.env_is (subst (λ (m : ℤ). IsApplied p p.env m w text) planned.plan.moment_is is)))
-    gives w told (Err r) is = inr (p, (here w told, is))
+    gives w told (Ok text) is = (p, here w told, subst (λ (e : List ℕ). IsApplied p e t w text) planned.plan.env_is (subst (λ (m : ℤ). IsApplied p p.env m w text) planned.plan.moment_is is))
+    gives w told (Err r) is = inr (p, here w told, is)
 
     pub planned_applied : (r : Result (List ℕ) Refusal) → Answers (MakesBy p (Apply (promised p))) (ApplyTells p) a c r → Answers (ApplyMakes nodes env t again) (ApplyGives nodes env t again) a c r
     planned_applied r by = answers_so (MakesBy p (Apply (promised p))) (ApplyMakes nodes env t again) (ApplyTells p) (ApplyGives nodes env t again) a c
-        (λ w told list is. (p, (here w told, (is.0, subst (λ (m : ℤ). AreOf m (Apply (promised p)) w list) planned.plan.moment_is is.1)))) gives r by
+        (λ w told list is. (p, here w told, is.0, subst (λ (m : ℤ). AreOf m (Apply (promised p)) w list) planned.plan.moment_is is.1)) gives r by
 
 -- a run's plan is for its environment and at its moment
 run_env : (b : Book) (env : List ℕ) (e : Option Env) (t : ℤ) (p : Plan) → IsRunIn b env e t p → p.env ≡ env
@@ -103,17 +103,17 @@ run_moment b env (Some e) t p is = is.moment_is
 module _ (b : Book) (env : List ℕ) (t : ℤ) (a : Told) (has : HasBook b a) where
   pub run_unplanned : (r : Refusal) → (r ≡ Memory) ⊎ RunRefused b env t r → Answers (RunMakes env t) (RunGives env t) a a (Err r)
   run_unplanned r why = refused_first (RunMakes env t) (RunGives env t) a r (run_otherwise b env t r why)
-      (λ w told no. inl (subst (λ (k : Book). RunRefused k env t r) (sym (has w told.world)) (no_wanting r no why)))
+      (λ w told fine. inl (subst (λ (k : Book). RunRefused k env t r) (sym (has w told.world)) (no_wanting r fine why)))
 
   module _ (p : Plan) (planned : IsRunPlanned b env t p) (c : Told) where
     run_here : (w : World) → Tells a w → IsRunPlanned w.book env t p
     run_here w told = subst (λ (k : Book). IsRunPlanned k env t p) (sym (has w told.world)) planned
 
     run_gives : (w : World) → Tells a w → (r : Result (List ℕ) Refusal) → RunTells p w r → RunGives env t w r
-    run_gives w told (Ok text) is = (p, (run_here w told, subst (λ (e : List ℕ). IsRan p e t w text) (run_env b env (env_at b env) t p planned.plan)
-        (subst (λ (m : ℤ). IsRan p p.env m w text) (run_moment b env (env_at b env) t p planned.plan) is)))
-    run_gives w told (Err r) is = inr (p, (run_here w told, is))
+    run_gives w told (Ok text) is = (p, run_here w told, subst (λ (e : List ℕ). IsRan p e t w text) (run_env b env (env_at b env) t p planned.plan)
+        (subst (λ (m : ℤ). IsRan p p.env m w text) (run_moment b env (env_at b env) t p planned.plan) is))
+    run_gives w told (Err r) is = inr (p, run_here w told, is)
 
     pub planned_ran : (r : Result (List ℕ) Refusal) → Answers (MakesBy p (RunAll (promised p))) (RunTells p) a c r → Answers (RunMakes env t) (RunGives env t) a c r
     planned_ran r by = answers_so (MakesBy p (RunAll (promised p))) (RunMakes env t) (RunTells p) (RunGives env t) a c
-        (λ w told list is. (p, (run_here w told, (is.0, subst (λ (m : ℤ). AreOf m (RunAll (promised p)) w list) (run_moment b env (env_at b env) t p planned.plan) is.1)))) run_gives r by
+        (λ w told list is. (p, run_here w told, is.0, subst (λ (m : ℤ). AreOf m (RunAll (promised p)) w list) (run_moment b env (env_at b env) t p planned.plan) is.1)) run_gives r by

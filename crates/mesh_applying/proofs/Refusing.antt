@@ -1,5 +1,5 @@
 -- Why nothing is planned, and what is answered where nothing is changed.
-use Rattle.std.proofs.Common.{◌≡◌, ◌⊎◌, inl, inr, ℕ, ℤ, true, false, List, Ok, Err, Result, IfOk, IfErr, refl, sym, ◌∙◌, ap, subst}
+use Rattle.std.proofs.Common.{◌≡◌, ◌⊎◌, inl, inr, ℕ, ℤ, true, false, List, Ok, Err, Result, Some, IfOk, IfErr, refl, sym, ◌∙◌, ap, subst}
 use Rattle.std.specs.declared.option.Option.{Option}
 use Rattle.mesh_base.specs.declared.forgets.Restate.{Restate}
 use Rattle.mesh_base.specs.declared.snapshots.Node.{Node}
@@ -23,7 +23,7 @@ use Rattle.mesh_commands.specs.Answers.{Answers, is_fault, no_changes}
 use Rattle.mesh_commands.specs.Present.{ReadsPresent}
 use Rattle.mesh_commands.proofs.Answering.{present_otherwise, refused_alone, refused_first, told_alone}
 use Rattle.mesh_applying.specs.Applying.{PlanGives}
-use Rattle.mesh_applying.specs.Planning.{IsPlanned, IsStray, PlanRefused, RunRefused, no_model, of_plan}
+use Rattle.mesh_applying.specs.Planning.{IsPlanned, IsStray, PlanRefused, RunRefused, has_named, no_model, of_plan}
 
 -- no fault of a plan is the warehouse's
 plan_otherwise : (env : List ℕ) (why : PlanFault) → of_plan env why ≡ Warehouse → ⊥
@@ -70,8 +70,8 @@ module _ (b : Book) (env : List ℕ) (t : ℤ) where
 
 -- what is told is no want of memory
 pub no_wanting : {A : Type 0} (r : Refusal) → is_fault r ≡ false → (r ≡ Memory) ⊎ A → A
-no_wanting r no (inl memory) = absurd (let clash : true ≡ false = sym (ap is_fault memory) ∙ no in cc)
-no_wanting r no (inr x) = x
+no_wanting r fine (inl memory) = absurd (let clash : true ≡ false = sym (ap is_fault memory) ∙ fine in cc)
+no_wanting r fine (inr x) = x
 
 -- the text of a plan is answered, or why there is none, of the book that was read
 module _ (nodes : List Node) (env : List ℕ) (t : ℤ) (again : Option Restate) (a c : Told) (b : Book) (reads : ReadsPresent a c (Ok b)) where
@@ -80,4 +80,9 @@ module _ (nodes : List Node) (env : List ℕ) (t : ℤ) (again : Option Restate)
   looked (Ok text) ok err = told_alone no_changes (PlanGives nodes env t again) a c text reads.alone reads.faults (λ w told. refl)
       (λ w told. subst (λ (k : Book). (p : Plan) × IsPlanned k nodes env t again p × (text ≡ plan_text p)) (reads.book w told.world) ok)
   looked (Err r) ok err = refused_alone no_changes (PlanGives nodes env t again) a c r reads.alone reads.faults (λ e. absurd (unplanned_otherwise b nodes env t again r err e))
-      (λ w told no. subst (λ (k : Book). PlanRefused k nodes env t again r) (reads.book w told.world) (no_wanting r no err))
+      (λ w told fine. subst (λ (k : Book). PlanRefused k nodes env t again r) (reads.book w told.world) (no_wanting r fine err))
+
+-- a model is named that the project hasn't, and this is told
+pub stray : (nodes : List Node) (again : Option Restate) (restate : Restate) → again ≡ Some restate → has_named nodes again ≡ false → (r : Refusal) → (r ≡ Memory) ⊎ (r ≡ no_model restate.name) → (r ≡ Memory) ⊎ IsStray nodes again r
+stray nodes again restate asked unnamed r (inl memory) = inl memory
+stray nodes again restate asked unnamed r (inr told) = inr (record { restate = restate; asked = asked; unnamed = unnamed; told = told })

@@ -8,5 +8,7 @@ pub mod Applying
 pub mod Making
 -- Made: what a plan has to be for its changes to be made, and what is answered of it.
 pub mod Made
+-- Listing: the models of a plan with their objects, by name.
+pub mod Listing
 -- Migrating: the same of moving a book.
 pub mod Migrating

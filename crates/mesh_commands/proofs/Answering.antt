@@ -1,9 +1,9 @@
 -- What a command answers, over what it read.
-use Rattle.std.proofs.Common.{◌≡◌, ℕ, ◌≤◌, ◌⊎◌, inl, inr, true, false, List, [], length, Ok, Err, Some, Result, refl, sym, ◌∙◌, ap, subst, arith}
+use Rattle.std.proofs.Common.{◌≡◌, ℕ, ◌≤◌, inl, inr, true, false, List, [], Ok, Err, Some, Result, IsErrOf, refl, sym, ◌∙◌, ap, subst, arith}
 use Rattle.std.specs.Prelude.{IfSome}
 use Rattle.std.specs.declared.option.Option.{Option}
 use Rattle.std.proofs.lemmas.List.{append-nil}
-use Rattle.mesh_list.specs.Counts.{Rose, risen}
+use Rattle.mesh_list.specs.Counts.{Rose}
 use Rattle.mesh_book.specs.declared.book.Book.{Book}
 use Rattle.mesh_changes.specs.Commands.{is_present}
 use Rattle.mesh_house.specs.declared.world.World.{World}
@@ -16,15 +16,18 @@ use Rattle.mesh_house.specs.World.{book}
 use Rattle.mesh_layer.specs.Shows.{Tells}
 use Rattle.mesh_printed.specs.declared.refusals.Refusal.{Refusal}
 use Rattle.mesh_printed.specs.declared.refusals.Refusal.TheVariants.{Warehouse, Memory, BookBroken, StateOld}
-use Rattle.mesh_commands.specs.Answers.{Answers, IsAlone, IsGiven, IsMade, as_refusal, is_early, is_fault}
+use Rattle.mesh_commands.specs.Answers.{Answers, IsAlone, IsMade, as_refusal, is_fault}
 use Rattle.mesh_commands.specs.Present.{IsNotPresent, ReadsPresent}
 
 -- what is no fault is not the warehouse's failure
 pub no_warehouse : (r : Refusal) → is_fault r ≡ false → r ≡ Warehouse → ⊥
-no_warehouse r no e = absurd (let clash : true ≡ false = sym (ap is_fault e) ∙ no in cc)
+no_warehouse r fine e = absurd (let clash : true ≡ false = sym (ap is_fault e) ∙ fine in cc)
+
+other_memory : Memory ≡ Warehouse → ⊥
+other_memory e = absurd (let clash : Memory ≡ Warehouse = e in cc)
 
 -- one error is another, so their refusals are the same
-pub same_refusal : {T : Type 0} (r s : Refusal) → Err {T = T} r ≡ Err s → r ≡ s
+pub same_refusal : {T : Type 0} (r s : Refusal) → IsErrOf {T = T} {E = Refusal} (Err r) s → r ≡ s
 same_refusal r s e = cc
 
 -- that the book isn't as it has to be is not the warehouse's failure
@@ -50,10 +53,10 @@ module _ (a m : Told) (b : Book) (reads : Reads book a m (Ok b)) where
 
   -- the book isn't as it has to be
   pub read_refused : (r : Refusal) → IsNotPresent b r → is_fault r ≡ false → ReadsPresent a m (Err r)
-  read_refused r stands no = record {
+  read_refused r stands fine = record {
     alone = record { world = reads.world; calls = reads.calls };
     faults = reads.faults;
-    failed = λ is. absurd (no_warehouse r no (same_refusal {T = Book} r Warehouse is));
+    failed = λ is. absurd (no_warehouse r fine (same_refusal {T = Book} r Warehouse is));
     present = tt;
     book = tt;
     refused = λ no_fault w is. subst (λ (k : Book). IsNotPresent k r) (read_of w is) stands;
@@ -67,15 +70,15 @@ unread a m fails.Failed reads = record {
   failed = λ is. reads.failed refl;
   present = tt;
   book = tt;
-  refused = λ no w is. absurd (let clash : true ≡ false = no in cc);
+  refused = λ fine w is. absurd (let clash : true ≡ false = fine in cc);
 }
 unread a m fails.Memory reads = record {
   alone = record { world = reads.world; calls = reads.calls };
   faults = reads.faults;
-  failed = λ is. absurd (let clash : Err {T = Book} Memory ≡ Err Warehouse = is in cc);
+  failed = λ is. absurd (other_memory (same_refusal {T = Book} Memory Warehouse is));
   present = tt;
   book = tt;
-  refused = λ no w is. absurd (let clash : true ≡ false = no in cc);
+  refused = λ fine w is. absurd (let clash : true ≡ false = fine in cc);
 }
 
 -- nothing was changed, and nothing before
@@ -111,7 +114,7 @@ module _ {T : Type 0} (makes : World → List Change → Type 0) (gives : World 
     failed = λ is. failed (same_refusal {T = T} r Warehouse is);
     early = λ early. alone;
     made = λ w told. inl alone;
-    given = λ w told no. stands w told no;
+    given = λ w told fine. stands w told fine;
   }
 
   -- it is refused before anything was done
@@ -120,11 +123,11 @@ module _ {T : Type 0} (makes : World → List Change → Type 0) (gives : World 
 
   -- memory was wanting before anything was done
   pub wanting_first : (a : Told) → Answers makes gives a a (Err Memory)
-  wanting_first a = refused_first a Memory (λ e. absurd (let clash : Memory ≡ Warehouse = e in cc)) (λ w told no. absurd (let clash : true ≡ false = no in cc))
+  wanting_first a = refused_first a Memory (λ e. absurd (let clash : Memory ≡ Warehouse = e in cc)) (λ w told fine. absurd (let clash : true ≡ false = fine in cc))
 
   -- the book wasn't read, or isn't as it has to be
   pub not_present : (a c : Told) (r : Refusal) → ReadsPresent a c (Err r) → ((w : World) → Tells a w → IsNotPresent w.book r → gives w (Err r)) → Answers makes gives a c (Err r)
-  not_present a c r reads stands = refused_alone a c r reads.alone reads.faults (λ e. reads.failed (ap (λ (x : Refusal). Err x) e)) (λ w told no. stands w told (reads.refused no w told.world))
+  not_present a c r reads stands = refused_alone a c r reads.alone reads.faults (λ e. reads.failed (ap (λ (x : Refusal). Err x) e)) (λ w told fine. stands w told (reads.refused fine w told.world))
 
   -- what is answered without a change: no change is to be made
   pub told_alone : (a c : Told) (x : T) → IsAlone a c → a.faults ≤ c.faults → ((w : World) → Tells a w → makes w []) → ((w : World) → Tells a w → gives w (Ok x)) → Answers makes gives a c (Ok x)
@@ -132,7 +135,7 @@ module _ {T : Type 0} (makes : World → List Change → Type 0) (gives : World 
     faults = faults;
     failed = λ is. absurd (cc);
     early = tt;
-    made = λ w told. ([], (none w told, record { world = alone.world ∙ told.world; calls = omega (arith, alone.calls) }));
+    made = λ w told. ([], none w told, record { world = alone.world ∙ told.world; calls = omega (arith, alone.calls) });
     given = λ w told. stands w told;
   }
 
@@ -140,10 +143,10 @@ module _ {T : Type 0} (makes : World → List Change → Type 0) (gives : World 
   pub wanting_then : {U : Type 0} (before : World → Result U Refusal → Type 0) (a c : Told) (x : U) → Answers makes before a c (Ok x) → Answers makes gives a c (Err Memory)
   wanting_then {U = U} before a c x by = record {
     faults = by.faults;
-    failed = λ is. absurd (let clash : Err {T = T} Memory ≡ Err Warehouse = is in cc);
+    failed = λ is. absurd (other_memory (same_refusal {T = T} Memory Warehouse is));
     early = λ early. absurd (let clash : false ≡ true = early in cc);
-    made = λ w told. let all = by.made w told in inr (all.0, (all.1, whole_prefix all.0 w a.calls c all.2));
-    given = λ w told no. absurd (let clash : true ≡ false = no in cc);
+    made = λ w told. let all = by.made w told in inr (all.0, all.1, whole_prefix all.0 w a.calls c all.2);
+    given = λ w told fine. absurd (let clash : true ≡ false = fine in cc);
   }
 
   -- the answer of a call is passed on in other words
@@ -163,7 +166,7 @@ module _ {T : Type 0} (makes : World → List Change → Type 0) (gives : World 
     failed = λ is. by.failed (ap (λ (x : Refusal). Err x) (same_refusal {T = T} r Warehouse is));
     early = λ early. by.early early;
     made = λ w told. by.made w told;
-    given = λ w told no. so w told (by.given w told no);
+    given = λ w told fine. so w told (by.given w told fine);
   }
 
   -- nothing was changed before
@@ -172,9 +175,9 @@ module _ {T : Type 0} (makes : World → List Change → Type 0) (gives : World 
     tells w told = record { world = alone.world ∙ told.world; plain = told.plain }
 
     made_first : (r : Result T Refusal) (w : World) → IsMade (makes w) w m c r → IsMade (makes w) w a c r
-    made_first (Ok x) w by = (by.0, (by.1, subst (λ n. IsRun by.0 w n c) alone.calls by.2))
+    made_first (Ok x) w by = (by.0, by.1, subst (λ (n : ℕ). IsRun by.0 w n c) alone.calls by.2)
     made_first (Err r) w (inl still) = inl (alone_then a m c alone still)
-    made_first (Err r) w (inr by) = inr (by.0, (by.1, subst (λ n. IsPrefixRun by.0 w n c) alone.calls by.2))
+    made_first (Err r) w (inr by) = inr (by.0, by.1, subst (λ (n : ℕ). IsPrefixRun by.0 w n c) alone.calls by.2)
 
     -- what is answered after something was read is answered of the world that was read
     pub read_first : a.faults ≤ m.faults → (r : Result T Refusal) → Answers makes gives m c r → Answers makes gives a c r
@@ -190,7 +193,7 @@ module _ {T : Type 0} (makes : World → List Change → Type 0) (gives : World 
       failed = λ is. let rose = by.failed is in omega (arith, rose, faults);
       early = λ early. alone_then a m c alone (by.early early);
       made = λ w told. made_first (Err r) w (by.made w (tells w told));
-      given = λ w told no. by.given w (tells w told) no;
+      given = λ w told fine. by.given w (tells w told) fine;
     }
 
 -- the same changes and answers, told in other words
@@ -198,9 +201,9 @@ module _ {T : Type 0} (makes more : World → List Change → Type 0) (gives tel
     (making : (w : World) → Tells a w → (list : List Change) → makes w list → more w list)
     (giving : (w : World) → Tells a w → (r : Result T Refusal) → gives w r → tells w r) where
   made_so : (r : Result T Refusal) (w : World) → Tells a w → IsMade (makes w) w a c r → IsMade (more w) w a c r
-  made_so (Ok x) w told by = (by.0, (making w told by.0 by.1, by.2))
+  made_so (Ok x) w told by = (by.0, making w told by.0 by.1, by.2)
   made_so (Err r) w told (inl alone) = inl alone
-  made_so (Err r) w told (inr by) = inr (by.0, (making w told by.0 by.1, by.2))
+  made_so (Err r) w told (inr by) = inr (by.0, making w told by.0 by.1, by.2)
 
   pub answers_so : (r : Result T Refusal) → Answers makes gives a c r → Answers more tells a c r
   answers_so (Ok x) by = record {
@@ -215,5 +218,5 @@ module _ {T : Type 0} (makes more : World → List Change → Type 0) (gives tel
     failed = by.failed;
     early = by.early;
     made = λ w told. made_so (Err r) w told (by.made w told);
-    given = λ w told no. giving w told (Err r) (by.given w told no);
+    given = λ w told fine. giving w told (Err r) (by.given w told fine);
   }

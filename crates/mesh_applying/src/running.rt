@@ -11,7 +11,7 @@ ghost use Rattle.mesh_applying.specs.Applying.{RunGives, RunMakes};
 ghost use Rattle.mesh_applying.specs.Made.{HasBook, IsRunFor, MakesBy, RunTells};
 ghost use Rattle.mesh_applying.specs.Planning.{IsRunPlanned, RunRefused};
 
-use crate::apply::joined;
+use crate::applying::joined;
 use crate::faults::of_plan;
 use crate::promote::make_run;
 use mesh_book::Book;

@@ -1,0 +1,159 @@
+-- A book is moved by its map.
+use Rattle.std.proofs.Common.{◌≡◌, ◌⊎◌, ◌≤◌, inl, inr, ℕ, Bool, true, false, cond, not, List, [], ◌∷◌, length, map, Some, None, Ok, Err, Result, refl, sym, ap, ◌∙◌, subst, arith, length-map}
+use Rattle.std.specs.Prelude.{◌&&◌, nat_eq}
+use Rattle.mesh_values.specs.declared.values.Name.{Name}
+use Rattle.mesh_base.specs.declared.forgets.Rename.{Rename}
+use Rattle.mesh_tokens.specs.declared.faults.FaultKind.TheVariants.{FingerprintClash}
+use Rattle.mesh_book.specs.declared.book.Book.{Book}
+use Rattle.mesh_book.specs.declared.fault.BookFault.{BookFault}
+use Rattle.mesh_book.specs.WellFormed.{book_fault, is_well_formed_book}
+use Rattle.mesh_moves.specs.Renames.{has_twins, renamed_all}
+use Rattle.mesh_scratch.specs.Horizons.{Clock}
+use Rattle.mesh_house.specs.declared.house.WhFail.{WhFail}
+use Rattle.mesh_house.specs.declared.house.WhFail.TheVariants as fails
+use Rattle.mesh_house.specs.declared.world.Change.{Change}
+use Rattle.mesh_house.specs.declared.world.Change.TheVariants.{Migrate}
+use Rattle.mesh_house.specs.declared.world.World.{World}
+use Rattle.mesh_house.specs.House.{Reads, Told}
+use Rattle.mesh_house.specs.Runs.{Makes}
+use Rattle.mesh_house.specs.World.{book}
+use Rattle.mesh_layer.specs.Shows.{Tells}
+use Rattle.mesh_changes.specs.Commands.{MigrateAll, asked, changes}
+use Rattle.mesh_fault_text.specs.Lines.{name_text}
+use Rattle.mesh_migrate.specs.Migration.{IsMap, IsRefused, first_twins, rename_by}
+use Rattle.mesh_migrate.specs.Walk.{layers, limit_from, rename_at}
+use Rattle.mesh_migrate.specs.declared.fault.MigrationFault.{MigrationFault}
+use Rattle.mesh_migrate.specs.declared.fault.MigrationFault.TheVariants.{Twins, Memory as NoRoom}
+use Rattle.mesh_migrate.proofs.Maps.{moves_apart}
+use Rattle.mesh_migrate.proofs.Put.{walk_makes_the_map}
+use Rattle.mesh_printed.specs.Reports.{migrated_line}
+use Rattle.mesh_printed.specs.declared.refusals.Refusal.{Refusal}
+use Rattle.mesh_printed.specs.declared.refusals.Refusal.TheVariants.{BookBroken, Memory, Model, Warehouse}
+use Rattle.mesh_commands.specs.Answers.{Answers, IsAlone, as_refusal}
+use Rattle.mesh_commands.proofs.Answering.{alone_itself, read_first, read_of, refused_first, told_alone, wanting_first}
+use Rattle.mesh_applying.specs.Made.{HasBook}
+use Rattle.mesh_applying.specs.Migrating.{IsMoved, MigrateGives, MigrateMakes, Moves, moved_number, of_migration}
+
+-- a well-formed book has a map
+has_map : (b : Book) → is_well_formed_book b ≡ true → (renames : List Rename) × IsMap b renames
+has_map b well = (map (rename_at (layers (limit_from 0 b.snapshots) b.snapshots [])) b.snapshots, walk_makes_the_map b well [])
+
+-- whether a book is moved
+abbrev moves : Book → List Rename → Bool
+moves b renames = is_well_formed_book b && (nat_eq b.version 1 && not (has_twins (renamed_all renames b.snapshots)))
+
+abbrev Done : Told → Told → Result (List ℕ) Refusal → Type 0
+Done a c r = Answers MigrateMakes MigrateGives a c r
+
+module _ (b : Book) (well : is_well_formed_book b ≡ true) (a : Told) (has : HasBook b a) where
+  well_of : (w : World) → Tells a w → is_well_formed_book w.book ≡ true
+  well_of w t = ap is_well_formed_book (has w t.world) ∙ well
+
+  map_of : (renames : List Rename) → IsMap b renames → (w : World) → Tells a w → IsMoved w.book renames
+  map_of renames is w t = record { well_formed = well_of w t; map = subst (λ (k : Book). IsMap k renames) (sym (has w t.world)) is }
+
+  number_of : (w : World) → Tells a w → moved_number w.book ≡ moved_number b
+  number_of w t = ap moved_number (has w t.world)
+
+  -- a book of another version stays
+  pub stays : (line : List ℕ) → nat_eq b.version 1 ≡ false → line ≡ migrated_line 0 → Done a a (Ok line)
+  stays line other is =
+      let (renames, is_map) = has_map b well in
+      told_alone MigrateMakes MigrateGives a a line (alone_itself a) (omega arith)
+      (λ w t. (renames, map_of renames is_map w t, λ clock. sym ((λ i. cond (moves (has w t.world i) renames) (Migrate renames ∷ []) []) ∙ still renames)))
+      (λ w t. (well_of w t, is ∙ sym (ap migrated_line (number_of w t ∙ (λ i. cond (other i) (length b.snapshots) 0)))))
+    where
+      still : (renames : List Rename) → cond (moves b renames) (Migrate renames ∷ []) [] ≡ []
+      still renames = (λ i. cond (well i && (other i && not (has_twins (renamed_all renames b.snapshots)))) (Migrate renames ∷ []) [])
+
+  -- one of the former version is moved
+  module _ (former : nat_eq b.version 1 ≡ true) where
+    module _ (renames : List Rename) (is : IsMap b renames) (apart : first_twins renames ≡ None) where
+      asks : (w : World) → Tells a w → (clock : Clock) → Migrate renames ∷ [] ≡ changes clock (MigrateAll renames) w
+      asks w t clock = sym (
+        (λ i. cond (moves (has w t.world i) renames) (Migrate renames ∷ []) [])
+        ∙ (λ i. cond (well i && (former i && not (moves_apart b renames well is apart i))) (Migrate renames ∷ []) [])
+      )
+
+      makes : (w : World) → Tells a w → MigrateMakes w (Migrate renames ∷ [])
+      makes w t = (renames, map_of renames is w t, asks w t)
+
+      halted : (c : Told) (e : WhFail) → Makes {T = Unit {0}} (λ w. Migrate renames ∷ []) a c (Err e) → Done a c (Err (as_refusal e))
+      halted c fails.Failed q = record {
+        faults = q.err.faults;
+        failed = λ k. q.failed refl;
+        early = λ k. absurd (cc);
+        made = λ w t. inr (Migrate renames ∷ [], makes w t, q.err.told w t.world);
+        given = λ w t k. absurd (cc);
+      }
+      halted c fails.Memory q = record {
+        faults = q.err.faults;
+        failed = λ k. absurd (cc);
+        early = λ k. absurd (cc);
+        made = λ w t. inr (Migrate renames ∷ [], makes w t, q.err.told w t.world);
+        given = λ w t k. absurd (cc);
+      }
+
+      pub moved_on : (c : Told) (line : List ℕ) (r : Result (List ℕ) Refusal) → line ≡ migrated_line (length b.snapshots) → Moves renames line a c r → Done a c r
+      moved_on c line (Ok text) as_ (q, same) = record {
+        faults = q.faults;
+        failed = λ k. absurd (cc);
+        early = tt;
+        made = λ w t. (Migrate renames ∷ [], makes w t, q.told w t.world);
+        given = λ w t. (well_of w t, same ∙ as_ ∙ sym (ap migrated_line (number_of w t ∙ (λ i. cond (former i) (length b.snapshots) 0))));
+      }
+      moved_on c line (Err r) as_ (e, same, q) = subst (λ (x : Refusal). Done a c (Err x)) (sym same) (halted c e q)
+
+    clashes : (fault : MigrationFault) → IsRefused b fault → Done a a (Err (of_migration fault))
+    clashes (Twins name stored given) refused =
+        refused_first MigrateMakes MigrateGives a (of_migration (Twins name stored given)) (λ e. absurd (cc))
+        (λ w t no. inr (record {
+          well_formed = well_of w t;
+          former = ap (λ (k : Book). nat_eq k.version 1) (has w t.world) ∙ former;
+          name = name;
+          stored = stored;
+          given = given;
+          first = subst (λ (k : Book). IsRefused k (Twins name stored given)) (sym (has w t.world)) refused;
+          told = refl;
+        }))
+    clashes NoRoom refused = wanting_first MigrateMakes MigrateGives a
+
+    -- two of its snapshots would become one
+    pub clashing : (fault : MigrationFault) (r : Refusal) → IsRefused b fault → (r ≡ Memory) ⊎ (r ≡ of_migration fault) → Done a a (Err r)
+    clashing fault r refused (inl memory) = subst (λ (x : Refusal). Done a a (Err x)) (sym memory) (wanting_first MigrateMakes MigrateGives a)
+    clashing fault r refused (inr is) = subst (λ (x : Refusal). Done a a (Err x)) (sym is) (clashes fault refused)
+
+-- memory was wanting for the line
+pub unlined : (a : Told) (r : Refusal) → r ≡ Memory → Done a a (Err r)
+unlined a r is = subst (λ (x : Refusal). Done a a (Err x)) (sym is) (wanting_first MigrateMakes MigrateGives a)
+
+-- the book breaks a rule
+pub broken : (b : Book) (a : Told) → HasBook b a → (fault : BookFault) → book_fault b ≡ Some fault → Done a a (Err (BookBroken fault.part fault.place))
+broken b a has fault first =
+    refused_first MigrateMakes MigrateGives a (BookBroken fault.part fault.place) (λ e. absurd (cc))
+    (λ w t no. inl (record { fault = fault; first = ap book_fault (has w t.world) ∙ first; told = refl }))
+
+-- the book wasn't read
+pub not_read : (a m : Told) (e : WhFail) → Reads {T = Book} book a m (Err e) → Done a m (Err (as_refusal e))
+not_read a m fails.Failed reads = record {
+  faults = reads.faults;
+  failed = λ k. reads.failed refl;
+  early = λ k. absurd (cc);
+  made = λ w t. inl (record { world = reads.world; calls = reads.calls });
+  given = λ w t k. absurd (cc);
+}
+not_read a m fails.Memory reads = record {
+  faults = reads.faults;
+  failed = λ k. absurd (cc);
+  early = λ k. absurd (cc);
+  made = λ w t. inl (record { world = reads.world; calls = reads.calls });
+  given = λ w t k. absurd (cc);
+}
+
+-- the book was read, and the house has it
+module _ (a m : Told) (b : Book) (reads : Reads book a m (Ok b)) where
+  pub has_it : HasBook b m
+  has_it w is = sym (read_of a m b reads w (sym reads.world ∙ is))
+
+  pub by_the_book : (c : Told) (r : Result (List ℕ) Refusal) → Done m c r → Done a c r
+  by_the_book c r by = read_first MigrateMakes MigrateGives a m c (record { world = reads.world; calls = reads.calls }) reads.faults r by
