@@ -15,7 +15,7 @@ use Rattle.mesh_layer.specs.declared.faults.ShowFault.{ShowFault}
 use Rattle.mesh_layer.specs.declared.faults.ShowFault.TheVariants as fault
 use Rattle.mesh_layer.specs.Asked.{lost_model, view_table}
 use Rattle.mesh_layer.specs.Lost.{first_of}
-use Rattle.mesh_layer.specs.Shows.{Finds, Tells}
+use Rattle.mesh_layer.specs.Shows.{Finds}
 use Rattle.mesh_layer.proofs.Asking.{view_found}
 use Rattle.mesh_layer.proofs.Heights.{none_lost}
 use Rattle.mesh_printed.specs.declared.refusals.Refusal.{Refusal}

@@ -1,4 +1,4 @@
-use Rattle.mesh_asking.proofs.Looking.{given_later, given_stops}
+use Rattle.mesh_asking.proofs.Looking.{given_stops}
 use Rattle.mesh_asking.proofs.evaluated.evaluated.Goals as goal
 
 pub returns-in_err-list : goal.returns-in_err-list
