@@ -86,12 +86,7 @@ fn fits<W: Warehouse>(
 }
 
 // The change, and the line that is printed when it is made.
-fn load_of(
-    alloc: Global,
-    name: &Name,
-    source: Seed,
-    append: bool,
-) -> Result<(Change, Str), Memory>
+fn load_of(alloc: Global, name: &Name, source: Seed, append: bool) -> Result<(Change, Str), Memory>
     ensures { IfOk result (λ made. made ≡ (Load name.now source.columns source.rows append, ingested_line name.now (length source.rows))) }
 {
     let line = ingested_line(alloc, name, source.rows.len() as u64)?;
