@@ -2,3 +2,5 @@
 pub mod Told
 -- Sweeps: what the janitor's calls leave, as a command tells it.
 pub mod Sweeps
+-- Loading: what one change leaves where its call stopped.
+pub mod Loading

@@ -14,8 +14,9 @@ use Rattle.mesh_house.specs.World.{book}
 use Rattle.mesh_house.proofs.Runs.{ran_none, ran_then, stopped_none, stopped_then}
 use Rattle.mesh_printed.specs.declared.refusals.Refusal.{Refusal}
 use Rattle.mesh_printed.specs.declared.refusals.Refusal.TheVariants.{Warehouse, Memory, BookBroken, StateOld}
-use Rattle.mesh_upkeep.specs.Answered.{Answered, IsCause, as_refusal}
-use Rattle.mesh_upkeep.specs.Upkeep.{IsNotPresent}
+use Rattle.mesh_commands.specs.Answers.{as_refusal}
+use Rattle.mesh_commands.specs.Present.{IsNotPresent}
+use Rattle.mesh_upkeep.specs.Answered.{Answered, IsCause}
 
 -- nothing was called for but to read
 pub idle : (list : World → List Change) (a c : Told) → c.world ≡ a.world → c.calls ≡ a.calls → a.faults ≤ c.faults → Stopped list a c

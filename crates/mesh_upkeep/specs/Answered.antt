@@ -4,17 +4,10 @@ use Rattle.std.specs.Option.{ForSome}
 use Rattle.mesh_list.specs.Counts.{Rose}
 use Rattle.mesh_house.specs.declared.world.World.{World}
 use Rattle.mesh_house.specs.declared.world.Change.{Change}
-use Rattle.mesh_house.specs.declared.house.WhFail.{WhFail}
-use Rattle.mesh_house.specs.declared.house.WhFail.TheVariants as fails
 use Rattle.mesh_house.specs.House.{Told}
 use Rattle.mesh_house.specs.Runs.{Ran, Stopped}
 use Rattle.mesh_printed.specs.declared.refusals.Refusal.{Refusal}
 use Rattle.mesh_printed.specs.declared.refusals.Refusal.TheVariants.{Warehouse, Memory}
-
--- a warehouse's failure, as a command tells it
-abbrev pub as_refusal : WhFail → Refusal
-as_refusal fails.Failed = Warehouse
-as_refusal fails.Memory = Memory
 
 -- nothing was changed, and the world that was told has this
 pub record LeftAlone (has : World → Type 0) (old new : Told) : Type 0 where

@@ -1,11 +1,9 @@
 -- What the commands that keep a book in order make and print, and why they are refused.
-use Rattle.std.specs.Prelude.{◌≡◌, ◌⊎◌, ℕ, ℤ, true, false, ◌&&◌, nat_eq, List, [], ◌∷◌, Some, if◌then◌else◌}
+use Rattle.std.specs.Prelude.{◌≡◌, ◌⊎◌, ℕ, ℤ, true, ◌&&◌, List, [], ◌∷◌, if◌then◌else◌}
 use Rattle.std.specs.Int.Signed.{lt_z}
 use Rattle.std.specs.Option.{is_none, is_some}
 use Rattle.mesh_base.specs.declared.jobs.Swept.{Swept}
 use Rattle.mesh_book.specs.declared.book.Book.{Book}
-use Rattle.mesh_book.specs.declared.fault.BookFault.{BookFault}
-use Rattle.mesh_book.specs.WellFormed.{book_fault, is_well_formed_book}
 use Rattle.mesh_house.specs.declared.world.Change.{Change}
 use Rattle.mesh_house.specs.declared.world.Change.TheVariants.{Expire}
 use Rattle.mesh_changes.specs.Commands.{is_not_behind, is_present}
@@ -13,23 +11,9 @@ use Rattle.mesh_changes.specs.Environments.{env_at}
 use Rattle.mesh_changes.specs.Kept.{sweeps}
 use Rattle.mesh_janitor.specs.Sweeping.{numbers}
 use Rattle.mesh_printed.specs.declared.refusals.Refusal.{Refusal}
-use Rattle.mesh_printed.specs.declared.refusals.Refusal.TheVariants.{BookBroken, StateOld, MomentBehind, EnvUnknown}
+use Rattle.mesh_printed.specs.declared.refusals.Refusal.TheVariants.{MomentBehind, EnvUnknown}
 use Rattle.mesh_printed.specs.Reports.{janitor_line}
-
--- the book breaks a rule, and this is told
-pub record IsBroken (b : Book) (r : Refusal) : Type 0 where
-  pub fault : BookFault
-  pub first : book_fault b ≡ Some fault
-  pub told : r ≡ BookBroken fault.part fault.place
-
--- the book breaks no rule and is of another version, and this is told
-pub record IsOld (b : Book) (r : Refusal) : Type 0 where
-  pub well_formed : is_well_formed_book b ≡ true
-  pub version : nat_eq b.version 2 ≡ false
-  pub told : r ≡ StateOld b.version
-
-abbrev pub IsNotPresent : Book → Refusal → Type 0
-IsNotPresent b r = IsBroken b r ⊎ IsOld b r
+use Rattle.mesh_commands.specs.Present.{IsNotPresent}
 
 -- the book is as it has to be and of a later moment, and this is told
 pub record IsBehind (t : ℤ) (b : Book) (r : Refusal) : Type 0 where

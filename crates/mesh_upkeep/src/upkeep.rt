@@ -9,9 +9,9 @@ ghost use Rattle.mesh_printed.specs.Reports.{invalidated_line, janitor_line};
 ghost use Rattle.mesh_upkeep.specs.Answered.{Answered};
 ghost use Rattle.mesh_upkeep.specs.Upkeep.{InvalidateRefused, JanitorRefused, invalidate_changes, janitor_changes, swept_line};
 
-use crate::books::{as_refusal, present};
 use mesh_base::Swept;
 use mesh_book::Book;
+use mesh_commands::{as_refusal, present};
 use mesh_house::Warehouse;
 use mesh_janitor::SweepFault;
 use mesh_list::{Duplicate, Memory};
