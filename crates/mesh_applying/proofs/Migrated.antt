@@ -38,7 +38,7 @@ abbrev moves : Book → List Rename → Bool
 moves b renames = is_well_formed_book b && (nat_eq b.version 1 && not (has_twins (renamed_all renames b.snapshots)))
 
 abbrev Done : Told → Told → Result (List ℕ) Refusal → Type 0
-Done a c r = Answers MigrateMakes MigrateGives a c r
+Done a c r = Answers ⊥ MigrateMakes MigrateGives a c r
 
 module _ (b : Book) (well : is_well_formed_book b ≡ true) (a : Told) (has : HasBook b a) where
   well_of : (w : World) → Tells a w → is_well_formed_book w.book ≡ true
@@ -77,6 +77,7 @@ module _ (b : Book) (well : is_well_formed_book b ≡ true) (a : Told) (has : Ha
       halted c fails.Failed q = record {
         faults = q.err.faults;
         failed = λ k. q.failed refl;
+        beyond = λ k. absurd (cc);
         early = λ k. absurd (cc);
         made = λ w t. inr (Migrate renames ∷ [], makes w t, q.err.told w t.world);
         given = λ w t k. absurd (cc);
@@ -84,6 +85,7 @@ module _ (b : Book) (well : is_well_formed_book b ≡ true) (a : Told) (has : Ha
       halted c fails.Memory q = record {
         faults = q.err.faults;
         failed = λ k. absurd (cc);
+        beyond = λ k. absurd (cc);
         early = λ k. absurd (cc);
         made = λ w t. inr (Migrate renames ∷ [], makes w t, q.err.told w t.world);
         given = λ w t k. absurd (cc);
@@ -93,6 +95,7 @@ module _ (b : Book) (well : is_well_formed_book b ≡ true) (a : Told) (has : Ha
       moved_on c line (Ok text) as_ (q, same) = record {
         faults = q.faults;
         failed = λ k. absurd (cc);
+        beyond = λ k. absurd (cc);
         early = tt;
         made = λ w t. (Migrate renames ∷ [], makes w t, q.told w t.world);
         given = λ w t. (well_of w t, same ∙ as_ ∙ sym (ap migrated_line (number_of w t ∙ (λ i. cond (former i) (length b.snapshots) 0))));
@@ -101,7 +104,7 @@ module _ (b : Book) (well : is_well_formed_book b ≡ true) (a : Told) (has : Ha
 
     clashes : (fault : MigrationFault) → IsRefused b fault → Done a a (Err (of_migration fault))
     clashes (Twins name stored given) refused =
-        refused_first MigrateMakes MigrateGives a (of_migration (Twins name stored given)) (λ e. absurd (cc))
+        refused_first MigrateMakes MigrateGives a (of_migration (Twins name stored given)) refl
         (λ w t no. inr (record {
           well_formed = well_of w t;
           former = ap (λ (k : Book). nat_eq k.version 1) (has w t.world) ∙ former;

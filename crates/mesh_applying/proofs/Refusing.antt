@@ -19,31 +19,28 @@ use Rattle.mesh_printed.specs.declared.refusals.Refusal.{Refusal}
 use Rattle.mesh_printed.specs.declared.refusals.Refusal.TheVariants.{Model, Warehouse, Memory, MomentBehind, EnvUnknown, EnvPending}
 use Rattle.mesh_commands.specs.Answers.{Answers, is_fault, no_changes}
 use Rattle.mesh_commands.specs.Present.{ReadsPresent}
-use Rattle.mesh_commands.proofs.Answering.{present_otherwise, refused_alone, told_alone}
+use Rattle.mesh_commands.proofs.Answering.{is_beyond, not_outside, not_warehouse, present_beyond, refused_alone, told_alone}
 use Rattle.mesh_applying.specs.Applying.{PlanGives}
 use Rattle.mesh_applying.specs.Planning.{IsPlanned, IsStray, PlanRefused, RunRefused, has_named, no_model, of_plan}
 
--- no fault of a plan is the warehouse's
-plan_otherwise : (env : List ℕ) (why : PlanFault) → of_plan env why ≡ Warehouse → ⊥
-plan_otherwise env (fault.Model name kind) e = absurd (let clash : Model (name_text name) 0 kind ≡ Warehouse = e in cc)
-plan_otherwise env (fault.Moment given kept) e = absurd (let clash : MomentBehind given kept ≡ Warehouse = e in cc)
-plan_otherwise env fault.EnvUnknown e = absurd (let clash : EnvUnknown env ≡ Warehouse = e in cc)
-plan_otherwise env fault.EnvPending e = absurd (let clash : EnvPending env ≡ Warehouse = e in cc)
-plan_otherwise env fault.Memory e = absurd (let clash : Memory ≡ Warehouse = e in cc)
-
-memory_otherwise : (r : Refusal) → r ≡ Memory → r ≡ Warehouse → ⊥
-memory_otherwise r is e = absurd (let clash : Memory ≡ Warehouse = sym is ∙ e in cc)
+-- no fault of a plan is the warehouse's, or one outside
+plan_beyond : (env : List ℕ) (why : PlanFault) → is_beyond (of_plan env why) ≡ false
+plan_beyond env (fault.Model name kind) = refl
+plan_beyond env (fault.Moment given kept) = refl
+plan_beyond env fault.EnvUnknown = refl
+plan_beyond env fault.EnvPending = refl
+plan_beyond env fault.Memory = refl
 
 module _ (b : Book) (nodes : List Node) (env : List ℕ) (t : ℤ) (again : Option Restate) where
-  -- why nothing is planned isn't that the warehouse failed
-  refused_otherwise : (r : Refusal) → PlanRefused b nodes env t again r → r ≡ Warehouse → ⊥
-  refused_otherwise r (inl not_present) e = present_otherwise b r not_present e
-  refused_otherwise r (inr (inl unplanned)) e = plan_otherwise env unplanned.why (sym unplanned.told ∙ e)
-  refused_otherwise r (inr (inr unnamed)) e = absurd (let clash : no_model unnamed.stray.restate.name ≡ Warehouse = sym unnamed.stray.told ∙ e in cc)
+  -- why nothing is planned isn't that the warehouse failed, or something outside
+  refused_beyond : (r : Refusal) → PlanRefused b nodes env t again r → is_beyond r ≡ false
+  refused_beyond r (inl not_present) = present_beyond b r not_present
+  refused_beyond r (inr (inl unplanned)) = ap is_beyond unplanned.told ∙ plan_beyond env unplanned.why
+  refused_beyond r (inr (inr unnamed)) = ap is_beyond unnamed.stray.told
 
-  pub unplanned_otherwise : (r : Refusal) → (r ≡ Memory) ⊎ PlanRefused b nodes env t again r → r ≡ Warehouse → ⊥
-  unplanned_otherwise r (inl memory) e = memory_otherwise r memory e
-  unplanned_otherwise r (inr refused) e = refused_otherwise r refused e
+  pub unplanned_beyond : (r : Refusal) → (r ≡ Memory) ⊎ PlanRefused b nodes env t again r → is_beyond r ≡ false
+  unplanned_beyond r (inl memory) = ap is_beyond memory
+  unplanned_beyond r (inr refused) = refused_beyond r refused
 
   -- a fault of the plan is told
   pub fault_told : is_present b ≡ true → (why : PlanFault) → RefusesPlan b (compared_list b env) nodes t why → (r : Refusal) → (r ≡ Memory) ⊎ (r ≡ of_plan env why) → (r ≡ Memory) ⊎ PlanRefused b nodes env t again r
@@ -56,10 +53,10 @@ module _ (b : Book) (nodes : List Node) (env : List ℕ) (t : ℤ) (again : Opti
   stray_told present p is r (inr stray) = inr (inr (inr (record { present = present; plan = p; planned = is; stray = stray })))
 
 module _ (b : Book) (env : List ℕ) (t : ℤ) where
-  pub run_otherwise : (r : Refusal) → (r ≡ Memory) ⊎ RunRefused b env t r → r ≡ Warehouse → ⊥
-  run_otherwise r (inl memory) e = memory_otherwise r memory e
-  run_otherwise r (inr (inl not_present)) e = present_otherwise b r not_present e
-  run_otherwise r (inr (inr unplanned)) e = plan_otherwise env unplanned.why (sym unplanned.told ∙ e)
+  pub run_beyond : (r : Refusal) → (r ≡ Memory) ⊎ RunRefused b env t r → is_beyond r ≡ false
+  run_beyond r (inl memory) = ap is_beyond memory
+  run_beyond r (inr (inl not_present)) = present_beyond b r not_present
+  run_beyond r (inr (inr unplanned)) = ap is_beyond unplanned.told ∙ plan_beyond env unplanned.why
 
   -- a fault of a run's plan is told
   pub run_fault_told : is_present b ≡ true → (why : PlanFault) → RefusesRun b (env_at b env) t why → (r : Refusal) → (r ≡ Memory) ⊎ (r ≡ of_plan env why) → (r ≡ Memory) ⊎ RunRefused b env t r
@@ -74,10 +71,10 @@ no_wanting r fine (inr x) = x
 -- the text of a plan is answered, or why there is none, of the book that was read
 module _ (nodes : List Node) (env : List ℕ) (t : ℤ) (again : Option Restate) (a c : Told) (b : Book) (reads : ReadsPresent a c (Ok b)) where
   pub looked : (r : Result (List ℕ) Refusal) → IfOk r (λ text. (p : Plan) × IsPlanned b nodes env t again p × (text ≡ plan_text p)) → IfErr r (λ e. (e ≡ Memory) ⊎ PlanRefused b nodes env t again e)
-      → Answers no_changes (PlanGives nodes env t again) a c r
+      → Answers ⊥ no_changes (PlanGives nodes env t again) a c r
   looked (Ok text) ok err = told_alone no_changes (PlanGives nodes env t again) a c text reads.alone reads.faults (λ w told. refl)
       (λ w told. subst (λ (k : Book). (p : Plan) × IsPlanned k nodes env t again p × (text ≡ plan_text p)) (reads.book w told.world) ok)
-  looked (Err r) ok err = refused_alone no_changes (PlanGives nodes env t again) a c r reads.alone reads.faults (λ e. absurd (unplanned_otherwise b nodes env t again r err e))
+  looked (Err r) ok err = refused_alone no_changes (PlanGives nodes env t again) a c r reads.alone reads.faults (λ e. absurd (not_warehouse r (unplanned_beyond b nodes env t again r err) e)) (λ e. absurd (not_outside r (unplanned_beyond b nodes env t again r err) e))
       (λ w told fine. subst (λ (k : Book). PlanRefused k nodes env t again r) (reads.book w told.world) (no_wanting r fine err))
 
 -- a model is named that the project hasn't, and this is told

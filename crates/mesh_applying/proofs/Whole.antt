@@ -32,6 +32,7 @@ module _ (p : Plan) (c : Command) (b : Book) where
   wanting a = record {
     faults = omega arith;
     failed = λ is. absurd (cc);
+    inside = λ is. absurd (cc);
     early = λ is. absurd (cc);
     made = λ w t e. inl (record { world = refl; calls = refl });
     given = λ is. absurd (cc);
@@ -58,6 +59,7 @@ module _ (p : Plan) (c : Command) (b : Book) where
     as_told (fault.Dangling object) h = record {
       faults = h.faults;
       failed = λ is. absurd (cc);
+      inside = λ is. absurd (cc);
       early = λ is. absurd (cc);
       made = λ w t e. cut_is w e (of_exec (fault.Dangling object)) (h.err w t);
       given = λ is w t e. inr (stop_at object h w t);
@@ -65,6 +67,7 @@ module _ (p : Plan) (c : Command) (b : Book) where
     as_told (fault.Model name kind) h = record {
       faults = h.faults;
       failed = λ is. absurd (cc);
+      inside = λ is. absurd (cc);
       early = λ is. let un = h.unmade name kind refl in record { world = un.0; calls = un.1 };
       made = λ w t e. cut_is w e (of_exec (fault.Model name kind)) (h.err w t);
       given = λ is w t e. inl (record { lack = record { model = name; kind = kind }; first = h.lacking name kind refl w t; told = refl });
@@ -72,6 +75,7 @@ module _ (p : Plan) (c : Command) (b : Book) where
     as_told fault.Warehouse h = record {
       faults = h.faults;
       failed = λ is. h.failed refl;
+      inside = λ is. absurd (cc);
       early = λ is. absurd (cc);
       made = λ w t e. cut_is w e Warehouse (h.err w t);
       given = λ is. absurd (cc);
@@ -79,6 +83,7 @@ module _ (p : Plan) (c : Command) (b : Book) where
     as_told fault.Memory h = record {
       faults = h.faults;
       failed = λ is. absurd (cc);
+      inside = λ is. absurd (cc);
       early = λ is. absurd (cc);
       made = λ w t e. cut_is w e Memory (h.err w t);
       given = λ is. absurd (cc);
@@ -88,6 +93,7 @@ module _ (p : Plan) (c : Command) (b : Book) where
     unsaid f h = record {
       faults = h.faults;
       failed = λ is. absurd (cc);
+      inside = λ is. absurd (cc);
       early = λ is. absurd (cc);
       made = λ w t e. cut_is w e Memory (h.err w t);
       given = λ is. absurd (cc);
@@ -102,6 +108,7 @@ module _ (p : Plan) (c : Command) (b : Book) where
   ran a z done of h = record {
     faults = h.faults;
     failed = λ is. absurd (cc);
+    inside = λ is. absurd (cc);
     early = tt;
     made = λ w t e. let (ready, made, long) = h.ok w t in (ready, (executed p w, of w e, made, ap (λ (d : Done). d.changes) h.number ∙ sym long));
     given = tt;
@@ -131,6 +138,7 @@ module _ (p : Plan) (c : Command) (b : Book) where
     failed_then fails.Failed q = record {
       faults = omega (arith, h.faults, q.err.faults);
       failed = λ is. let rose = q.failed refl in omega (arith, rose, h.faults);
+      inside = λ is. absurd (cc);
       early = λ is. absurd (cc);
       made = λ w t e. part_cut w t e Warehouse fails.Failed q;
       given = λ is. absurd (cc);
@@ -138,6 +146,7 @@ module _ (p : Plan) (c : Command) (b : Book) where
     failed_then fails.Memory q = record {
       faults = omega (arith, h.faults, q.err.faults);
       failed = λ is. absurd (cc);
+      inside = λ is. absurd (cc);
       early = λ is. absurd (cc);
       made = λ w t e. part_cut w t e Memory fails.Memory q;
       given = λ is. absurd (cc);
@@ -147,6 +156,7 @@ module _ (p : Plan) (c : Command) (b : Book) where
     uncounted q = record {
       faults = omega (arith, h.faults, q.faults);
       failed = λ is. absurd (cc);
+      inside = λ is. absurd (cc);
       early = λ is. absurd (cc);
       made = λ w t e. all_cut w t e Memory q;
       given = λ is. absurd (cc);
@@ -156,6 +166,7 @@ module _ (p : Plan) (c : Command) (b : Book) where
     with_promotion (Ok n) (q, number) = record {
       faults = omega (arith, h.faults, q.faults);
       failed = λ is. absurd (cc);
+      inside = λ is. absurd (cc);
       early = tt;
       made = λ w t e.
           let (ready, made, long) = h.ok w t in

@@ -11,7 +11,7 @@ use Rattle.mesh_house.specs.Runs.{IsPrefixRun, IsRun, Makes, Ran}
 use Rattle.mesh_layer.specs.Shows.{Tells}
 use Rattle.mesh_changes.specs.Commands.{Command}
 use Rattle.mesh_printed.specs.declared.refusals.Refusal.{Refusal}
-use Rattle.mesh_printed.specs.declared.refusals.Refusal.TheVariants.{Memory, Warehouse}
+use Rattle.mesh_printed.specs.declared.refusals.Refusal.TheVariants.{Input, Memory, Warehouse}
 use Rattle.mesh_commands.specs.Answers.{IsAlone, as_refusal, is_early, is_fault}
 use Rattle.mesh_applying.specs.Applying.{AreOf, IsHeld, IsReady}
 
@@ -24,6 +24,7 @@ IsWhole p c w old new (Err r) = IsAlone old new ⊎ (IsReady p w × ((list : Lis
 pub record MakesAll (p : Plan) (c : Command) (b : Book) (old new : Told) (result : Result ℕ Refusal) : Type 0 where
   pub faults : old.faults ≤ new.faults
   pub failed : IsErrOf result Warehouse → Rose old.faults new.faults
+  pub inside : IsErrOf result Input → ⊥
   pub early : IfErr result (λ r. is_early r ≡ true → IsAlone old new)
   pub made : (w : World) → Tells old w → w.book ≡ b → IsWhole p c w old new result
   pub given : IfErr result (λ r. is_fault r ≡ false → (w : World) → Tells old w → w.book ≡ b → IsHeld p w r)

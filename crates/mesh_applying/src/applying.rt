@@ -1,12 +1,13 @@
 // `apply`.
 ghost use Rattle.std.specs.Prelude.{◌≡◌, ◌≤◌, ◌++◌, true, IfOk};
 ghost use Rattle.std.specs.Option.{option_copied};
+ghost use Rattle.mesh_list.specs.Counts.{Rose};
 ghost use Rattle.mesh_days.specs.Moments.{IsMoment};
 ghost use Rattle.mesh_changes.specs.Commands.{Apply, is_present};
 ghost use Rattle.mesh_plan.specs.Plans.{promised};
 ghost use Rattle.mesh_plan_text.specs.PlanText.{plan_text};
 ghost use Rattle.mesh_printed.specs.Reports.{applied_line};
-ghost use Rattle.mesh_commands.specs.Answers.{Answers};
+ghost use Rattle.mesh_commands.specs.Answers.{Answers, IsAsked};
 ghost use Rattle.mesh_applying.specs.Applying.{ApplyGives, ApplyMakes};
 ghost use Rattle.mesh_applying.specs.Loaded.{IsProject, OfProject};
 ghost use Rattle.mesh_applying.specs.Made.{ApplyTells, HasBook, IsPlanFor, MakesBy};
@@ -56,7 +57,7 @@ fn apply_plan<R: Threads + Sync, W: Warehouse>(
     requires present { is_present b.now ≡ true }
     requires plan { IsPlanFor b.now p.now }
     requires book { HasBook b.now (W.told house.old) }
-    ensures { Answers (MakesBy p.now (Apply (promised p.now))) (ApplyTells p.now) (W.told house.old) (W.told house.new) result }
+    ensures { Answers ⊥ (MakesBy p.now (Apply (promised p.now))) (ApplyTells p.now) (W.told house.old) (W.told house.new) result }
 {
     match make_plan(rt, alloc, house, b, p, workers) {
         Err(refusal) => Err(refusal),
@@ -82,7 +83,7 @@ fn apply_by<R: Threads + Sync, W: Warehouse>(
     requires present { is_present b.now ≡ true }
     requires moment { IsMoment t }
     requires book { HasBook b.now (W.told house.old) }
-    ensures { Answers (ApplyMakes project.now.nodes env.now t (option_copied again.entry)) (ApplyGives project.now.nodes env.now t (option_copied again.entry)) (W.told house.old) (W.told house.new) result }
+    ensures { Answers ⊥ (ApplyMakes project.now.nodes env.now t (option_copied again.entry)) (ApplyGives project.now.nodes env.now t (option_copied again.entry)) (W.told house.old) (W.told house.new) result }
 {
     match planned(alloc, b, project, env, t, again) {
         Err(refusal) => Err(refusal),
@@ -102,7 +103,7 @@ fn apply_project<R: Threads + Sync, W: Warehouse>(
 ) -> Result<Str, Refusal>
     requires workers { (1 ≤ workers) × (workers ≤ 64) }
     requires moment { IsMoment t }
-    ensures { Answers (ApplyMakes project.now.nodes env.now t (option_copied again.entry)) (ApplyGives project.now.nodes env.now t (option_copied again.entry)) (W.told house.old) (W.told house.new) result }
+    ensures { Answers ⊥ (ApplyMakes project.now.nodes env.now t (option_copied again.entry)) (ApplyGives project.now.nodes env.now t (option_copied again.entry)) (W.told house.old) (W.told house.new) result }
 {
     match present_book(alloc, house) {
         Err(refusal) => Err(refusal),
@@ -125,8 +126,9 @@ pub fn apply<R: Threads + Sync, W: Warehouse, F: Folder>(
 ) -> Result<Str, Refusal>
     requires workers { (1 ≤ workers) × (workers ≤ 64) }
     requires moment { IsMoment t }
-    ensures { Answers (λ w list. IsProject (F.told folder.old).files dir.now (λ nodes. ApplyMakes nodes env.now t (option_copied again.entry) w list))
+    ensures answers { Answers (Rose (F.told folder.old).faults (F.told folder.new).faults) (λ w list. IsProject (F.told folder.old).files dir.now (λ nodes. ApplyMakes nodes env.now t (option_copied again.entry) w list))
         (λ w. OfProject (F.told folder.old).files dir.now (λ nodes. ApplyGives nodes env.now t (option_copied again.entry) w)) (W.told house.old) (W.told house.new) result }
+    ensures folder { IsAsked (F.told folder.old) (F.told folder.new) }
 {
     match load(alloc, folder, dir) {
         Err(fault) => Err(of_load(fault)),

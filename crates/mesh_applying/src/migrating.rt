@@ -74,7 +74,7 @@ fn move_by<W: Warehouse>(
     requires map { IsMap b.now renames }
     requires apart { first_twins renames ≡ None }
     requires has { HasBook b.now (W.told house.old) }
-    ensures { Answers MigrateMakes MigrateGives (W.told house.old) (W.told house.new) result }
+    ensures { Answers ⊥ MigrateMakes MigrateGives (W.told house.old) (W.told house.new) result }
 {
     match line_of(alloc, b.snapshots.as_slice().len() as u64) {
         Err(refusal) => Err(refusal),
@@ -87,7 +87,7 @@ fn move_book<W: Warehouse>(alloc: Global, house: &mut W, b: &Book) -> Result<Str
     requires well_formed { is_well_formed_book b.now ≡ true }
     requires former { nat_eq b.now.version 1 ≡ true }
     requires has { HasBook b.now (W.told house.old) }
-    ensures { Answers MigrateMakes MigrateGives (W.told house.old) (W.told house.new) result }
+    ensures { Answers ⊥ MigrateMakes MigrateGives (W.told house.old) (W.told house.new) result }
 {
     match book_renames(alloc, b) {
         Err(fault) => Err(of_migration(alloc, fault)),
@@ -99,7 +99,7 @@ fn move_book<W: Warehouse>(alloc: Global, house: &mut W, b: &Book) -> Result<Str
 fn migrate_sound<W: Warehouse>(alloc: Global, house: &mut W, b: &Book) -> Result<Str, Refusal>
     requires well_formed { is_well_formed_book b.now ≡ true }
     requires has { HasBook b.now (W.told house.old) }
-    ensures { Answers MigrateMakes MigrateGives (W.told house.old) (W.told house.new) result }
+    ensures { Answers ⊥ MigrateMakes MigrateGives (W.told house.old) (W.told house.new) result }
 {
     if b.version == FORMER_VERSION {
         move_book(alloc, house, b)
@@ -110,7 +110,7 @@ fn migrate_sound<W: Warehouse>(alloc: Global, house: &mut W, b: &Book) -> Result
 
 fn migrate_by<W: Warehouse>(alloc: Global, house: &mut W, b: &Book) -> Result<Str, Refusal>
     requires has { HasBook b.now (W.told house.old) }
-    ensures { Answers MigrateMakes MigrateGives (W.told house.old) (W.told house.new) result }
+    ensures { Answers ⊥ MigrateMakes MigrateGives (W.told house.old) (W.told house.new) result }
 {
     match book_fault(b) {
         Some(fault) => Err(Refusal::BookBroken {
@@ -124,7 +124,7 @@ fn migrate_by<W: Warehouse>(alloc: Global, house: &mut W, b: &Book) -> Result<St
 /// `migrate`: a book of the former version is moved to the present one, and the answer is the line with the number of its
 /// snapshots. One of the present version is left alone.
 pub fn migrate<W: Warehouse>(alloc: Global, house: &mut W) -> Result<Str, Refusal>
-    ensures { Answers MigrateMakes MigrateGives (W.told house.old) (W.told house.new) result }
+    ensures { Answers ⊥ MigrateMakes MigrateGives (W.told house.old) (W.told house.new) result }
 {
     match house.book(alloc) {
         Err(fail) => Err(as_refusal(fail)),

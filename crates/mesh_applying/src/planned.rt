@@ -4,12 +4,13 @@ ghost use Rattle.std.specs.List.{list_any};
 ghost use Rattle.std.specs.Option.{option_copied};
 ghost use Rattle.mesh_base.specs.declared.snapshots.Node.{Node};
 ghost use Rattle.mesh_rules.specs.declared.plans.Plan.{Plan};
+ghost use Rattle.mesh_list.specs.Counts.{Rose};
 ghost use Rattle.mesh_days.specs.Moments.{IsMoment};
 ghost use Rattle.mesh_due.specs.Parts.{same_name};
 ghost use Rattle.mesh_changes.specs.Commands.{is_present};
 ghost use Rattle.mesh_plan_text.specs.PlanText.{plan_text};
 ghost use Rattle.mesh_printed.specs.declared.refusals.Refusal.TheVariants.{Memory as NoMemory};
-ghost use Rattle.mesh_commands.specs.Answers.{Answers, no_changes};
+ghost use Rattle.mesh_commands.specs.Answers.{Answers, IsAsked, no_changes};
 ghost use Rattle.mesh_applying.specs.Applying.{PlanGives};
 ghost use Rattle.mesh_applying.specs.Loaded.{OfProject};
 ghost use Rattle.mesh_applying.specs.Planning.{IsPlanned, IsStray, PlanRefused, has_named, no_model};
@@ -133,7 +134,7 @@ fn plan_project<W: Warehouse>(
     again: Option<&Restate>,
 ) -> Result<Str, Refusal>
     requires moment { IsMoment t }
-    ensures { Answers no_changes (PlanGives project.now.nodes env.now t (option_copied again.entry)) (W.told house.old) (W.told house.new) result }
+    ensures { Answers ⊥ no_changes (PlanGives project.now.nodes env.now t (option_copied again.entry)) (W.told house.old) (W.told house.new) result }
 {
     match present_book(alloc, house) {
         Err(refusal) => Err(refusal),
@@ -152,7 +153,8 @@ pub fn plan<W: Warehouse, F: Folder>(
     again: Option<&Restate>,
 ) -> Result<Str, Refusal>
     requires moment { IsMoment t }
-    ensures { Answers no_changes (λ w. OfProject (F.told folder.old).files dir.now (λ nodes. PlanGives nodes env.now t (option_copied again.entry) w)) (W.told house.old) (W.told house.new) result }
+    ensures answers { Answers (Rose (F.told folder.old).faults (F.told folder.new).faults) no_changes (λ w. OfProject (F.told folder.old).files dir.now (λ nodes. PlanGives nodes env.now t (option_copied again.entry) w)) (W.told house.old) (W.told house.new) result }
+    ensures folder { IsAsked (F.told folder.old) (F.told folder.new) }
 {
     match load(alloc, folder, dir) {
         Err(fault) => Err(of_load(fault)),

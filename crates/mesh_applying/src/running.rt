@@ -45,7 +45,7 @@ fn run_plan<R: Threads + Sync, W: Warehouse>(
     requires present { is_present b.now ≡ true }
     requires plan { IsRunFor b.now p.now }
     requires book { HasBook b.now (W.told house.old) }
-    ensures { Answers (MakesBy p.now (RunAll (promised p.now))) (RunTells p.now) (W.told house.old) (W.told house.new) result }
+    ensures { Answers ⊥ (MakesBy p.now (RunAll (promised p.now))) (RunTells p.now) (W.told house.old) (W.told house.new) result }
 {
     match make_run(rt, alloc, house, b, p, workers) {
         Err(refusal) => Err(refusal),
@@ -82,7 +82,7 @@ fn run_by<R: Threads + Sync, W: Warehouse>(
     requires present { is_present b.now ≡ true }
     requires moment { IsMoment t }
     requires book { HasBook b.now (W.told house.old) }
-    ensures { Answers (RunMakes env.now t) (RunGives env.now t) (W.told house.old) (W.told house.new) result }
+    ensures { Answers ⊥ (RunMakes env.now t) (RunGives env.now t) (W.told house.old) (W.told house.new) result }
 {
     match run_planned(alloc, b, env, t) {
         Err(refusal) => Err(refusal),
@@ -102,7 +102,7 @@ pub fn run<R: Threads + Sync, W: Warehouse>(
 ) -> Result<Str, Refusal>
     requires workers { (1 ≤ workers) × (workers ≤ 64) }
     requires moment { IsMoment t }
-    ensures { Answers (RunMakes env.now t) (RunGives env.now t) (W.told house.old) (W.told house.new) result }
+    ensures { Answers ⊥ (RunMakes env.now t) (RunGives env.now t) (W.told house.old) (W.told house.new) result }
 {
     match present_book(alloc, house) {
         Err(refusal) => Err(refusal),

@@ -4,13 +4,13 @@
 //! `mesh_upkeep` for the commands, and on `mesh_printed` for what is printed.
 #![tactic(auto)]
 
-mod batch;
+mod batches;
 mod command;
-mod mesh;
 mod moment;
 mod place;
 mod printing;
 mod script;
+mod top;
 
-pub use batch::batch;
-pub use mesh::mesh;
+pub use batches::batch;
+pub use top::mesh;

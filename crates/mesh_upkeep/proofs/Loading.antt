@@ -15,7 +15,7 @@ no_fault r is not_fault = let clash : true ≡ false = sym is ∙ not_fault in c
 
 -- one change
 module _ (change : Change) (line : List ℕ) (a b : Told) where
-  pub stopped : (e : WhFail) → Changes {T = Unit {0}} change a b (Err e) → Answers (λ w list. list ≡ change ∷ []) (λ w answer. answer ≡ Ok line) a b (Err (as_refusal e))
+  pub stopped : (e : WhFail) → Changes {T = Unit {0}} change a b (Err e) → Answers ⊥ (λ w list. list ≡ change ∷ []) (λ w answer. answer ≡ Ok line) a b (Err (as_refusal e))
   stopped fails.Failed h = record {
     faults = h.faults;
     failed = λ is. (h.failed refl).0;

@@ -108,7 +108,7 @@ fn made<W: Warehouse>(
     change: &Change,
     line: Str,
 ) -> Result<Str, Refusal>
-    ensures answers { Answers (λ w list. list ≡ change.now ∷ []) (λ w answer. answer ≡ Ok line) (W.told house.old) (W.told house.new) result }
+    ensures answers { Answers ⊥ (λ w list. list ≡ change.now ∷ []) (λ w answer. answer ≡ Ok line) (W.told house.old) (W.told house.new) result }
     ensures alone { IsErrOf result Input → ⊥ }
 {
     match house.change(alloc, change) {
@@ -124,7 +124,7 @@ fn put<W: Warehouse>(
     source: Seed,
     append: bool,
 ) -> Result<Str, Refusal>
-    ensures answers { Answers (LoadMakes name.now source append) (λ w answer. answer ≡ Ok (ingested_line name.now (length source.rows))) (W.told house.old) (W.told house.new) result }
+    ensures answers { Answers ⊥ (LoadMakes name.now source append) (λ w answer. answer ≡ Ok (ingested_line name.now (length source.rows))) (W.told house.old) (W.told house.new) result }
     ensures alone { IsErrOf result Input → ⊥ }
 {
     match load_of(alloc, name, source, append) {
@@ -140,7 +140,7 @@ fn load<W: Warehouse>(
     source: Seed,
     append: bool,
 ) -> Result<Str, Refusal>
-    ensures answers { Answers (LoadMakes name.now source append) (LoadGives name.now source append) (W.told house.old) (W.told house.new) result }
+    ensures answers { Answers ⊥ (LoadMakes name.now source append) (LoadGives name.now source append) (W.told house.old) (W.told house.new) result }
     ensures alone { IsErrOf result Input → ⊥ }
 {
     match fits(alloc, house, name, &source.columns, append) {
@@ -161,7 +161,7 @@ pub fn ingest<W: Warehouse, F: Folder>(
     file: &Str,
     append: bool,
 ) -> Result<Str, Refusal>
-    ensures answers { Answers (IngestMakes (F.told folder.old).files dir.now name.now file.now append) (IngestGives (F.told folder.old).files dir.now name.now file.now append) (W.told house.old) (W.told house.new) result }
+    ensures answers { Answers ⊥ (IngestMakes (F.told folder.old).files dir.now name.now file.now append) (IngestGives (F.told folder.old).files dir.now name.now file.now append) (W.told house.old) (W.told house.new) result }
     ensures asked { Asked (F.told folder.old) (F.told folder.new) result }
 {
     match source_rows(alloc, folder, dir, name, file) {

@@ -11,5 +11,5 @@ returns-in-Ok g c =
     let fits : FitsSigned w64 c.args.t = search rules in
     let same : to_z w64 (of_z w64 c.args.t) ≡ c.args.t = simp to_z-of_z in
     read_first (ApplyMakes c.args.project.now.nodes c.args.env.now c.args.t (option_copied c.args.again)) (ApplyGives c.args.project.now.nodes c.args.env.now c.args.t (option_copied c.args.again)) _ _ _
-    c.in-Ok.ensures.alone c.in-Ok.ensures.faults c.apply_by.result (subst (λ (t : ℤ). Answers {T = List ℕ} (ApplyMakes c.args.project.now.nodes c.args.env.now t (option_copied c.args.again))
+    c.in-Ok.ensures.alone c.in-Ok.ensures.faults c.apply_by.result (subst (λ (t : ℤ). Answers {T = List ℕ} ⊥ (ApplyMakes c.args.project.now.nodes c.args.env.now t (option_copied c.args.again))
     (ApplyGives c.args.project.now.nodes c.args.env.now t (option_copied c.args.again)) (g.W.Warehouse.told c.present_book.new.house) (g.W.Warehouse.told c.apply_by.new.house) c.apply_by.result) same c.apply_by.ensures)

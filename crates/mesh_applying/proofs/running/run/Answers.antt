@@ -10,5 +10,5 @@ returns-in-Ok g c =
     let fits : FitsSigned w64 c.args.t = search rules in
     let same : to_z w64 (of_z w64 c.args.t) ≡ c.args.t = simp to_z-of_z in
     read_first (RunMakes c.args.env.now c.args.t) (RunGives c.args.env.now c.args.t) _ _ _
-    c.in-Ok.ensures.alone c.in-Ok.ensures.faults c.run_by.result (subst (λ (t : ℤ). Answers {T = List ℕ} (RunMakes c.args.env.now t)
+    c.in-Ok.ensures.alone c.in-Ok.ensures.faults c.run_by.result (subst (λ (t : ℤ). Answers {T = List ℕ} ⊥ (RunMakes c.args.env.now t)
     (RunGives c.args.env.now t) (g.W.Warehouse.told c.present_book.new.house) (g.W.Warehouse.told c.run_by.new.house) c.run_by.result) same c.run_by.ensures)

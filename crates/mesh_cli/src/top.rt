@@ -5,7 +5,7 @@ ghost use Rattle.mesh_cli.specs.Fit.{IsFit};
 ghost use Rattle.mesh_cli.specs.Scripts.{BatchEnds, LineAnswers, WordsEnd};
 ghost use Rattle.mesh_cli.specs.Sides.{here, place_or, sides, sinks};
 
-use crate::batch::{batch, is_batch, of_usage};
+use crate::batches::{batch, is_batch, of_usage};
 use crate::command::line_answer;
 use crate::printing::printed;
 use crate::script::script_of;
