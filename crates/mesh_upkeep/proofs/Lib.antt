@@ -1,5 +1,3 @@
--- Told: what a command answers, over what it read.
-pub mod Told
 -- Sweeps: what the janitor's calls leave, as a command tells it.
 pub mod Sweeps
 -- Loading: what one change leaves where its call stopped.

@@ -1,18 +1,21 @@
 -- What the commands that keep a book in order make and print, and why they are refused.
-use Rattle.std.specs.Prelude.{◌≡◌, ◌⊎◌, ℕ, ℤ, true, ◌&&◌, List, [], ◌∷◌, if◌then◌else◌}
+use Rattle.std.specs.Prelude.{◌≡◌, ◌⊎◌, ℕ, ℤ, true, ◌&&◌, List, [], ◌∷◌, Result, Ok, Err, if◌then◌else◌}
 use Rattle.std.specs.Int.Signed.{lt_z}
 use Rattle.std.specs.Option.{is_none, is_some}
-use Rattle.mesh_base.specs.declared.jobs.Swept.{Swept}
+use Rattle.mesh_base.specs.declared.jobs.Swept.{Swept as Counts}
 use Rattle.mesh_book.specs.declared.book.Book.{Book}
 use Rattle.mesh_house.specs.declared.world.Change.{Change}
 use Rattle.mesh_house.specs.declared.world.Change.TheVariants.{Expire}
-use Rattle.mesh_changes.specs.Commands.{is_not_behind, is_present}
+use Rattle.mesh_scratch.specs.Horizons.{Clock}
+use Rattle.mesh_house.specs.declared.world.World.{World}
+use Rattle.mesh_changes.specs.Commands.{Invalidate, Janitor, changes, is_not_behind, is_present}
 use Rattle.mesh_changes.specs.Environments.{env_at}
 use Rattle.mesh_changes.specs.Kept.{sweeps}
+use Rattle.mesh_janitor.specs.declared.faults.Swept.{Swept}
 use Rattle.mesh_janitor.specs.Sweeping.{numbers}
 use Rattle.mesh_printed.specs.declared.refusals.Refusal.{Refusal}
 use Rattle.mesh_printed.specs.declared.refusals.Refusal.TheVariants.{MomentBehind, EnvUnknown}
-use Rattle.mesh_printed.specs.Reports.{janitor_line}
+use Rattle.mesh_printed.specs.Reports.{invalidated_line, janitor_line}
 use Rattle.mesh_commands.specs.Present.{IsNotPresent}
 
 -- the book is as it has to be and of a later moment, and this is told
@@ -44,7 +47,7 @@ abbrev pub invalidate_changes : List ℕ → Book → List Change
 invalidate_changes env b = if is_present b && is_some (env_at b env) then Expire env ∷ [] else []
 
 -- how much a sweep takes out
-abbrev pub swept : ℤ → Book → Swept
+abbrev pub swept : ℤ → Book → Counts
 swept t b = record {
   environments = (numbers b t).environments;
   objects = (numbers b t).objects;
@@ -55,3 +58,32 @@ swept t b = record {
 -- the line of `janitor`
 abbrev pub swept_line : ℤ → Book → List ℕ
 swept_line t b = janitor_line t (swept t b)
+
+-- a sweep by a book: it isn't behind, and so much goes
+abbrev pub SweepGives : ℤ → Book → Result Swept Refusal → Type 0
+SweepGives t b (Ok s) = (is_not_behind t b ≡ true) × (s ≡ numbers b t)
+SweepGives t b (Err r) = IsBehind t b r
+
+-- what `janitor` answers by a book: one that is as it has to be and isn't behind is swept
+abbrev pub JanitorBy : ℤ → Book → Result (List ℕ) Refusal → Type 0
+JanitorBy t b (Ok text) = ((is_present b && is_not_behind t b) ≡ true) × (text ≡ swept_line t b)
+JanitorBy t b (Err r) = JanitorRefused t b r
+
+-- what `invalidate` answers by a book: one that is as it has to be has such an environment
+abbrev pub InvalidateBy : List ℕ → Book → Result (List ℕ) Refusal → Type 0
+InvalidateBy env b (Ok text) = ((is_present b && is_some (env_at b env)) ≡ true) × (text ≡ invalidated_line env)
+InvalidateBy env b (Err r) = InvalidateRefused env b r
+
+-- `janitor` makes the changes of its command in the world, and answers by the world's book
+abbrev pub JanitorMakes : ℤ → World → List Change → Type 0
+JanitorMakes t w list = (clock : Clock) → list ≡ changes clock (Janitor t) w
+
+abbrev pub JanitorGives : ℤ → World → Result (List ℕ) Refusal → Type 0
+JanitorGives t w answer = JanitorBy t w.book answer
+
+-- and so does `invalidate`
+abbrev pub InvalidateMakes : List ℕ → World → List Change → Type 0
+InvalidateMakes env w list = (clock : Clock) → list ≡ changes clock (Invalidate env) w
+
+abbrev pub InvalidateGives : List ℕ → World → Result (List ℕ) Refusal → Type 0
+InvalidateGives env w answer = InvalidateBy env w.book answer

@@ -1,10 +1,11 @@
 // `ingest`: a declared source is loaded from a file of the project.
 ghost use Rattle.std.specs.Prelude.{◌≡◌, ◌⊎◌, ◌↔◌, ◌∷◌, [], true, Ok, IfOk, IsErrOf, IsTrue, length};
+ghost use Rattle.mesh_list.specs.Counts.{Rose};
 ghost use Rattle.mesh_house.specs.declared.world.Change.TheVariants.{Load};
-ghost use Rattle.mesh_commands.specs.Answers.{Answers};
+ghost use Rattle.mesh_commands.specs.Answers.{Answers, IsAsked};
 ghost use Rattle.mesh_printed.specs.Reports.{ingested_line};
 ghost use Rattle.mesh_printed.specs.declared.refusals.Refusal.TheVariants.{Input, Memory as NoMemory};
-ghost use Rattle.mesh_upkeep.specs.Ingesting.{Asked, Fits, IngestGives, IngestMakes, LoadGives, LoadMakes, MayLoad, other_shape};
+ghost use Rattle.mesh_upkeep.specs.Ingesting.{Fits, IngestGives, IngestMakes, LoadGives, LoadMakes, MayLoad, other_shape};
 
 use crate::sourced::{name_text, of_load, source_rows};
 use mesh_commands::as_refusal;
@@ -108,8 +109,7 @@ fn made<W: Warehouse>(
     change: &Change,
     line: Str,
 ) -> Result<Str, Refusal>
-    ensures answers { Answers ⊥ (λ w list. list ≡ change.now ∷ []) (λ w answer. answer ≡ Ok line) (W.told house.old) (W.told house.new) result }
-    ensures alone { IsErrOf result Input → ⊥ }
+    ensures { Answers ⊥ (λ w list. list ≡ change.now ∷ []) (λ w answer. answer ≡ Ok line) (W.told house.old) (W.told house.new) result }
 {
     match house.change(alloc, change) {
         Err(fail) => Err(as_refusal(fail)),
@@ -124,8 +124,7 @@ fn put<W: Warehouse>(
     source: Seed,
     append: bool,
 ) -> Result<Str, Refusal>
-    ensures answers { Answers ⊥ (LoadMakes name.now source append) (λ w answer. answer ≡ Ok (ingested_line name.now (length source.rows))) (W.told house.old) (W.told house.new) result }
-    ensures alone { IsErrOf result Input → ⊥ }
+    ensures { Answers ⊥ (LoadMakes name.now source append) (λ w answer. answer ≡ Ok (ingested_line name.now (length source.rows))) (W.told house.old) (W.told house.new) result }
 {
     match load_of(alloc, name, source, append) {
         Err(_) => Err(Refusal::Memory),
@@ -140,8 +139,7 @@ fn load<W: Warehouse>(
     source: Seed,
     append: bool,
 ) -> Result<Str, Refusal>
-    ensures answers { Answers ⊥ (LoadMakes name.now source append) (LoadGives name.now source append) (W.told house.old) (W.told house.new) result }
-    ensures alone { IsErrOf result Input → ⊥ }
+    ensures { Answers ⊥ (LoadMakes name.now source append) (LoadGives name.now source append) (W.told house.old) (W.told house.new) result }
 {
     match fits(alloc, house, name, &source.columns, append) {
         Err(refusal) => Err(refusal),
@@ -161,8 +159,8 @@ pub fn ingest<W: Warehouse, F: Folder>(
     file: &Str,
     append: bool,
 ) -> Result<Str, Refusal>
-    ensures answers { Answers ⊥ (IngestMakes (F.told folder.old).files dir.now name.now file.now append) (IngestGives (F.told folder.old).files dir.now name.now file.now append) (W.told house.old) (W.told house.new) result }
-    ensures asked { Asked (F.told folder.old) (F.told folder.new) result }
+    ensures answers { Answers (Rose (F.told folder.old).faults (F.told folder.new).faults) (IngestMakes (F.told folder.old).files dir.now name.now file.now append) (IngestGives (F.told folder.old).files dir.now name.now file.now append) (W.told house.old) (W.told house.new) result }
+    ensures folder { IsAsked (F.told folder.old) (F.told folder.new) }
 {
     match source_rows(alloc, folder, dir, name, file) {
         Err(fault) => Err(of_load(fault)),

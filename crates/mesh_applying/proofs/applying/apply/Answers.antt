@@ -6,8 +6,8 @@ use Rattle.mesh_applying.specs.Applying.{ApplyGives, ApplyMakes}
 use Rattle.mesh_applying.proofs.Loading.{made_loaded}
 use Rattle.mesh_applying.proofs.applying.apply.Goals as goal
 
-pub returns-in-Ok : goal.returns-in-Ok
-returns-in-Ok g c =
+pub returns-in-Ok-clause-answers : goal.returns-in-Ok-clause-answers
+returns-in-Ok-clause-answers g c =
     let fits : FitsSigned w64 c.args.t = search rules in
     let same : to_z w64 (of_z w64 c.args.t) ≡ c.args.t = simp to_z-of_z in
     made_loaded c.args.dir.now (λ nodes. ApplyGives nodes c.args.env.now c.args.t (option_copied c.args.again)) _ _ _ c.in-Ok.project c.in-Ok.ensures _ c.apply_project.result
