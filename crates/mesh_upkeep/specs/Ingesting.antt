@@ -17,7 +17,6 @@ use Rattle.mesh_house.specs.World.{head}
 use Rattle.mesh_changes.specs.Commands.{Ingest, changes}
 use Rattle.mesh_fault_text.specs.Lines.{name_text}
 use Rattle.mesh_io.specs.declared.files.File.{File}
-use Rattle.mesh_io.specs.Told.{FolderTold}
 use Rattle.mesh_files.specs.declared.faults.LoadFault.TheVariants as load
 use Rattle.mesh_layer.specs.Shows.{Tells}
 use Rattle.mesh_printed.specs.Reports.{ingested_line}

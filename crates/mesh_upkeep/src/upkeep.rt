@@ -1,15 +1,16 @@
 // The commands, over the book that the warehouse has.
-ghost use Rattle.std.specs.Prelude.{◌≡◌, true, false, IfOk};
+ghost use Rattle.std.specs.Prelude.{◌≡◌, true, false, IfOk, IsErrOf};
 ghost use Rattle.mesh_values.specs.Picked.{same_text};
 ghost use Rattle.mesh_changes.specs.Commands.{is_present};
 ghost use Rattle.mesh_changes.specs.Environments.{prod};
 ghost use Rattle.mesh_commands.specs.Answers.{Answers};
 ghost use Rattle.mesh_printed.specs.Reports.{invalidated_line, janitor_line};
-ghost use Rattle.mesh_upkeep.specs.Upkeep.{InvalidateBy, InvalidateGives, InvalidateMakes, JanitorBy, JanitorGives, JanitorMakes, SweepGives, invalidate_changes, janitor_changes};
+ghost use Rattle.mesh_printed.specs.declared.refusals.Refusal.TheVariants.{Input};
+ghost use Rattle.mesh_upkeep.specs.Upkeep.{ExpiryGives, InvalidateGives, InvalidateMakes, JanitorGives, JanitorMakes, NumbersGiven, SweepGives, invalidate_changes, janitor_changes};
 
 use mesh_base::Swept;
 use mesh_book::Book;
-use mesh_commands::present_book;
+use mesh_commands::{as_refusal, present};
 use mesh_house::Warehouse;
 use mesh_janitor::SweepFault;
 use mesh_list::{Duplicate, Memory};
@@ -25,7 +26,7 @@ fn swept<W: Warehouse>(
     t: i64,
 ) -> Result<mesh_janitor::Swept, Refusal>
     requires { is_present b.now ≡ true }
-    ensures { Answers ⊥ (λ w list. list ≡ janitor_changes t b.now) (λ w. SweepGives t b.now) (W.told house.old) (W.told house.new) result }
+    ensures { Answers ⊥ (λ w list. list ≡ janitor_changes t b.now) (λ w. NumbersGiven t b.now) (W.told house.old) (W.told house.new) result }
 {
     match mesh_janitor::sweep(alloc, house, b, t) {
         Ok(swept) => Ok(swept),
@@ -49,14 +50,16 @@ fn line_of(alloc: Global, t: i64, swept: mesh_janitor::Swept) -> Result<Str, Mem
 }
 
 fn janitor_by<W: Warehouse>(alloc: Global, house: &mut W, b: &Book, t: i64) -> Result<Str, Refusal>
-    requires { is_present b.now ≡ true }
-    ensures { Answers ⊥ (λ w list. list ≡ janitor_changes t b.now) (λ w. JanitorBy t b.now) (W.told house.old) (W.told house.new) result }
+    ensures { Answers ⊥ (λ w list. list ≡ janitor_changes t b.now) (λ w. SweepGives t b.now) (W.told house.old) (W.told house.new) result }
 {
-    match swept(alloc, house, b, t) {
+    match present(b) {
         Err(refusal) => Err(refusal),
-        Ok(swept) => match line_of(alloc, t, swept) {
-            Ok(line) => Ok(line),
-            Err(_) => Err(Refusal::Memory),
+        Ok(()) => match swept(alloc, house, b, t) {
+            Err(refusal) => Err(refusal),
+            Ok(swept) => match line_of(alloc, t, swept) {
+                Ok(line) => Ok(line),
+                Err(_) => Err(Refusal::Memory),
+            },
         },
     }
 }
@@ -65,8 +68,8 @@ fn janitor_by<W: Warehouse>(alloc: Global, house: &mut W, b: &Book, t: i64) -> R
 pub fn janitor<W: Warehouse>(alloc: Global, house: &mut W, t: i64) -> Result<Str, Refusal>
     ensures { Answers ⊥ (JanitorMakes t) (JanitorGives t) (W.told house.old) (W.told house.new) result }
 {
-    match present_book(alloc, house) {
-        Err(refusal) => Err(refusal),
+    match house.book(alloc) {
+        Err(fail) => Err(as_refusal(fail)),
         Ok(b) => janitor_by(alloc, house, &b, t),
     }
 }
@@ -84,7 +87,7 @@ fn expired<W: Warehouse>(
     requires present { is_present b.now ≡ true }
     requires name { name ≡ env.now }
     requires line { line ≡ invalidated_line env.now }
-    ensures { Answers ⊥ (λ w list. list ≡ invalidate_changes env.now b.now) (λ w. InvalidateBy env.now b.now) (W.told house.old) (W.told house.new) result }
+    ensures { Answers ⊥ (λ w list. list ≡ invalidate_changes env.now b.now) (λ w. ExpiryGives env.now b.now) (W.told house.old) (W.told house.new) result }
 {
     match mesh_janitor::invalidate(alloc, house, b, env) {
         Ok(()) => Ok(line),
@@ -110,13 +113,15 @@ fn invalidate_by<W: Warehouse>(
     b: &Book,
     env: &Str,
 ) -> Result<Str, Refusal>
-    requires prod { same_text env.now prod ≡ false }
-    requires present { is_present b.now ≡ true }
-    ensures { Answers ⊥ (λ w list. list ≡ invalidate_changes env.now b.now) (λ w. InvalidateBy env.now b.now) (W.told house.old) (W.told house.new) result }
+    requires { same_text env.now prod ≡ false }
+    ensures { Answers ⊥ (λ w list. list ≡ invalidate_changes env.now b.now) (λ w. ExpiryGives env.now b.now) (W.told house.old) (W.told house.new) result }
 {
-    match texts(alloc, env) {
-        Ok((name, line)) => expired(alloc, house, b, env, name, line),
-        Err(_) => Err(Refusal::Memory),
+    match present(b) {
+        Err(refusal) => Err(refusal),
+        Ok(()) => match texts(alloc, env) {
+            Ok((name, line)) => expired(alloc, house, b, env, name, line),
+            Err(_) => Err(Refusal::Memory),
+        },
     }
 }
 
@@ -125,8 +130,8 @@ pub fn invalidate<W: Warehouse>(alloc: Global, house: &mut W, env: &Str) -> Resu
     requires { same_text env.now prod ≡ false }
     ensures { Answers ⊥ (InvalidateMakes env.now) (InvalidateGives env.now) (W.told house.old) (W.told house.new) result }
 {
-    match present_book(alloc, house) {
-        Err(refusal) => Err(refusal),
+    match house.book(alloc) {
+        Err(fail) => Err(as_refusal(fail)),
         Ok(b) => invalidate_by(alloc, house, &b, env),
     }
 }
