@@ -1,5 +1,5 @@
 -- What a command answers, over what it read.
-use Rattle.std.proofs.Common.{◌≡◌, ℕ, ◌≤◌, inl, inr, true, false, List, [], Ok, Err, Some, Result, IsErrOf, refl, sym, ◌∙◌, ap, subst, arith}
+use Rattle.std.proofs.Common.{◌≡◌, ℕ, ◌≤◌, inl, inr, Bool, true, false, List, [], Ok, Err, Some, Result, IsErrOf, refl, sym, ◌∙◌, ap, subst, arith}
 use Rattle.std.specs.Prelude.{IfSome}
 use Rattle.std.specs.declared.option.Option.{Option}
 use Rattle.std.proofs.lemmas.List.{append-nil}
@@ -125,9 +125,9 @@ whole_prefix list w before c by = record {
   calls = omega (arith, by.calls);
 }
 
-module _ {T outside : Type 0} (makes : World → List Change → Type 0) (gives : World → Result T Refusal → Type 0) where
+module _ {T : Type 0} (makes : World → List Change → Type 0) (gives : World → Result T Refusal → Type 0) where
   -- it is refused, and nothing was changed
-  pub refused_alone : (a c : Told) (r : Refusal) → IsAlone a c → a.faults ≤ c.faults → (r ≡ Warehouse → Rose a.faults c.faults) → (r ≡ Input → outside)
+  pub refused_alone : {outside : Type 0} → (a c : Told) (r : Refusal) → IsAlone a c → a.faults ≤ c.faults → (r ≡ Warehouse → Rose a.faults c.faults) → (r ≡ Input → outside)
       → ((w : World) → Tells a w → is_fault r ≡ false → gives w (Err r)) → Answers outside makes gives a c (Err r)
   refused_alone a c r alone faults failed beyond stands = record {
     faults = faults;
@@ -139,19 +139,19 @@ module _ {T outside : Type 0} (makes : World → List Change → Type 0) (gives 
   }
 
   -- it is refused before anything was done
-  pub refused_first : (a : Told) (r : Refusal) → is_beyond r ≡ false → ((w : World) → Tells a w → is_fault r ≡ false → gives w (Err r)) → Answers outside makes gives a a (Err r)
+  pub refused_first : {outside : Type 0} → (a : Told) (r : Refusal) → is_beyond r ≡ false → ((w : World) → Tells a w → is_fault r ≡ false → gives w (Err r)) → Answers outside makes gives a a (Err r)
   refused_first a r other stands = refused_alone a a r (alone_itself a) (omega arith) (λ e. absurd (not_warehouse r other e)) (λ e. absurd (not_outside r other e)) stands
 
   -- memory was wanting before anything was done
-  pub wanting_first : (a : Told) → Answers outside makes gives a a (Err Memory)
+  pub wanting_first : {outside : Type 0} → (a : Told) → Answers outside makes gives a a (Err Memory)
   wanting_first a = refused_first a Memory refl (λ w told fine. absurd (let clash : true ≡ false = fine in cc))
 
   -- the book wasn't read, or isn't as it has to be
-  pub not_present : (a c : Told) (r : Refusal) → ReadsPresent a c (Err r) → ((w : World) → Tells a w → IsNotPresent w.book r → gives w (Err r)) → Answers outside makes gives a c (Err r)
+  pub not_present : {outside : Type 0} → (a c : Told) (r : Refusal) → ReadsPresent a c (Err r) → ((w : World) → Tells a w → IsNotPresent w.book r → gives w (Err r)) → Answers outside makes gives a c (Err r)
   not_present a c r reads stands = refused_alone a c r reads.alone reads.faults (λ e. reads.failed (ap (λ (x : Refusal). Err x) e)) (λ e. absurd (reads.inside (ap (λ (x : Refusal). Err x) e))) (λ w told fine. stands w told (reads.refused fine w told.world))
 
   -- what is answered without a change: no change is to be made
-  pub told_alone : (a c : Told) (x : T) → IsAlone a c → a.faults ≤ c.faults → ((w : World) → Tells a w → makes w []) → ((w : World) → Tells a w → gives w (Ok x)) → Answers outside makes gives a c (Ok x)
+  pub told_alone : {outside : Type 0} → (a c : Told) (x : T) → IsAlone a c → a.faults ≤ c.faults → ((w : World) → Tells a w → makes w []) → ((w : World) → Tells a w → gives w (Ok x)) → Answers outside makes gives a c (Ok x)
   told_alone a c x alone faults none stands = record {
     faults = faults;
     failed = λ is. absurd (cc);
@@ -162,7 +162,7 @@ module _ {T outside : Type 0} (makes : World → List Change → Type 0) (gives 
   }
 
   -- memory was wanting after all was done
-  pub wanting_then : {U : Type 0} (before : World → Result U Refusal → Type 0) (a c : Told) (x : U) → Answers outside makes before a c (Ok x) → Answers outside makes gives a c (Err Memory)
+  pub wanting_then : {U outside : Type 0} (before : World → Result U Refusal → Type 0) (a c : Told) (x : U) → Answers outside makes before a c (Ok x) → Answers outside makes gives a c (Err Memory)
   wanting_then {U = U} before a c x by = record {
     faults = by.faults;
     failed = λ is. absurd (other_memory (same_refusal {T = T} Memory Warehouse is));
@@ -173,7 +173,7 @@ module _ {T outside : Type 0} (makes : World → List Change → Type 0) (gives 
   }
 
   -- the answer of a call is passed on in other words
-  pub told_then : {U : Type 0} (before : World → Result U Refusal → Type 0) (a c : Told) (x : U) (y : T) → Answers outside makes before a c (Ok x) → ((w : World) → Tells a w → before w (Ok x) → gives w (Ok y)) → Answers outside makes gives a c (Ok y)
+  pub told_then : {U outside : Type 0} (before : World → Result U Refusal → Type 0) (a c : Told) (x : U) (y : T) → Answers outside makes before a c (Ok x) → ((w : World) → Tells a w → before w (Ok x) → gives w (Ok y)) → Answers outside makes gives a c (Ok y)
   told_then before a c x y by so = record {
     faults = by.faults;
     failed = λ is. absurd (cc);
@@ -184,7 +184,7 @@ module _ {T outside : Type 0} (makes : World → List Change → Type 0) (gives 
   }
 
   -- the same refusal, of a call that answers something else
-  pub refused_then : {U : Type 0} (before : World → Result U Refusal → Type 0) (a c : Told) (r : Refusal) → Answers outside makes before a c (Err r) → ((w : World) → Tells a w → before w (Err r) → gives w (Err r)) → Answers outside makes gives a c (Err r)
+  pub refused_then : {U outside : Type 0} (before : World → Result U Refusal → Type 0) (a c : Told) (r : Refusal) → Answers outside makes before a c (Err r) → ((w : World) → Tells a w → before w (Err r) → gives w (Err r)) → Answers outside makes gives a c (Err r)
   refused_then {U = U} before a c r by so = record {
     faults = by.faults;
     failed = λ is. by.failed (ap (λ (x : Refusal). Err x) (same_refusal {T = T} r Warehouse is));
@@ -205,7 +205,7 @@ module _ {T outside : Type 0} (makes : World → List Change → Type 0) (gives 
     made_first (Err r) w (inr by) = inr (by.0, by.1, subst (λ (n : ℕ). IsPrefixRun by.0 w n c) alone.calls by.2)
 
     -- what is answered after something was read is answered of the world that was read
-    pub read_first : a.faults ≤ m.faults → (r : Result T Refusal) → Answers outside makes gives m c r → Answers outside makes gives a c r
+    pub read_first : {outside : Type 0} → a.faults ≤ m.faults → (r : Result T Refusal) → Answers outside makes gives m c r → Answers outside makes gives a c r
     read_first faults (Ok x) by = record {
       faults = omega (arith, by.faults, faults);
       failed = λ is. absurd (cc);
@@ -224,7 +224,7 @@ module _ {T outside : Type 0} (makes : World → List Change → Type 0) (gives 
     }
 
 -- the same changes and answers, told in other words
-module _ {T outside : Type 0} (makes more : World → List Change → Type 0) (gives tells : World → Result T Refusal → Type 0) (a c : Told)
+module _ {T : Type 0} (makes more : World → List Change → Type 0) (gives tells : World → Result T Refusal → Type 0) (a c : Told)
     (making : (w : World) → Tells a w → (list : List Change) → makes w list → more w list)
     (giving : (w : World) → Tells a w → (r : Result T Refusal) → gives w r → tells w r) where
   made_so : (r : Result T Refusal) (w : World) → Tells a w → IsMade (makes w) w a c r → IsMade (more w) w a c r
@@ -232,7 +232,7 @@ module _ {T outside : Type 0} (makes more : World → List Change → Type 0) (g
   made_so (Err r) w told (inl alone) = inl alone
   made_so (Err r) w told (inr by) = inr (by.0, making w told by.0 by.1, by.2)
 
-  pub answers_so : (r : Result T Refusal) → Answers outside makes gives a c r → Answers outside more tells a c r
+  pub answers_so : {outside : Type 0} → (r : Result T Refusal) → Answers outside makes gives a c r → Answers outside more tells a c r
   answers_so (Ok x) by = record {
     faults = by.faults;
     failed = by.failed;
