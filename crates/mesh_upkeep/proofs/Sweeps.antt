@@ -19,7 +19,7 @@ use Rattle.mesh_layer.proofs.Finding.{read_is}
 use Rattle.mesh_printed.specs.declared.refusals.Refusal.{Refusal}
 use Rattle.mesh_printed.specs.declared.refusals.Refusal.TheVariants.{Warehouse, Memory, Input}
 use Rattle.mesh_commands.specs.Answers.{Answers}
-use Rattle.mesh_commands.proofs.Answering.{answers_so, read_first}
+use Rattle.mesh_commands.proofs.Answering.{answers_so, read_first, same_refusal}
 use Rattle.mesh_upkeep.specs.Upkeep.{JanitorGives, JanitorMakes, NumbersGiven, SweepGives, janitor_changes}
 
 -- a sweep that isn't refused for its moment, and stopped
@@ -44,7 +44,7 @@ module _ (t : ℤ) (b : Book) (present : is_present b ≡ true) (a c : Told) (r 
       record {
         faults = stopped.err.faults;
         failed = λ e. stopped.failed refl;
-        beyond = λ e. absurd (let clash : Err {T = Swept} Warehouse ≡ Err Input = e in cc);
+        beyond = λ e. absurd (let clash : Warehouse ≡ Input = same_refusal {T = Swept} Warehouse Input e in cc);
         early = λ early. absurd (let clash : false ≡ true = early in cc);
         made = λ w told. inr (janitor_changes t b, refl, part faults.Warehouse is (λ e. let clash : faults.Warehouse ≡ faults.Moment t b.moment = e in cc) w told);
         given = λ w told fine. absurd (let clash : true ≡ false = fine in cc);
@@ -56,7 +56,7 @@ module _ (t : ℤ) (b : Book) (present : is_present b ≡ true) (a c : Told) (r 
       record {
         faults = stopped.err.faults;
         failed = λ e. absurd (let clash : Err Memory ≡ Err Warehouse = e in cc);
-        beyond = λ e. absurd (let clash : Err {T = Swept} Memory ≡ Err Input = e in cc);
+        beyond = λ e. absurd (let clash : Memory ≡ Input = same_refusal {T = Swept} Memory Input e in cc);
         early = λ early. absurd (let clash : false ≡ true = early in cc);
         made = λ w told. inr (janitor_changes t b, refl, part faults.Memory is (λ e. let clash : faults.Memory ≡ faults.Moment t b.moment = e in cc) w told);
         given = λ w told fine. absurd (let clash : true ≡ false = fine in cc);
