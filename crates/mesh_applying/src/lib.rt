@@ -13,6 +13,7 @@ mod migrating;
 mod planned;
 mod promote;
 mod running;
+mod views;
 
 pub use applying::apply;
 pub use loaded::of_load;

@@ -2,7 +2,7 @@ use Rattle.mesh_changes.specs.Commands.{Apply}
 use Rattle.mesh_plan.specs.Plans.{promised}
 use Rattle.mesh_applying.proofs.Promised.{before_promotion, may_be_made, rest, with_views}
 use Rattle.mesh_applying.proofs.Whole.{stopped, with_promotion}
-use Rattle.mesh_applying.proofs.promote.made.Goals as goal
+use Rattle.mesh_applying.proofs.views.made.Goals as goal
 
 pub execute-requires-clause-plan : goal.execute-requires-clause-plan
 execute-requires-clause-plan g c κs within = may_be_made c.args.b.now c.requires.present c.args.p.now c.requires.plan
