@@ -274,7 +274,7 @@ pub fn evaluate<W: Warehouse>(
     first: i32,
     last: i32,
 ) -> Result<Str, Refusal>
-    ensures { Looks (λ w. evaluated w.book env.now model.now (days first last) w) (W.told house.old) (W.told house.new) result }
+    ensures looks { Looks (λ w. evaluated w.book env.now model.now (days first last) w) (W.told house.old) (W.told house.new) result }
 {
     let b = book_of(alloc, house)?;
     evaluated(alloc, house, &b, model, env, days(first, last))

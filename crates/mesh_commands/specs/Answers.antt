@@ -7,6 +7,7 @@ use Rattle.mesh_house.specs.declared.world.Change.{Change}
 use Rattle.mesh_house.specs.declared.world.World.{World}
 use Rattle.mesh_house.specs.House.{Told}
 use Rattle.mesh_house.specs.Runs.{IsPrefixRun, IsRun}
+use Rattle.mesh_io.specs.Told.{FolderTold}
 use Rattle.mesh_layer.specs.Shows.{Tells}
 use Rattle.mesh_printed.specs.declared.refusals.Refusal.{Refusal}
 use Rattle.mesh_printed.specs.declared.refusals.Refusal.TheVariants.{Warehouse, Memory, Input, ObjectMissing}
@@ -53,6 +54,12 @@ pub record Answers {T : Type 0} (makes : World → List Change → Type 0) (give
   pub early : IfErr result (λ r. is_early r ≡ true → IsAlone old new)
   pub made : (w : World) → Tells old w → IsMade (makes w) w old new result
   pub given : (w : World) → Tells old w → IsGiven (gives w) result
+
+-- The folder stays as it is, and is told to have failed only where its count of faults rose.
+pub record Asked {T : Type 0} (old new : FolderTold) (result : Result T Refusal) : Type 0 where
+  pub files : new.files ≡ old.files
+  pub faults : old.faults ≤ new.faults
+  pub failed : IsErrOf result Input → Rose old.faults new.faults
 
 -- a command that changes nothing
 abbrev pub no_changes : World → List Change → Type 0

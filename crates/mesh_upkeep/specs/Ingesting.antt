@@ -17,7 +17,6 @@ use Rattle.mesh_house.specs.World.{head}
 use Rattle.mesh_changes.specs.Commands.{Ingest, changes}
 use Rattle.mesh_fault_text.specs.Lines.{name_text}
 use Rattle.mesh_io.specs.declared.files.File.{File}
-use Rattle.mesh_io.specs.Told.{FolderTold}
 use Rattle.mesh_files.specs.declared.faults.LoadFault.TheVariants as load
 use Rattle.mesh_layer.specs.Shows.{Tells}
 use Rattle.mesh_printed.specs.Reports.{ingested_line}
@@ -79,9 +78,3 @@ IngestMakes files dir name file keep w list = IsSource files dir name file (λ s
 -- what it answers: the first fault of the files comes before the look at the source that is there
 abbrev pub IngestGives : Option (List File) → List ℕ → Name → List ℕ → Bool → World → Result (List ℕ) Refusal → Type 0
 IngestGives files dir name file keep w answer = IsSource files dir name file (λ source. LoadGives name source keep w answer) ⊎ TellsFault files dir name file answer
-
--- The folder stays as it is, and is told to have failed only where its count of faults rose.
-pub record Asked {T : Type 0} (old new : FolderTold) (result : Result T Refusal) : Type 0 where
-  pub files : new.files ≡ old.files
-  pub faults : old.faults ≤ new.faults
-  pub failed : IsErrOf result Input → Rose old.faults new.faults

@@ -1,10 +1,10 @@
 // `ingest`: a declared source is loaded from a file of the project.
 ghost use Rattle.std.specs.Prelude.{◌≡◌, ◌⊎◌, ◌↔◌, ◌∷◌, [], true, Ok, IfOk, IsErrOf, IsTrue, length};
 ghost use Rattle.mesh_house.specs.declared.world.Change.TheVariants.{Load};
-ghost use Rattle.mesh_commands.specs.Answers.{Answers};
+ghost use Rattle.mesh_commands.specs.Answers.{Answers, Asked};
 ghost use Rattle.mesh_printed.specs.Reports.{ingested_line};
 ghost use Rattle.mesh_printed.specs.declared.refusals.Refusal.TheVariants.{Input, Memory as NoMemory};
-ghost use Rattle.mesh_upkeep.specs.Ingesting.{Asked, Fits, IngestGives, IngestMakes, LoadGives, LoadMakes, MayLoad, other_shape};
+ghost use Rattle.mesh_upkeep.specs.Ingesting.{Fits, IngestGives, IngestMakes, LoadGives, LoadMakes, MayLoad, other_shape};
 
 use crate::sourced::{name_text, of_load, source_rows};
 use mesh_commands::as_refusal;
@@ -109,7 +109,7 @@ fn made<W: Warehouse>(
     line: Str,
 ) -> Result<Str, Refusal>
     ensures answers { Answers (λ w list. list ≡ change.now ∷ []) (λ w answer. answer ≡ Ok line) (W.told house.old) (W.told house.new) result }
-    ensures alone { IsErrOf result Input → ⊥ }
+    ensures inside { IsErrOf result Input → ⊥ }
 {
     match house.change(alloc, change) {
         Err(fail) => Err(as_refusal(fail)),
@@ -125,7 +125,7 @@ fn put<W: Warehouse>(
     append: bool,
 ) -> Result<Str, Refusal>
     ensures answers { Answers (LoadMakes name.now source append) (λ w answer. answer ≡ Ok (ingested_line name.now (length source.rows))) (W.told house.old) (W.told house.new) result }
-    ensures alone { IsErrOf result Input → ⊥ }
+    ensures inside { IsErrOf result Input → ⊥ }
 {
     match load_of(alloc, name, source, append) {
         Err(_) => Err(Refusal::Memory),
@@ -141,7 +141,7 @@ fn load<W: Warehouse>(
     append: bool,
 ) -> Result<Str, Refusal>
     ensures answers { Answers (LoadMakes name.now source append) (LoadGives name.now source append) (W.told house.old) (W.told house.new) result }
-    ensures alone { IsErrOf result Input → ⊥ }
+    ensures inside { IsErrOf result Input → ⊥ }
 {
     match fits(alloc, house, name, &source.columns, append) {
         Err(refusal) => Err(refusal),
@@ -162,7 +162,7 @@ pub fn ingest<W: Warehouse, F: Folder>(
     append: bool,
 ) -> Result<Str, Refusal>
     ensures answers { Answers (IngestMakes (F.told folder.old).files dir.now name.now file.now append) (IngestGives (F.told folder.old).files dir.now name.now file.now append) (W.told house.old) (W.told house.new) result }
-    ensures asked { Asked (F.told folder.old) (F.told folder.new) result }
+    ensures folder { Asked (F.told folder.old) (F.told folder.new) result }
 {
     match source_rows(alloc, folder, dir, name, file) {
         Err(fault) => Err(of_load(fault)),
