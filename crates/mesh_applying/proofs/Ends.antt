@@ -1,6 +1,5 @@
 -- The changes of a plan's models with some last ones behind them, which come where nothing dangles.
-use Rattle.std.proofs.Common.{◌≡◌, ◌≤◌, ℕ, ℤ, ◌+◌, Bool, true, false, not, List, [], ◌∷◌, ◌++◌, length, Some, None, refl, sym, ap, ◌∙◌, arith, append_assoc, length-append}
-use Rattle.std.specs.Prelude.{◌&&◌}
+use Rattle.std.proofs.Common.{◌≡◌, ◌≤◌, ℕ, ℤ, true, not, List, [], ◌∷◌, ◌++◌, length, Some, None, refl, sym, ap, ◌∙◌, arith, append_assoc, length-append}
 use Rattle.std.specs.List.{flat_map, list_all}
 use Rattle.std.specs.Option.{option_map}
 use Rattle.std.specs.declared.option.Option.{Option}
@@ -104,7 +103,9 @@ all_come all last (p ∷ ps) w fit long = at (λ u many. all_come all last ps u 
         let same = fills_long (model_of p.node p.entry) v all p.dues list is in
         next (run v list)
         (omega (
-          arith, same, many,
+          arith,
+          same,
+          many,
           length-append (making all p) (list ++ executes all ps (run v list)),
           length-append list (executes all ps (run v list)),
           length-append (part_outline all p) (parts_outline all ps),

@@ -1,5 +1,5 @@
 -- The models of a plan, by name, are its references and its objects.
-use Rattle.std.proofs.Common.{◌≡◌, ◌≤◌, ◌⊎◌, inl, inr, ℕ, List, [], ◌∷◌, length, map, drop, refl, sym, ap, ◌∙◌}
+use Rattle.std.proofs.Common.{◌≡◌, ◌≤◌, ◌⊎◌, inl, inr, ⊎_elim, min, ℕ, zero, suc, List, [], ◌∷◌, length, map, drop, refl, sym, ap, ◌∙◌, arith}
 use Rattle.std.proofs.lemmas.List.{drop_all}
 use Rattle.std.specs.declared.cmp.Ordering.{Ordering}
 use Rattle.std.specs.declared.cmp.Ordering.TheVariants.{Less, Equal, Greater}
@@ -13,7 +13,7 @@ use Rattle.mesh_rules.specs.declared.plans.Plan.{Plan}
 use Rattle.mesh_due.specs.Plans.{Planned}
 use Rattle.mesh_changes.specs.Changes.{objects_by_name, pair_first, planned_ref, refs_by_name, target_of}
 use Rattle.mesh_promote.specs.Promotion.{paired}
-use Rattle.mesh_exec.specs.Plain.{models, plain_models}
+use Rattle.mesh_exec.specs.Plain.{plain_models}
 use Rattle.mesh_exec.specs.Planned.{planned_models}
 use Rattle.mesh_exec.proofs.Books.{models_same, strip}
 use Rattle.mesh_applying.specs.declared.listing.Target.{Target}
@@ -65,6 +65,11 @@ lists_objects p ts is = paired_are ts ∙ ap (map pair_of) is ∙ pairs_are p.pr
 none_beside : (ns : List Node) → targets ns [] ≡ []
 none_beside [] = refl
 none_beside (n ∷ ns) = refl
+
+pub shorter : (a b : ℕ) → (a ≤ min a b) ⊎ (b ≤ min a b)
+shorter zero b = inl (omega arith)
+shorter (suc a) zero = inr (omega arith)
+shorter (suc a) (suc b) = ⊎_elim (λ h. inl (omega (arith, h))) (λ h. inr (omega (arith, h))) (shorter a b)
 
 pub none_left : (k : ℕ) (ns : List Node) (es : List Entry) → (length ns ≤ k) ⊎ (length es ≤ k) → targets (drop k ns) (drop k es) ≡ []
 none_left k ns es (inl h) = ap (λ (l : List Node). targets l (drop k es)) (drop_all k ns h)

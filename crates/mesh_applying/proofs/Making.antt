@@ -1,5 +1,5 @@
 -- What is answered once the changes of a plan were to be made.
-use Rattle.std.proofs.Common.{◌≡◌, ◌⊎◌, inl, inr, ℕ, ℤ, true, false, List, length, ◌++◌, Ok, Err, Result, Some, None, refl, sym, ◌∙◌, ap, subst}
+use Rattle.std.proofs.Common.{◌≡◌, ◌⊎◌, inl, inr, ℕ, ℤ, true, false, List, length, ◌++◌, Ok, Err, Result, Some, None, sym, ◌∙◌, ap, subst}
 use Rattle.std.specs.declared.option.Option.{Option}
 use Rattle.mesh_base.specs.declared.forgets.Restate.{Restate}
 use Rattle.mesh_base.specs.declared.snapshots.Env.{Env}
@@ -110,8 +110,12 @@ module _ (b : Book) (env : List ℕ) (t : ℤ) (a : Told) (has : HasBook b a) wh
     run_here w told = subst (λ (k : Book). IsRunPlanned k env t p) (sym (has w told.world)) planned
 
     run_gives : (w : World) → Tells a w → (r : Result (List ℕ) Refusal) → RunTells p w r → RunGives env t w r
-    run_gives w told (Ok text) is = (p, run_here w told, subst (λ (e : List ℕ). IsRan p e t w text) (run_env b env (env_at b env) t p planned.plan)
-        (subst (λ (m : ℤ). IsRan p p.env m w text) (run_moment b env (env_at b env) t p planned.plan) is))
+    run_gives w told (Ok text) is = (
+      p,
+      run_here w told,
+      subst (λ (e : List ℕ). IsRan p e t w text) (run_env b env (env_at b env) t p planned.plan)
+          (subst (λ (m : ℤ). IsRan p p.env m w text) (run_moment b env (env_at b env) t p planned.plan) is),
+    )
     run_gives w told (Err r) is = inr (p, run_here w told, is)
 
     pub planned_ran : (r : Result (List ℕ) Refusal) → Answers (MakesBy p (RunAll (promised p))) (RunTells p) a c r → Answers (RunMakes env t) (RunGives env t) a c r

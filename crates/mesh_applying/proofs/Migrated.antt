@@ -1,26 +1,21 @@
 -- A book is moved by its map.
-use Rattle.std.proofs.Common.{◌≡◌, ◌⊎◌, ◌≤◌, inl, inr, ℕ, Bool, true, false, cond, not, List, [], ◌∷◌, length, map, Some, None, Ok, Err, Result, refl, sym, ap, ◌∙◌, subst, arith, length-map}
+use Rattle.std.proofs.Common.{◌≡◌, ◌⊎◌, inl, inr, ℕ, Bool, true, false, cond, not, List, [], ◌∷◌, length, map, None, Ok, Err, IfErr, IfOk, Result, refl, sym, ap, ◌∙◌, subst, ⊎_elim, arith}
 use Rattle.std.specs.Prelude.{◌&&◌, nat_eq}
-use Rattle.mesh_values.specs.declared.values.Name.{Name}
+use Rattle.std.proofs.lemmas.Bool.Decides.{eqb_tells}
 use Rattle.mesh_base.specs.declared.forgets.Rename.{Rename}
-use Rattle.mesh_tokens.specs.declared.faults.FaultKind.TheVariants.{FingerprintClash}
 use Rattle.mesh_book.specs.declared.book.Book.{Book}
-use Rattle.mesh_book.specs.declared.fault.BookFault.{BookFault}
-use Rattle.mesh_book.specs.WellFormed.{book_fault, is_well_formed_book}
+use Rattle.mesh_book.specs.WellFormed.{is_well_formed_book}
 use Rattle.mesh_moves.specs.Renames.{has_twins, renamed_all}
 use Rattle.mesh_scratch.specs.Horizons.{Clock}
 use Rattle.mesh_house.specs.declared.house.WhFail.{WhFail}
 use Rattle.mesh_house.specs.declared.house.WhFail.TheVariants as fails
-use Rattle.mesh_house.specs.declared.world.Change.{Change}
 use Rattle.mesh_house.specs.declared.world.Change.TheVariants.{Migrate}
 use Rattle.mesh_house.specs.declared.world.World.{World}
-use Rattle.mesh_house.specs.House.{Reads, Told}
+use Rattle.mesh_house.specs.House.{Told}
 use Rattle.mesh_house.specs.Runs.{Makes}
-use Rattle.mesh_house.specs.World.{book}
 use Rattle.mesh_layer.specs.Shows.{Tells}
-use Rattle.mesh_changes.specs.Commands.{MigrateAll, asked, changes}
-use Rattle.mesh_fault_text.specs.Lines.{name_text}
-use Rattle.mesh_migrate.specs.Migration.{IsMap, IsRefused, first_twins, rename_by}
+use Rattle.mesh_changes.specs.Commands.{MigrateAll, changes}
+use Rattle.mesh_migrate.specs.Migration.{IsMap, IsRefused, first_twins}
 use Rattle.mesh_migrate.specs.Walk.{layers, limit_from, rename_at}
 use Rattle.mesh_migrate.specs.declared.fault.MigrationFault.{MigrationFault}
 use Rattle.mesh_migrate.specs.declared.fault.MigrationFault.TheVariants.{Twins, Memory as NoRoom}
@@ -28,9 +23,9 @@ use Rattle.mesh_migrate.proofs.Maps.{moves_apart}
 use Rattle.mesh_migrate.proofs.Put.{walk_makes_the_map}
 use Rattle.mesh_printed.specs.Reports.{migrated_line}
 use Rattle.mesh_printed.specs.declared.refusals.Refusal.{Refusal}
-use Rattle.mesh_printed.specs.declared.refusals.Refusal.TheVariants.{BookBroken, Memory, Model, Warehouse}
-use Rattle.mesh_commands.specs.Answers.{Answers, IsAlone, as_refusal}
-use Rattle.mesh_commands.proofs.Answering.{alone_itself, read_first, read_of, refused_first, told_alone, wanting_first}
+use Rattle.mesh_printed.specs.declared.refusals.Refusal.TheVariants.{Memory}
+use Rattle.mesh_commands.specs.Answers.{Answers, as_refusal}
+use Rattle.mesh_commands.proofs.Answering.{alone_itself, refused_first, told_alone, wanting_first}
 use Rattle.mesh_applying.specs.Made.{HasBook}
 use Rattle.mesh_applying.specs.Migrating.{IsMoved, MigrateGives, MigrateMakes, Moves, moved_number, of_migration}
 
@@ -71,9 +66,9 @@ module _ (b : Book) (well : is_well_formed_book b ≡ true) (a : Told) (has : Ha
     module _ (renames : List Rename) (is : IsMap b renames) (apart : first_twins renames ≡ None) where
       asks : (w : World) → Tells a w → (clock : Clock) → Migrate renames ∷ [] ≡ changes clock (MigrateAll renames) w
       asks w t clock = sym (
-        (λ i. cond (moves (has w t.world i) renames) (Migrate renames ∷ []) [])
-        ∙ (λ i. cond (well i && (former i && not (moves_apart b renames well is apart i))) (Migrate renames ∷ []) [])
-      )
+          (λ i. cond (moves (has w t.world i) renames) (Migrate renames ∷ []) [])
+          ∙ (λ i. cond (well i && (former i && not (moves_apart b renames well is apart i))) (Migrate renames ∷ []) [])
+          )
 
       makes : (w : World) → Tells a w → MigrateMakes w (Migrate renames ∷ [])
       makes w t = (renames, map_of renames is w t, asks w t)
@@ -127,33 +122,10 @@ module _ (b : Book) (well : is_well_formed_book b ≡ true) (a : Told) (has : Ha
 pub unlined : (a : Told) (r : Refusal) → r ≡ Memory → Done a a (Err r)
 unlined a r is = subst (λ (x : Refusal). Done a a (Err x)) (sym is) (wanting_first MigrateMakes MigrateGives a)
 
--- the book breaks a rule
-pub broken : (b : Book) (a : Told) → HasBook b a → (fault : BookFault) → book_fault b ≡ Some fault → Done a a (Err (BookBroken fault.part fault.place))
-broken b a has fault first =
-    refused_first MigrateMakes MigrateGives a (BookBroken fault.part fault.place) (λ e. absurd (cc))
-    (λ w t no. inl (record { fault = fault; first = ap book_fault (has w t.world) ∙ first; told = refl }))
+not_one : (n : ℕ) → (n ≡ 1 → ⊥) → nat_eq n 1 ≡ false
+not_one n other = ⊎_elim (λ t. absurd (other t.1)) (λ f. f.0) (eqb_tells n 1)
 
--- the book wasn't read
-pub not_read : (a m : Told) (e : WhFail) → Reads {T = Book} book a m (Err e) → Done a m (Err (as_refusal e))
-not_read a m fails.Failed reads = record {
-  faults = reads.faults;
-  failed = λ k. reads.failed refl;
-  early = λ k. absurd (cc);
-  made = λ w t. inl (record { world = reads.world; calls = reads.calls });
-  given = λ w t k. absurd (cc);
-}
-not_read a m fails.Memory reads = record {
-  faults = reads.faults;
-  failed = λ k. absurd (cc);
-  early = λ k. absurd (cc);
-  made = λ w t. inl (record { world = reads.world; calls = reads.calls });
-  given = λ w t k. absurd (cc);
-}
-
--- the book was read, and the house has it
-module _ (a m : Told) (b : Book) (reads : Reads book a m (Ok b)) where
-  pub has_it : HasBook b m
-  has_it w is = sym (read_of a m b reads w (sym reads.world ∙ is))
-
-  pub by_the_book : (c : Told) (r : Result (List ℕ) Refusal) → Done m c r → Done a c r
-  by_the_book c r by = read_first MigrateMakes MigrateGives a m c (record { world = reads.world; calls = reads.calls }) reads.faults r by
+-- what is answered of a book that stays, whether there was memory for the line or not
+pub left_alone : (b : Book) → is_well_formed_book b ≡ true → (a : Told) → HasBook b a → (b.version ≡ 1 → ⊥) → (r : Result (List ℕ) Refusal) → IfOk r (λ line. line ≡ migrated_line 0) → IfErr r (λ e. e ≡ Memory) → Done a a r
+left_alone b well a has other (Ok line) is none = stays b well a has line (not_one b.version other) is
+left_alone b well a has other (Err r) is none = unlined a r none

@@ -4,12 +4,15 @@ use Rattle.std.specs.Prelude.{◌&&◌}
 use Rattle.std.specs.Int.Signed.{lt_z}
 use Rattle.std.specs.List.{AllByRecursion, AllZip}
 use Rattle.std.specs.declared.option.Option.{Option}
+use Rattle.std.proofs.lemmas.List.{append-nil}
 use Rattle.mesh_values.specs.declared.values.Name.{Name}
 use Rattle.mesh_base.specs.declared.forgets.Restate.{Restate}
 use Rattle.mesh_base.specs.declared.plans.Category.{Category}
 use Rattle.mesh_base.specs.declared.plans.Entry.{Entry}
 use Rattle.mesh_base.specs.declared.snapshots.Env.{Env}
 use Rattle.mesh_base.specs.declared.snapshots.Node.{Node}
+use Rattle.mesh_base.specs.declared.snapshots.Ref.{Ref}
+use Rattle.mesh_rules.specs.Proper.{is_proper}
 use Rattle.mesh_rules.specs.declared.plans.Plan.{Plan}
 use Rattle.mesh_book.specs.declared.book.Book.{Book}
 use Rattle.mesh_scratch.specs.Horizons.{Clock, Shows}
@@ -19,19 +22,24 @@ use Rattle.mesh_house.specs.Step.{run}
 use Rattle.mesh_house.specs.World.{version_of}
 use Rattle.mesh_due.specs.Dues.{dues}
 use Rattle.mesh_due.specs.Plans.{is_made, planned}
-use Rattle.mesh_changes.specs.Changes.{executes as book_executes, opens, promotes, run_opens}
-use Rattle.mesh_changes.specs.Commands.{Command, Apply, RunAll, asked, changes, is_final, is_not_behind, is_present}
+use Rattle.mesh_changes.specs.Changes.{executes as book_executes, objects_by_name, opens, promotes, refs_by_name, run_opens}
+use Rattle.mesh_changes.specs.Commands.{Apply, RunAll, asked, is_final, is_not_behind, is_present}
 use Rattle.mesh_changes.specs.Environments.{env_at}
-use Rattle.mesh_changes.specs.Planning.{compared_list}
+use Rattle.mesh_exec.specs.Executable.{IsExecutable}
 use Rattle.mesh_exec.specs.Executed.{executed, executes, outline, parts_outline}
 use Rattle.mesh_exec.specs.Plain.{models, opened}
-use Rattle.mesh_exec.specs.Planned.{IsOf, as_planned, opens_of, planned_models}
+use Rattle.mesh_exec.specs.Planned.{IsOf, as_planned, planned_models}
 use Rattle.mesh_exec.specs.Works.{are_fit, parts}
 use Rattle.mesh_exec.proofs.Books.{as_the_book_asks, ends, ends_as_the_book, opens_same}
-use Rattle.mesh_plan.specs.Entries.{AreEntries, IsRecorded, entries_of}
+use Rattle.mesh_exec.proofs.Fitting.{parts_fit}
+use Rattle.mesh_plan.specs.Entries.{IsRecorded, entries_of}
 use Rattle.mesh_plan.specs.Plans.{IsPlanOf, promised}
 use Rattle.mesh_plan.specs.Running.{IsRunIn, IsRunOf}
+use Rattle.mesh_plan_laws.proofs.Executable.{plan_executable}
+use Rattle.mesh_promote.specs.Promotion.{paired, promotion}
+use Rattle.mesh_promote.proofs.Left.{promotes_its_models}
 use Rattle.mesh_applying.specs.Applying.{AreOf}
+use Rattle.mesh_applying.specs.Made.{IsPlanFor}
 use Rattle.mesh_applying.proofs.Ends.{all_come, ends_are, tail}
 
 -- entries know whether the book has their objects made
@@ -129,12 +137,41 @@ module _ (b : Book) (present : is_present b ≡ true) (p : Plan) where
   pub of_run : (env : List ℕ) (t : ℤ) → IsRunIn b env (env_at b env) t p → (w : World) → w.book ≡ b → AreOf p.moment (RunAll (promised p)) w (executed p w)
   of_run env t h = run_in env (env_at b env) t h refl
 
+  -- with nothing behind them
+  pub of_run_alone : (env : List ℕ) (t : ℤ) → IsRunIn b env (env_at b env) t p → (w : World) → w.book ≡ b → AreOf p.moment (RunAll (promised p)) w (executed p w ++ [])
+  of_run_alone env t h w is = subst (λ (l : List Change). AreOf p.moment (RunAll (promised p)) w l) (sym (append-nil (executed p w))) (of_run env t h w is)
+
 -- where as many changes were made as there are without rows, the last ones are those that give the environment its views
 pub all_promoted : (b : Book) (p : Plan) → are_fit (parts p) ≡ true → (w : World) → length (executed p w) ≡ length (outline p) → rest b p w ≡ promotes b (promised p)
 all_promoted b p fit w long =
     all_come (models p) (promotes b (promised p)) (parts p) (run w (opened p)) fit
     (omega (
-      arith, long,
+      arith,
+      long,
       length-append (opened p) (executes (models p) (parts p) (run w (opened p))),
       length-append (opened p) (parts_outline (models p) (parts p)),
     ))
+
+-- the changes that give an environment a plan's models, by name, and their objects, are those
+promotion_is : (b : Book) (p : Plan) (refs : List Ref) (objects : List Name) → refs ≡ refs_by_name (planned_models p) → paired refs objects ≡ objects_by_name (planned_models p) → promotion b p.env refs objects p.moment ≡ promotes b (promised p)
+promotion_is b p refs objects is pairs =
+    ap (λ (r : List Ref). promotion b p.env r objects p.moment) is ∙ promotes_its_models b (promised p) objects (ap (λ (r : List Ref). paired r objects) (sym is) ∙ pairs)
+
+-- what is due of a plan that can be made fits its models
+fits : (p : Plan) → IsExecutable p → is_proper p.project.nodes ≡ true → are_fit (parts p) ≡ true
+fits p may proper = parts_fit p.project.nodes p.entries p.dues proper may.fit
+
+module _ (b : Book) (present : is_present b ≡ true) (p : Plan) (is : IsPlanFor b p) where
+  -- a plan of a book can be made
+  pub may_be_made : IsExecutable p
+  may_be_made = plan_executable b is.0 is.1 is.2 is.3 p is.4 is.5 is.6
+
+  pub before_promotion : (w : World) → w.book ≡ b → AreOf p.moment (Apply (promised p)) w (executed p w ++ rest b p w)
+  before_promotion w has = of_apply b present p is.0 is.1 is.2 is.3 is.6 w has
+
+  pub with_views : (refs : List Ref) (objects : List Name) → refs ≡ refs_by_name (planned_models p) → paired refs objects ≡ objects_by_name (planned_models p)
+      → (w : World) → w.book ≡ b → length (executed p w) ≡ length (outline p) → AreOf p.moment (Apply (promised p)) w (executed p w ++ promotion b p.env refs objects p.moment)
+  with_views refs objects are pairs w has long =
+      subst (λ (l : List Change). AreOf p.moment (Apply (promised p)) w (executed p w ++ l))
+      (all_promoted b p (fits p may_be_made is.5) w long ∙ sym (promotion_is b p refs objects are pairs))
+      (before_promotion w has)

@@ -3,11 +3,9 @@ use Rattle.std.proofs.Common.{◌≡◌, ◌⊎◌, inl, inr, ℕ, ℤ, true, fa
 use Rattle.std.specs.declared.option.Option.{Option}
 use Rattle.mesh_base.specs.declared.forgets.Restate.{Restate}
 use Rattle.mesh_base.specs.declared.snapshots.Node.{Node}
-use Rattle.mesh_tokens.specs.declared.faults.FaultKind.TheVariants.{UnknownRelation}
 use Rattle.mesh_rules.specs.declared.plans.Plan.{Plan}
 use Rattle.mesh_book.specs.declared.book.Book.{Book}
 use Rattle.mesh_house.specs.House.{Told}
-use Rattle.mesh_house.specs.declared.world.World.{World}
 use Rattle.mesh_changes.specs.Commands.{is_present}
 use Rattle.mesh_changes.specs.Environments.{env_at}
 use Rattle.mesh_changes.specs.Planning.{compared_list}
@@ -21,7 +19,7 @@ use Rattle.mesh_printed.specs.declared.refusals.Refusal.{Refusal}
 use Rattle.mesh_printed.specs.declared.refusals.Refusal.TheVariants.{Model, Warehouse, Memory, MomentBehind, EnvUnknown, EnvPending}
 use Rattle.mesh_commands.specs.Answers.{Answers, is_fault, no_changes}
 use Rattle.mesh_commands.specs.Present.{ReadsPresent}
-use Rattle.mesh_commands.proofs.Answering.{present_otherwise, refused_alone, refused_first, told_alone}
+use Rattle.mesh_commands.proofs.Answering.{present_otherwise, refused_alone, told_alone}
 use Rattle.mesh_applying.specs.Applying.{PlanGives}
 use Rattle.mesh_applying.specs.Planning.{IsPlanned, IsStray, PlanRefused, RunRefused, has_named, no_model, of_plan}
 

@@ -1,8 +1,7 @@
 -- What is left of a house once a plan's changes were to be made, by what the calls for them left.
-use Rattle.std.proofs.Common.{◌≡◌, ℕ, ◌+◌, ◌≤◌, true, false, inl, inr, List, [], ◌∷◌, ◌++◌, length, Some, Ok, Err, Result, refl, sym, ap, ◌∙◌, subst, arith, length-append}
+use Rattle.std.proofs.Common.{◌≡◌, ℕ, inl, inr, List, [], ◌++◌, length, Ok, Err, Result, refl, sym, ap, ◌∙◌, subst, arith, length-append}
 use Rattle.std.specs.Prelude.{◌⊎◌}
 use Rattle.std.proofs.lemmas.List.{append-nil}
-use Rattle.mesh_list.specs.Counts.{Rose}
 use Rattle.mesh_values.specs.declared.values.Name.{Name}
 use Rattle.mesh_base.specs.declared.jobs.Done.{Done}
 use Rattle.mesh_rules.specs.declared.plans.Plan.{Plan}
@@ -12,7 +11,7 @@ use Rattle.mesh_house.specs.declared.house.WhFail.TheVariants as fails
 use Rattle.mesh_house.specs.declared.world.Change.{Change}
 use Rattle.mesh_house.specs.declared.world.World.{World}
 use Rattle.mesh_house.specs.House.{Told}
-use Rattle.mesh_house.specs.Runs.{IsPrefixRun, IsRun, Makes, Ran}
+use Rattle.mesh_house.specs.Runs.{IsPrefixRun, Makes, Ran}
 use Rattle.mesh_house.specs.Step.{run}
 use Rattle.mesh_layer.specs.Shows.{Tells}
 use Rattle.mesh_changes.specs.Commands.{Command}
@@ -23,8 +22,8 @@ use Rattle.mesh_exec.specs.Executed.{executed, outline}
 use Rattle.mesh_exec.proofs.Stepping.{prefix_more, prefix_then, run_then, whole_prefix}
 use Rattle.mesh_printed.specs.declared.refusals.Refusal.{Refusal}
 use Rattle.mesh_printed.specs.declared.refusals.Refusal.TheVariants.{Warehouse, Memory}
-use Rattle.mesh_commands.specs.Answers.{as_refusal, is_early}
-use Rattle.mesh_applying.specs.Applying.{AreOf, IsHeld, IsStopped, of_exec}
+use Rattle.mesh_commands.specs.Answers.{as_refusal}
+use Rattle.mesh_applying.specs.Applying.{AreOf, IsStopped, of_exec}
 use Rattle.mesh_applying.specs.Making.{IsWhole, MakesAll, Promotes}
 
 module _ (p : Plan) (c : Command) (b : Book) where
@@ -60,28 +59,28 @@ module _ (p : Plan) (c : Command) (b : Book) where
       faults = h.faults;
       failed = λ is. absurd (cc);
       early = λ is. absurd (cc);
-      made = λ w t e. cut_is w e _ (h.err w t);
+      made = λ w t e. cut_is w e (of_exec (fault.Dangling object)) (h.err w t);
       given = λ is w t e. inr (stop_at object h w t);
     }
     as_told (fault.Model name kind) h = record {
       faults = h.faults;
       failed = λ is. absurd (cc);
       early = λ is. let un = h.unmade name kind refl in record { world = un.0; calls = un.1 };
-      made = λ w t e. cut_is w e _ (h.err w t);
+      made = λ w t e. cut_is w e (of_exec (fault.Model name kind)) (h.err w t);
       given = λ is w t e. inl (record { lack = record { model = name; kind = kind }; first = h.lacking name kind refl w t; told = refl });
     }
     as_told fault.Warehouse h = record {
       faults = h.faults;
       failed = λ is. h.failed refl;
       early = λ is. absurd (cc);
-      made = λ w t e. cut_is w e _ (h.err w t);
+      made = λ w t e. cut_is w e Warehouse (h.err w t);
       given = λ is. absurd (cc);
     }
     as_told fault.Memory h = record {
       faults = h.faults;
       failed = λ is. absurd (cc);
       early = λ is. absurd (cc);
-      made = λ w t e. cut_is w e _ (h.err w t);
+      made = λ w t e. cut_is w e Memory (h.err w t);
       given = λ is. absurd (cc);
     }
 

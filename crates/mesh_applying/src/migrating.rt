@@ -63,7 +63,12 @@ fn moved<W: Warehouse>(
 }
 
 /// The same with the line of these renames, which is made first.
-fn move_by<W: Warehouse>(alloc: Global, house: &mut W, b: &Book, renames: Renames) -> Result<Str, Refusal>
+fn move_by<W: Warehouse>(
+    alloc: Global,
+    house: &mut W,
+    b: &Book,
+    renames: Renames,
+) -> Result<Str, Refusal>
     requires well_formed { is_well_formed_book b.now ≡ true }
     requires former { nat_eq b.now.version 1 ≡ true }
     requires map { IsMap b.now renames }

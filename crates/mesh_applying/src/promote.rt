@@ -46,7 +46,15 @@ fn promoted<W: Warehouse>(
     requires { IsTrue (is_moment p.now.moment) }
     ensures { Promotes (promotion b.now p.now.env lists.now.list lists.now.objects p.now.moment) done (W.told house.old) (W.told house.new) result }
 {
-    match promote(alloc, house, b, &p.env, &lists.list, &lists.objects, p.moment) {
+    match promote(
+        alloc,
+        house,
+        b,
+        &p.env,
+        &lists.list,
+        &lists.objects,
+        p.moment,
+    ) {
         Err(fail) => Err(as_refusal(fail)),
         Ok(made) => sum(done, made),
     }
