@@ -1,35 +1,45 @@
 //! Worked examples as data. Each folder `rows/NAME` has a project in `project/` and a `script` of steps, which are run
-//! through the top call of `mesh_cli` over a folder and a warehouse in memory. What each command answers and leaves is
-//! printed, and is compared with the crate's `stdout`, whose values were worked out by hand.
+//! through the top call of `mesh_cli` over a folder and a warehouse in memory. What each command answers is printed, and
+//! is compared with the crate's `stdout`, whose values were worked out by hand.
 //!
-//! A script has one step a line, and a line that has nothing or begins with `#` is no step:
-//! - `mesh WORD..` runs a command; the words are separated by blanks;
+//! A script has one step a line, split as the lines of a batch are; empty lines and lines that begin with `#` are no steps:
+//! - `mesh WORD..` runs a command, and prints its status, its number of changes, and what it wrote on `out` and `err`;
+//! - `show` prints the views, each with the number of its target and its rows, and how many things the world has; targets
+//!   are numbered as the views name them; `targets` prints the views with the names of their targets;
 //! - `write PATH FILE` gives the project a file with the bytes of `rows/NAME/FILE`, and `delete PATH` removes one;
-//! - `cut PATH FILE N` gives the project a file with the first N bytes of `rows/NAME/FILE`;
-//! - `pad PATH FILE N` gives the project a file with the bytes of `rows/NAME/FILE` and line feeds behind them, N bytes in all;
-//! - `copies N FILE` gives the project the files `models/0.sql`, `models/1.sql` and so on, N in all, each with the bytes of
-//!   `rows/NAME/FILE`;
-//! - `cuts PATH FILE` runs `mesh apply` with each proper prefix of `rows/NAME/FILE` as the project's file, and then gives
-//!   the project the whole file. It counts the cuts, and those that are refused with one line of that file and no change,
-//!   and shows all others;
-//! - `empty house` begins anew with an empty warehouse;
-//! - `fail change N before`, `fail change N after`, `fail read N` and `fail folder N` have one call of the next commands
-//!   fail, counted from 0 from then on; `fail put N` has one put on `err` fail, counted from 0 in each command; and
-//!   `fail nothing` has none fail.
+//! - `cut PATH FILE N` gives it a file with the first N bytes of `rows/NAME/FILE`, and `pad PATH FILE N` one with line feeds
+//!   behind them, N bytes in all;
+//! - `copies N FILE` gives it the files `models/0.sql`, `models/1.sql` and so on, N in all;
+//! - `clock MOMENT` sets the clock, and `empty` empties the warehouse; `input FILE` is what commands read as their input,
+//!   and `input FILE N` the same with line feeds behind it, N bytes in all;
+//! - `book old` makes the book one of version 1 and `book present` one of version 2; `book definition` gives its first
+//!   snapshot another definition, the second time the former one; `book unknown`, `book parent`, `book twice` and
+//!   `book orphan` break it: its version, a parent of its first snapshot, its first version, which stands twice, or the list
+//!   of its first environment, of which one entry is left;
+//! - `fail CALL N` has one call of each of the next commands fail, counted from 0 in each; CALL is `before` or `after` for a
+//!   change that fails before or after its effect, `house` for another call of the warehouse, or `folder`, `clock`, `input`,
+//!   `out` or `err`; `fail` alone has none fail;
+//! - `cuts PATH WORD..` runs a command with the project's file PATH whole and with each proper prefix in its place, each over
+//!   the world as it is; it counts the cuts, those that are refused with one line of that file and no change, and those that
+//!   end as with the whole file, and prints the others;
+//! - `stops CALL WORD..` runs a command, and then again from the world before with each call of that kind failing in turn,
+//!   each time followed by the whole command, and prints both statuses, whether the views show the same, and the second text;
+//!   at the end the world is as it was.
 #![tactic(auto)]
 
-mod command;
-mod cuts;
+mod arrange;
 mod report;
-mod script;
 mod stage;
 mod trouble;
+mod turns;
 
-use crate::cuts::{cuts, front, padded};
-use crate::script::{Step, steps_of};
+use crate::arrange::arrange;
+use crate::report::{put, put_counts, put_outcome, put_targets, put_views};
 use crate::stage::Stage;
 use crate::trouble::Trouble;
+use crate::turns::{cuts, stops};
 use mesh_io::{DirFolder, Folder, Sink, StdSink};
+use mesh_line::{is_skipped, line_words};
 use mesh_list::{Duplicate, Seq};
 use mesh_values::Str;
 use std::alloc::Global;
@@ -39,136 +49,89 @@ use std::thread::Threads;
 /// The bytes of the largest file of an example.
 const MOST_BYTES: u64 = 1 << 23;
 
-fn text(alloc: Global, bytes: &[u8]) -> Result<Str, Trouble> {
-    Ok(u8::copy_items(alloc, bytes)?)
-}
-
-/// A path below `rows`.
-fn below_rows(alloc: Global, path: &[u8]) -> Result<Str, Trouble> {
-    let mut made = Vec::from_slice(alloc, b"rows/")?;
-    made.extend_from_slice(path)?;
-    Ok(Seq::from_vec(made))
-}
-
 fn read(alloc: Global, data: &mut DirFolder, path: &[u8]) -> Result<Str, Trouble> {
-    let path = below_rows(alloc, path)?;
-    data.read(alloc, &path, MOST_BYTES)?.ok_or(Trouble::Script)
+    let mut whole = Vec::from_slice(alloc, b"rows/")?;
+    whole.extend_from_slice(path)?;
+    let whole = Seq::from_vec(whole);
+    data.read(alloc, &whole, MOST_BYTES)?.ok_or(Trouble::Script)
 }
 
-/// Gives the stage the project's files of an example.
-fn furnish(
+/// Runs one step, and adds what is to be printed.
+fn perform<R: Threads + Sync>(
+    rt: &R,
+    stage: &mut Stage,
+    words: &[Str],
+    report: &mut Vec<u8>,
+) -> Result<(), Trouble> {
+    let Some((first, rest)) = words.split_first() else {
+        return Err(Trouble::Script);
+    };
+    match (first.as_slice(), rest) {
+        (b"mesh", _) => {
+            let outcome = stage.run(rt, rest)?;
+            put_outcome(stage.alloc, report, &outcome)
+        }
+        (b"show", []) => {
+            put_views(stage.alloc, report, stage.house.world())?;
+            put_counts(stage.alloc, report, stage.house.world())
+        }
+        (b"targets", []) => put_targets(report, stage.house.world()),
+        (b"cuts", [path, command @ ..]) => cuts(rt, stage, path, command, report),
+        (b"stops", [kind, command @ ..]) => stops(rt, stage, kind, command, report),
+        _ => arrange(stage, first, rest),
+    }
+}
+
+/// Runs the step of a line; a step that prints has its line printed before it.
+fn step<R: Threads + Sync>(
+    rt: &R,
+    stage: &mut Stage,
+    line: &[u8],
+    report: &mut Vec<u8>,
+) -> Result<(), Trouble> {
+    let words = line_words(stage.alloc, line)?.ok_or(Trouble::Script)?;
+    let mut printed = Vec::new(stage.alloc);
+    perform(rt, stage, words.as_slice(), &mut printed)?;
+    if printed.is_empty() {
+        return Ok(());
+    }
+    put(report, b"> ")?;
+    put(report, line)?;
+    put(report, b"\n")?;
+    put(report, printed.as_slice())
+}
+
+fn play<R: Threads + Sync>(
+    rt: &R,
+    stage: &mut Stage,
+    script: &Str,
+    report: &mut Vec<u8>,
+) -> Result<(), Trouble> {
+    for line in script.as_slice().split(|byte| *byte == b'\n') {
+        if !is_skipped(line) {
+            step(rt, stage, line, report)?;
+        }
+    }
+    Ok(())
+}
+
+/// A stage with the files of an example.
+fn furnished(
     alloc: Global,
     data: &mut DirFolder,
     paths: &[Str],
     name: &[u8],
-    stage: &mut Stage,
-) -> Result<(), Trouble> {
+) -> Result<Stage, Trouble> {
     let mut front = Vec::from_slice(alloc, name)?;
-    front.extend_from_slice(b"/project/")?;
+    front.push(b'/')?;
+    let mut stage = Stage::new(alloc);
     for path in paths {
         if let Some(rest) = path.as_slice().strip_prefix(front.as_slice()) {
             let bytes = read(alloc, data, path.as_slice())?;
-            stage.write(text(alloc, rest)?, bytes)?;
+            stage.add(rest, bytes)?;
         }
     }
-    Ok(())
-}
-
-/// A file of an example, by its path there.
-fn file_of(alloc: Global, data: &mut DirFolder, name: &[u8], path: &[u8]) -> Result<Str, Trouble> {
-    let mut whole = Vec::from_slice(alloc, name)?;
-    whole.push(b'/')?;
-    whole.extend_from_slice(path)?;
-    read(alloc, data, whole.as_slice())
-}
-
-/// Gives the project a file with the first bytes of a file of the example.
-fn write_front(stage: &mut Stage, path: &Str, bytes: &Str, length: u64) -> Result<(), Trouble> {
-    let path = path.copy()?;
-    let made = front(stage.alloc(), bytes, length)?;
-    stage.write(path, made)
-}
-
-/// Gives the project a file with the bytes of a file of the example and line feeds.
-fn write_padded(stage: &mut Stage, path: &Str, bytes: &Str, length: u64) -> Result<(), Trouble> {
-    let path = path.copy()?;
-    let made = padded(stage.alloc(), bytes, length)?;
-    stage.write(path, made)
-}
-
-/// Runs one step that stands over a file of the example, whose bytes are at hand.
-fn perform_over<R: Threads + Sync>(
-    rt: &R,
-    step: &Step,
-    bytes: &Str,
-    stage: &mut Stage,
-    report: &mut Vec<u8>,
-) -> Result<(), Trouble> {
-    match step {
-        Step::Write { path, .. } => stage.write(path.copy()?, bytes.copy()?),
-        Step::Cut { path, length, .. } => write_front(stage, path, bytes, *length),
-        Step::Pad { path, length, .. } => write_padded(stage, path, bytes, *length),
-        Step::Copies { number, .. } => stage.copies(*number, bytes),
-        Step::Cuts { path, .. } => cuts(rt, stage.alloc(), stage, path, bytes, report),
-        _ => Err(Trouble::Script),
-    }
-}
-
-/// Runs one step of an example, and adds what is to be printed.
-fn perform<R: Threads + Sync>(
-    rt: &R,
-    alloc: Global,
-    data: &mut DirFolder,
-    name: &[u8],
-    step: &Step,
-    stage: &mut Stage,
-    report: &mut Vec<u8>,
-) -> Result<(), Trouble> {
-    match step.file() {
-        Some(from) => {
-            let bytes = file_of(alloc, data, name, from.as_slice())?;
-            perform_over(rt, step, &bytes, stage, report)
-        }
-        None => stage.perform(rt, step, report),
-    }
-}
-
-fn put_head(report: &mut Vec<u8>, name: &[u8]) -> Result<(), Trouble> {
-    report.extend_from_slice(b"== ")?;
-    report.extend_from_slice(name)?;
-    report.push(b'\n')?;
-    Ok(())
-}
-
-/// Runs the steps of an example on a stage that has its files.
-fn play<R: Threads + Sync>(
-    rt: &R,
-    alloc: Global,
-    data: &mut DirFolder,
-    name: &[u8],
-    stage: &mut Stage,
-    report: &mut Vec<u8>,
-) -> Result<(), Trouble> {
-    let script = file_of(alloc, data, name, b"script")?;
-    for step in &steps_of(alloc, script.as_slice())? {
-        perform(rt, alloc, data, name, step, stage, report)?;
-    }
-    Ok(())
-}
-
-/// Runs one example, and adds what is to be printed.
-fn example<R: Threads + Sync>(
-    rt: &R,
-    alloc: Global,
-    data: &mut DirFolder,
-    paths: &[Str],
-    name: &[u8],
-    report: &mut Vec<u8>,
-) -> Result<(), Trouble> {
-    put_head(report, name)?;
-    let mut stage = Stage::new(alloc);
-    furnish(alloc, data, paths, name, &mut stage)?;
-    play(rt, alloc, data, name, &mut stage, report)
+    Ok(stage)
 }
 
 fn examples<R: Threads + Sync>(
@@ -177,11 +140,16 @@ fn examples<R: Threads + Sync>(
     data: &mut DirFolder,
     report: &mut Vec<u8>,
 ) -> Result<(), Trouble> {
-    let rows = text(alloc, b"rows")?;
+    let rows = u8::copy_items(alloc, b"rows")?;
     let paths = data.list(alloc, &rows)?;
     for path in paths.as_slice() {
         if let Some(name) = path.as_slice().strip_suffix(b"/script") {
-            example(rt, alloc, data, paths.as_slice(), name, report)?;
+            put(report, b"== ")?;
+            put(report, name)?;
+            put(report, b"\n")?;
+            let mut stage = furnished(alloc, data, paths.as_slice(), name)?;
+            let script = read(alloc, data, path.as_slice())?;
+            play(rt, &mut stage, &script, report)?;
         }
     }
     Ok(())

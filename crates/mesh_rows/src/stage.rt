@@ -1,145 +1,141 @@
 // What the commands of an example run on: everything is in memory.
-use crate::command::{Outcome, Streams};
-use crate::report::{put_command, put_texts, put_world};
-use crate::script::Step;
+use crate::report::Outcome;
 use crate::trouble::Trouble;
-use mesh_house::{Fail, MemHouse, Warehouse};
-use mesh_io::{File, MemFolder, Numbers};
+use mesh_house::{Fail, Fails, MemHouse, Warehouse, World};
+use mesh_io::{File, Folder, MemClock, MemFolder, MemSink, MemSource, Numbers};
 use mesh_list::{Duplicate, Seq};
-use mesh_values::{Str, Strs};
+use mesh_values::{LAST_MOMENT, Str};
 use std::alloc::Global;
 use std::thread::Threads;
 
-/// The project's folder, the warehouse and the puts on `err` that are to fail.
+/// The bytes of the largest file of an example.
+const MOST_BYTES: u64 = 1 << 23;
+
+/// A call that is to fail: a change of the warehouse before or after its effect, another call of the warehouse, or one of
+/// another object.
+#[derive(Clone, Copy, PartialEq, Eq)]
+pub enum Call {
+    Before,
+    After,
+    House,
+    Folder,
+    Clock,
+    Input,
+    Out,
+    Err,
+}
+
+/// The files of the example, those of the project, the warehouse, the moment of the clock, the input, and the call that is
+/// to fail, with its number in a command.
 #[derive(Drop)]
 pub struct Stage {
-    alloc: Global,
-    folder: MemFolder,
-    house: MemHouse,
-    failing_puts: Numbers,
+    pub alloc: Global,
+    files: MemFolder,
+    pub folder: MemFolder,
+    pub house: MemHouse,
+    pub moment: i64,
+    pub input: Str,
+    pub failing: Option<(Call, u64)>,
 }
 
 impl Stage {
     pub fn new(alloc: Global) -> Stage {
         Stage {
             alloc,
+            files: MemFolder::new(Seq::new(alloc), Seq::new(alloc)),
             folder: MemFolder::new(Seq::new(alloc), Seq::new(alloc)),
             house: MemHouse::new(alloc),
-            failing_puts: Seq::new(alloc),
+            moment: 0,
+            input: Seq::new(alloc),
+            failing: None,
         }
     }
 
-    pub fn alloc(&self) -> Global {
-        self.alloc
+    /// Adds a file of the example; those below `project` are the project's, too.
+    pub fn add(&mut self, path: &[u8], bytes: Str) -> Result<(), Trouble> {
+        if let Some(rest) = path.strip_prefix(b"project/") {
+            self.write(u8::copy_items(self.alloc, rest)?, bytes.copy()?)?;
+        }
+        let path = u8::copy_items(self.alloc, path)?;
+        Ok(self.files.write(File { path, bytes })?)
     }
 
+    /// Gives the project a file.
     pub fn write(&mut self, path: Str, bytes: Str) -> Result<(), Trouble> {
         Ok(self.folder.write(File { path, bytes })?)
     }
 
-    /// Gives so many model files the same bytes.
-    pub fn copies(&mut self, number: u64, bytes: &Str) -> Result<(), Trouble> {
-        for i in 0..number {
-            let path = format!(in self.alloc; "models/{i}.sql")?;
-            let path = u8::copy_items(self.alloc, path.as_bytes())?;
-            self.write(path, bytes.copy()?)?;
-        }
+    /// The bytes of a file of the example.
+    pub fn file(&mut self, path: &Str) -> Result<Str, Trouble> {
+        let found = self.files.read(self.alloc, path, MOST_BYTES)?;
+        found.ok_or(Trouble::Script)
+    }
+
+    /// The warehouse has this world.
+    pub fn restore(&mut self, world: &World) -> Result<(), Trouble> {
+        self.house = MemHouse::with(world.copy()?, Seq::new(self.alloc));
         Ok(())
     }
 
-    /// Runs one step that needs no file of the example, and adds what is to be printed of it.
-    pub fn perform<R: Threads + Sync>(
-        &mut self,
-        rt: &R,
-        step: &Step,
-        report: &mut Vec<u8>,
-    ) -> Result<(), Trouble> {
-        match step {
-            Step::Mesh(words) => self.command(rt, words, report),
-            Step::Write { .. }
-            | Step::Cut { .. }
-            | Step::Pad { .. }
-            | Step::Copies { .. }
-            | Step::Cuts { .. } => Err(Trouble::Script),
-            Step::Delete(path) => {
-                self.folder.delete(path);
-                Ok(())
-            }
-            Step::EmptyHouse => {
-                self.empty_house();
-                Ok(())
-            }
-            Step::FailHouse(fail) => self.fail_house(*fail),
-            Step::FailFolder(number) => self.fail_folder(*number),
-            Step::FailPut(number) => self.fail_put(*number),
-            Step::FailNothing => {
-                self.fail_nothing();
-                Ok(())
+    fn numbers(&self, call: Call) -> Result<Numbers, Trouble> {
+        let mut numbers = Seq::new(self.alloc);
+        if let Some((failing, number)) = self.failing {
+            if failing == call {
+                numbers.push(number)?;
             }
         }
+        Ok(numbers)
     }
 
-    fn empty_house(&mut self) {
-        self.house = MemHouse::new(self.alloc);
-    }
-
-    fn fail_nothing(&mut self) {
-        self.house.set_fails(Seq::new(self.alloc));
-        self.folder.set_fails(Seq::new(self.alloc));
-        self.failing_puts = Seq::new(self.alloc);
-    }
-
-    fn fail_house(&mut self, fail: Fail) -> Result<(), Trouble> {
+    fn house_fails(&self) -> Result<Fails, Trouble> {
         let mut fails = Seq::new(self.alloc);
-        fails.push(fail)?;
+        if let Some((failing, call)) = self.failing {
+            if failing == Call::Before || failing == Call::After || failing == Call::House {
+                fails.push(Fail {
+                    change: failing != Call::House,
+                    call,
+                    after: failing == Call::After,
+                })?;
+            }
+        }
+        Ok(fails)
+    }
+
+    fn clock(&self) -> Result<MemClock, Trouble> {
+        let moment = self.moment;
+        if moment < 0 || LAST_MOMENT < moment {
+            return Err(Trouble::Script);
+        }
+        Ok(MemClock::new(moment, self.numbers(Call::Clock)?))
+    }
+
+    /// Runs one command, whose calls are numbered from 0.
+    pub fn run<R: Threads + Sync>(&mut self, rt: &R, words: &[Str]) -> Result<Outcome, Trouble> {
+        let fails = self.house_fails()?;
         self.house.set_fails(fails);
-        Ok(())
-    }
-
-    fn fail_folder(&mut self, number: u64) -> Result<(), Trouble> {
-        let mut fails = Seq::new(self.alloc);
-        fails.push(number)?;
+        let fails = self.numbers(Call::Folder)?;
         self.folder.set_fails(fails);
-        Ok(())
-    }
-
-    fn fail_put(&mut self, number: u64) -> Result<(), Trouble> {
-        let mut fails = Seq::new(self.alloc);
-        fails.push(number)?;
-        self.failing_puts = fails;
-        Ok(())
-    }
-
-    /// Runs one command.
-    pub fn run<R: Threads + Sync>(&mut self, rt: &R, words: &Strs) -> Result<Outcome, Trouble> {
-        let mut streams = Streams::new(self.alloc, self.failing_puts.copy()?);
+        let mut clock = self.clock()?;
+        let mut input = MemSource::new(self.input.copy()?, self.numbers(Call::Input)?);
+        let mut out = MemSink::new(self.alloc, self.numbers(Call::Out)?);
+        let mut err = MemSink::new(self.alloc, self.numbers(Call::Err)?);
         let before = self.house.calls();
-        let status = streams.run(
+        let status = mesh_cli::mesh(
             rt,
             self.alloc,
-            words.as_slice(),
+            words,
             &mut self.folder,
             &mut self.house,
+            &mut clock,
+            &mut input,
+            &mut out,
+            &mut err,
         );
-        let changes = self.house.calls().saturating_sub(before);
-        streams.outcome(status, changes)
-    }
-
-    /// Runs one command, and reports it.
-    fn command<R: Threads + Sync>(
-        &mut self,
-        rt: &R,
-        words: &Strs,
-        report: &mut Vec<u8>,
-    ) -> Result<(), Trouble> {
-        let outcome = self.run(rt, words)?;
-        self.put(words, &outcome, report)
-    }
-
-    /// Reports a command.
-    fn put(&self, words: &Strs, outcome: &Outcome, report: &mut Vec<u8>) -> Result<(), Trouble> {
-        put_command(self.alloc, report, words, outcome.status, outcome.changes)?;
-        put_texts(report, &outcome.out, &outcome.err)?;
-        put_world(self.alloc, report, self.house.world())
+        Ok(Outcome {
+            status,
+            changes: self.house.calls().saturating_sub(before),
+            out: out.bytes().copy()?,
+            err: err.bytes().copy()?,
+        })
     }
 }

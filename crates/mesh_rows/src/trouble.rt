@@ -1,14 +1,16 @@
 // Why the examples could not be run to their end.
 use mesh_io::IoFail;
+use mesh_layer::ShowFault;
 use mesh_list::Memory;
 use std::alloc::{AllocError, AllocFailed};
 
-/// Memory ran out, the examples' own files couldn't be read, or a script has a step that isn't one.
+/// Memory ran out, the examples' own files couldn't be read, a script has a step that isn't one, or a view dangles.
 #[derive(Clone, Copy, Debug, PartialEq, Eq)]
 pub enum Trouble {
     Memory,
     Outside,
     Script,
+    Dangling,
 }
 
 impl From<Memory> for Trouble {
@@ -34,6 +36,16 @@ impl From<IoFail> for Trouble {
         match fail {
             IoFail::Failed => Trouble::Outside,
             IoFail::Memory => Trouble::Memory,
+        }
+    }
+}
+
+impl From<ShowFault> for Trouble {
+    fn from(fault: ShowFault) -> Trouble {
+        match fault {
+            ShowFault::Dangling { .. } => Trouble::Dangling,
+            ShowFault::Warehouse => Trouble::Outside,
+            ShowFault::Memory => Trouble::Memory,
         }
     }
 }

@@ -1,0 +1,1 @@
+MODEL (name a.c, kind FULL); SELECT a FROM a.p

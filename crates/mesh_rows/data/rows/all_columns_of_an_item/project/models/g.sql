@@ -1,0 +1,1 @@
+MODEL (name a.g, kind FULL); SELECT f.* FROM a.f AS f

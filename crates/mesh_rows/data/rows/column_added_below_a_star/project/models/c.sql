@@ -1,0 +1,1 @@
+MODEL (name a.c, kind FULL); SELECT * FROM a.p

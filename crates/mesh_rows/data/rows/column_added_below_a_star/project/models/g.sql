@@ -1,0 +1,1 @@
+MODEL (name a.g, kind FULL); SELECT x FROM a.c

@@ -1,0 +1,1 @@
+MODEL (name a.q, kind FULL); SELECT id, x FROM a.t

@@ -1,1 +1,0 @@
-MODEL (name a.f, kind FULL); SELECT v, v FROM a.s

@@ -1,0 +1,1 @@
+MODEL (name a.f, kind FULL); SELECT k, v FROM a.s

@@ -1,1 +1,0 @@
-MODEL (name a.f

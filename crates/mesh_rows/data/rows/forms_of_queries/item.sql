@@ -1,0 +1,1 @@
+MODEL (name a.f, kind FULL); SELECT t.v FROM a.s

@@ -1,0 +1,1 @@
+MODEL (name a.f, kind FULL); SELECT v FROM a.s UNION ALL SELECT k FROM a.s

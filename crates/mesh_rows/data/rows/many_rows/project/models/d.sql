@@ -1,0 +1,1 @@
+MODEL (name a.d, kind SEED (path '../seeds/d.csv'));

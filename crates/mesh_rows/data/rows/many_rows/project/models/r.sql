@@ -1,0 +1,1 @@
+MODEL (name a.r, kind FULL); SELECT k, k AS v FROM a.l

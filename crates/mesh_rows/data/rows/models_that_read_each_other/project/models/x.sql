@@ -1,0 +1,1 @@
+MODEL (name a.x, kind FULL); SELECT v FROM a.y

@@ -1,0 +1,1 @@
+MODEL (name a.y, kind FULL); SELECT v FROM a.x

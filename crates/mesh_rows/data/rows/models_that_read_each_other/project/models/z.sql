@@ -1,0 +1,1 @@
+MODEL (name a.z, kind FULL); SELECT v FROM a.x

@@ -1,1 +1,0 @@
-MODEL (name a.g, kind FULL); SELECT v FROM a.f

@@ -1,0 +1,1 @@
+MODEL (name shop.late, kind FULL); SELECT qty FROM raw.orders

@@ -1,0 +1,2 @@
+MODEL (name shop.recent, kind VIEW);
+SELECT day, qty FROM shop.daily

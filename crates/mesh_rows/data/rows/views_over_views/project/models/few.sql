@@ -1,0 +1,2 @@
+MODEL (name shop.few);
+SELECT qty AS q FROM shop.some WHERE qty > 5
