@@ -165,6 +165,16 @@ pub fn batch<R: Threads + Sync, W: Warehouse, F: Folder, C: Clock, O: Sink, E: S
 {
     match begun(alloc, script, top) {
         Err(Memory) => printed(alloc, Err(Refusal::Memory), out, err),
-        Ok((dir, texts)) => steps(rt, alloc, &dir, texts.as_slice(), folder, house, clock, out, err),
+        Ok((dir, texts)) => steps(
+            rt,
+            alloc,
+            &dir,
+            texts.as_slice(),
+            folder,
+            house,
+            clock,
+            out,
+            err,
+        ),
     }
 }

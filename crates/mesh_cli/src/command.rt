@@ -84,7 +84,9 @@ fn planned_or_applied<R: Threads + Sync, W: Warehouse, F: Folder, C: Clock>(
     ensures { Commanded dir.now (asked.Plan env.now auto_apply workers moment (option_copied again.entry)) (sides (F.told folder.old) (C.told clock.old) (W.told house.old)) (sides (F.told folder.new) (C.told clock.new) (W.told house.new)) result }
 {
     if auto_apply {
-        applied(rt, alloc, dir, env, workers, moment, again, folder, house, clock)
+        applied(
+            rt, alloc, dir, env, workers, moment, again, folder, house, clock,
+        )
     } else {
         planned(alloc, dir, env, moment, again, folder, house, clock)
     }

@@ -35,15 +35,7 @@ fn asked<R: Threads + Sync, W: Warehouse, F: Folder, C: Clock>(
     }
 }
 
-fn scripted<
-    R: Threads + Sync,
-    W: Warehouse,
-    F: Folder,
-    C: Clock,
-    S: Source,
-    O: Sink,
-    E: Sink,
->(
+fn scripted<R: Threads + Sync, W: Warehouse, F: Folder, C: Clock, S: Source, O: Sink, E: Sink>(
     rt: &R,
     alloc: Global,
     top: &Line,
@@ -59,7 +51,17 @@ fn scripted<
 {
     match script_of(alloc, input) {
         Err(refusal) => printed(alloc, Err(refusal), out, err),
-        Ok(script) => batch(rt, alloc, script.as_slice(), top, folder, house, clock, out, err),
+        Ok(script) => batch(
+            rt,
+            alloc,
+            script.as_slice(),
+            top,
+            folder,
+            house,
+            clock,
+            out,
+            err,
+        ),
     }
 }
 
