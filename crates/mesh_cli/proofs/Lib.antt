@@ -8,3 +8,5 @@ pub mod Lining
 pub mod Scripting
 -- Asking: what is answered where some words or a text ask for a line.
 pub mod Asking
+-- Ending: what the end of a command says of its changes and of what it printed.
+pub mod Ending

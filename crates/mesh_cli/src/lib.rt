@@ -6,6 +6,7 @@
 
 mod batches;
 mod command;
+mod laws;
 mod moment;
 mod place;
 mod printing;
@@ -13,4 +14,8 @@ mod script;
 mod top;
 
 pub use batches::batch;
+pub use laws::{
+    commands_that_are_done_made_their_changes, commands_that_are_refused_change_nothing,
+    commands_without_a_refusal_are_done, plans_applied_at_once_are_applies, workers_change_nothing,
+};
 pub use top::mesh;

@@ -15,7 +15,7 @@ use Rattle.mesh_house.specs.Runs.{IsPrefixRun, IsRun}
 use Rattle.mesh_house.specs.World.{book}
 use Rattle.mesh_layer.specs.Shows.{Tells}
 use Rattle.mesh_printed.specs.declared.refusals.Refusal.{Refusal}
-use Rattle.mesh_printed.specs.declared.refusals.Refusal.TheVariants.{Warehouse, Memory, Input, BookBroken, StateOld}
+use Rattle.mesh_printed.specs.declared.refusals.Refusal.TheVariants.{Warehouse, Memory, Input}
 use Rattle.mesh_commands.specs.Answers.{Answers, IsAlone, IsMade, as_refusal, is_fault}
 use Rattle.mesh_commands.specs.Present.{IsNotPresent, ReadsPresent}
 
@@ -29,11 +29,6 @@ other_memory e = absurd (let clash : Memory ≡ Warehouse = e in cc)
 -- one error is another, so their refusals are the same
 pub same_refusal : {T : Type 0} (r s : Refusal) → IsErrOf {T = T} {E = Refusal} (Err r) s → r ≡ s
 same_refusal r s e = cc
-
--- that the book isn't as it has to be is not the warehouse's failure
-pub present_otherwise : (b : Book) (r : Refusal) → IsNotPresent b r → r ≡ Warehouse → ⊥
-present_otherwise b r (inl broken) e = absurd (let clash : BookBroken broken.fault.part broken.fault.place ≡ Warehouse = sym broken.told ∙ e in cc)
-present_otherwise b r (inr old) e = absurd (let clash : StateOld b.version ≡ Warehouse = sym old.told ∙ e in cc)
 
 -- neither the warehouse nor the outside is told to have failed
 abbrev pub is_beyond : Refusal → Bool
