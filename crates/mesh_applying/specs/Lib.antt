@@ -6,5 +6,9 @@ pub mod Planning
 pub mod Applying
 -- Making: what is left of a house once the changes of a plan were to be made.
 pub mod Making
+-- Made: what a plan has to be for its changes to be made, and what is answered of it.
+pub mod Made
+-- Listing: the models of a plan with their objects, by name.
+pub mod Listing
 -- Migrating: the same of moving a book.
 pub mod Migrating

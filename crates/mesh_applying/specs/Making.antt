@@ -1,17 +1,18 @@
 -- What is left of a house once the changes of a plan were to be made.
-use Rattle.std.specs.Prelude.{◌≡◌, ◌⊎◌, ℕ, ◌≤◌, true, false, List, length, Result, Ok, Err, IfErr, IsErrOf}
+use Rattle.std.specs.Prelude.{◌≡◌, ◌⊎◌, ℕ, ◌+◌, ◌≤◌, true, false, List, length, Result, Ok, Err, IfErr, IsErrOf}
 use Rattle.mesh_list.specs.Counts.{Rose}
 use Rattle.mesh_rules.specs.declared.plans.Plan.{Plan}
 use Rattle.mesh_book.specs.declared.book.Book.{Book}
+use Rattle.mesh_house.specs.declared.house.WhFail.{WhFail}
 use Rattle.mesh_house.specs.declared.world.Change.{Change}
 use Rattle.mesh_house.specs.declared.world.World.{World}
 use Rattle.mesh_house.specs.House.{Told}
-use Rattle.mesh_house.specs.Runs.{IsPrefixRun, IsRun}
+use Rattle.mesh_house.specs.Runs.{IsPrefixRun, IsRun, Makes, Ran}
 use Rattle.mesh_layer.specs.Shows.{Tells}
 use Rattle.mesh_changes.specs.Commands.{Command}
 use Rattle.mesh_printed.specs.declared.refusals.Refusal.{Refusal}
-use Rattle.mesh_printed.specs.declared.refusals.Refusal.TheVariants.{Warehouse}
-use Rattle.mesh_commands.specs.Answers.{IsAlone, is_early, is_fault}
+use Rattle.mesh_printed.specs.declared.refusals.Refusal.TheVariants.{Input, Memory, Warehouse}
+use Rattle.mesh_commands.specs.Answers.{IsAlone, as_refusal, is_early, is_fault}
 use Rattle.mesh_applying.specs.Applying.{AreOf, IsHeld, IsReady}
 
 -- all changes of a command were made, and so many are told; where it is refused, nothing or a prefix of them
@@ -23,6 +24,12 @@ IsWhole p c w old new (Err r) = IsAlone old new ⊎ (IsReady p w × ((list : Lis
 pub record MakesAll (p : Plan) (c : Command) (b : Book) (old new : Told) (result : Result ℕ Refusal) : Type 0 where
   pub faults : old.faults ≤ new.faults
   pub failed : IsErrOf result Warehouse → Rose old.faults new.faults
+  pub inside : IsErrOf result Input → ⊥
   pub early : IfErr result (λ r. is_early r ≡ true → IsAlone old new)
   pub made : (w : World) → Tells old w → w.book ≡ b → IsWhole p c w old new result
   pub given : IfErr result (λ r. is_fault r ≡ false → (w : World) → Tells old w → w.book ≡ b → IsHeld p w r)
+
+-- A list was made behind so many changes, and all are told; where it is refused, the list stopped, or the number doesn't fit.
+abbrev pub Promotes : List Change → ℕ → Told → Told → Result ℕ Refusal → Type 0
+Promotes list done old new (Ok n) = Ran (λ w. list) old new × (n ≡ done + length list)
+Promotes list done old new (Err r) = ((fail : WhFail) × (r ≡ as_refusal fail) × Makes {T = ℕ} (λ w. list) old new (Err fail)) ⊎ ((r ≡ Memory) × Ran (λ w. list) old new)

@@ -3,6 +3,7 @@ use Rattle.std.specs.Prelude.{◌≡◌, ◌⊎◌, ℕ, ℤ, Bool, true, false,
 use Rattle.std.specs.List.{list_any}
 use Rattle.std.specs.declared.option.Option.{Option}
 use Rattle.std.specs.declared.option.Option.TheVariants.{None, Some}
+use Rattle.mesh_values.specs.declared.values.Name.{Name}
 use Rattle.mesh_base.specs.declared.forgets.Restate.{Restate}
 use Rattle.mesh_base.specs.declared.snapshots.Node.{Node}
 use Rattle.mesh_tokens.specs.declared.faults.FaultKind.TheVariants.{UnknownRelation}
@@ -34,6 +35,17 @@ abbrev pub has_named : List Node → Option Restate → Bool
 has_named nodes None = true
 has_named nodes (Some again) = list_any (λ (n : Node). same_name n.own.name again.name) nodes
 
+-- a project has no model of this name, in the words of a fault of no one file
+abbrev pub no_model : Name → Refusal
+no_model name = Model (codes "-") 0 (UnknownRelation (name_text name))
+
+-- the model that is to be computed again is none of the project, which is told
+pub record IsStray (nodes : List Node) (again : Option Restate) (r : Refusal) : Type 0 where
+  pub restate : Restate
+  pub asked : again ≡ Some restate
+  pub unnamed : has_named nodes again ≡ false
+  pub told : r ≡ no_model restate.name
+
 -- the plan of a project for an environment, by a book that is as it has to be
 pub record IsPlanned (b : Book) (nodes : List Node) (env : List ℕ) (t : ℤ) (again : Option Restate) (p : Plan) : Type 0 where
   pub present : is_present b ≡ true
@@ -52,10 +64,7 @@ pub record IsUnnamed (b : Book) (nodes : List Node) (env : List ℕ) (t : ℤ) (
   pub present : is_present b ≡ true
   pub plan : Plan
   pub planned : IsPlanOf b nodes env t again plan
-  pub restate : Restate
-  pub asked : again ≡ Some restate
-  pub unnamed : has_named nodes again ≡ false
-  pub told : r ≡ Model (codes "-") 0 (UnknownRelation (name_text restate.name))
+  pub stray : IsStray nodes again r
 
 -- why nothing is planned of a project for an environment
 abbrev pub PlanRefused : Book → List Node → List ℕ → ℤ → Option Restate → Refusal → Type 0

@@ -5,17 +5,18 @@
 //! maps of fingerprints, and `mesh_commands`.
 #![tactic(auto)]
 
-mod apply;
+mod applying;
 mod faults;
 mod listing;
 mod loaded;
-mod migrate;
+mod migrating;
 mod planned;
 mod promote;
-mod run;
+mod running;
+mod views;
 
-pub use apply::apply;
+pub use applying::apply;
 pub use loaded::of_load;
-pub use migrate::migrate;
+pub use migrating::migrate;
 pub use planned::plan;
-pub use run::run;
+pub use running::run;

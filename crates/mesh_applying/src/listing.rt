@@ -1,12 +1,15 @@
 // The models of a plan and their objects, by name.
-ghost use Rattle.std.specs.Prelude.{◌≡◌, IfOk};
+ghost use Rattle.std.specs.Prelude.{◌≡◌, ◌++◌, ◌∷◌, [], IfOk, OnOk, map};
+ghost use Rattle.mesh_list.specs.Keyed.{placed};
 ghost use Rattle.mesh_changes.specs.Changes.{objects_by_name, refs_by_name};
+ghost use Rattle.mesh_values.specs.NameOrder.{names_exact, names_total};
 ghost use Rattle.mesh_values.specs.Names.{name_cmp};
 ghost use Rattle.mesh_promote.specs.Promotion.{paired};
 ghost use Rattle.mesh_exec.specs.Planned.{planned_models};
+ghost use Rattle.mesh_applying.specs.Listing.{object_of, ref_of, target, target_name, targets};
 
 use mesh_base::{Entry, Node, Ref, Refs};
-use mesh_list::{Keyed, Memory, Seq, Sorted, both};
+use mesh_list::{Duplicate, Keyed, Memory, Seq, Sorted, both};
 use mesh_rules::Plan;
 use mesh_values::{Name, Names};
 use std::alloc::Global;
@@ -34,16 +37,22 @@ impl Keyed for Target {
     fn against(&self, other: &Target) -> Ordering {
         self.name.compare(&other.name)
     }
+
+    ghost total = { names_total };
+
+    ghost exact = { names_exact };
 }
 
 /// The list of an environment, and the object of each model in it.
 #[derive(Drop)]
-pub struct Listing {
+pub struct Lists {
     pub list: Refs,
     pub objects: Names,
 }
 
-fn target(node: &Node, entry: &Entry) -> Result<Target, Memory> {
+fn as_target(node: &Node, entry: &Entry) -> Result<Target, Memory>
+    ensures { IfOk result (λ made. made ≡ target node.now entry.now) }
+{
     let (name, object) = both(&node.own.name, &entry.object)?;
     Ok(Target {
         name,
@@ -52,33 +61,70 @@ fn target(node: &Node, entry: &Entry) -> Result<Target, Memory> {
     })
 }
 
-fn targets(alloc: Global, nodes: &[Node], entries: &[Entry]) -> Result<Sorted<Target>, Memory> {
+fn place_target(targets: &mut Sorted<Target>, node: &Node, entry: &Entry) -> Result<(), Memory>
+    ensures { OnOk result (targets.new ≡ placed name_cmp target_name (target node.now entry.now) targets.old) }
+{
+    let made = as_target(node, entry)?;
+    targets.place(made)
+}
+
+/// The models by name, each beside its entry; from the last to the first, as their list is defined.
+fn targets(alloc: Global, nodes: &[Node], entries: &[Entry]) -> Result<Sorted<Target>, Memory>
+    ensures { IfOk result (λ made. made ≡ targets nodes.now entries.now) }
+{
     let mut made = Sorted::new(alloc);
-    for (node, entry) in nodes.iter().zip(entries.iter()) {
-        made.place(target(node, entry)?)?;
+    let mut left = nodes.len().min(entries.len());
+    while left > 0 {
+        left -= 1;
+        place_target(&mut made, &nodes[left], &entries[left])?;
     }
     Ok(made)
 }
 
-fn listed(alloc: Global, targets: &[Target]) -> Result<Listing, Memory> {
-    let mut list = Seq::new(alloc);
-    let mut objects = Seq::new(alloc);
+fn push_ref(list: &mut Refs, target: &Target) -> Result<(), Memory>
+    ensures { OnOk result (list.new ≡ list.old ++ ref_of target.now ∷ []) }
+{
+    let name = target.name.copy()?;
+    list.push(Ref {
+        name,
+        fingerprint: target.fingerprint,
+    })
+}
+
+fn refs_of(alloc: Global, targets: &[Target]) -> Result<Refs, Memory>
+    ensures { IfOk result (λ made. made ≡ map ref_of targets.now) }
+{
+    let mut made = Seq::new(alloc);
     for target in targets {
-        let (name, object) = both(&target.name, &target.object)?;
-        list.push(Ref {
-            name,
-            fingerprint: target.fingerprint,
-        })?;
-        objects.push(object)?;
+        push_ref(&mut made, target)?;
     }
-    Ok(Listing { list, objects })
+    Ok(made)
+}
+
+fn objects_of(alloc: Global, targets: &[Target]) -> Result<Names, Memory>
+    ensures { IfOk result (λ made. made ≡ map object_of targets.now) }
+{
+    let mut made = Seq::new(alloc);
+    for target in targets {
+        made.push(target.object.copy()?)?;
+    }
+    Ok(made)
+}
+
+fn listed(alloc: Global, targets: &[Target]) -> Result<Lists, Memory>
+    ensures { IfOk result (λ made. made ≡ record { list = map ref_of targets.now; objects = map object_of targets.now }) }
+{
+    let list = refs_of(alloc, targets)?;
+    let objects = objects_of(alloc, targets)?;
+    Ok(Lists { list, objects })
 }
 
 /// The models of a plan by name, each with its object.
-pub(crate) fn listing(alloc: Global, p: &Plan) -> Result<Listing, Memory>
+pub(crate) fn listing(alloc: Global, p: &Plan) -> Result<Lists, Memory>
     ensures list { IfOk result (λ made. made.list ≡ refs_by_name (planned_models p.now)) }
     ensures objects { IfOk result (λ made. paired made.list made.objects ≡ objects_by_name (planned_models p.now)) }
 {
     let targets = targets(alloc, p.project.as_slice(), p.entries.as_slice())?;
-    listed(alloc, targets.as_slice())
+    let made = listed(alloc, targets.as_slice())?;
+    Ok(made)
 }

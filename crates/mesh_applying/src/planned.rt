@@ -1,12 +1,19 @@
 // Plans, by a book that is as it has to be, and `plan`.
-ghost use Rattle.std.specs.Prelude.{◌≡◌, true, false, IfOk, IfErr};
+ghost use Rattle.std.specs.Prelude.{◌≡◌, ◌⊎◌, true, IfOk, IfErr};
+ghost use Rattle.std.specs.List.{list_any};
 ghost use Rattle.std.specs.Option.{option_copied};
+ghost use Rattle.mesh_base.specs.declared.snapshots.Node.{Node};
+ghost use Rattle.mesh_rules.specs.declared.plans.Plan.{Plan};
+ghost use Rattle.mesh_list.specs.Counts.{Rose};
 ghost use Rattle.mesh_days.specs.Moments.{IsMoment};
+ghost use Rattle.mesh_due.specs.Parts.{same_name};
 ghost use Rattle.mesh_changes.specs.Commands.{is_present};
-ghost use Rattle.mesh_commands.specs.Answers.{Answers, is_fault, no_changes};
+ghost use Rattle.mesh_plan_text.specs.PlanText.{plan_text};
+ghost use Rattle.mesh_printed.specs.declared.refusals.Refusal.TheVariants.{Memory as NoMemory};
+ghost use Rattle.mesh_commands.specs.Answers.{Answers, IsAsked, no_changes};
 ghost use Rattle.mesh_applying.specs.Applying.{PlanGives};
 ghost use Rattle.mesh_applying.specs.Loaded.{OfProject};
-ghost use Rattle.mesh_applying.specs.Planning.{IsPlanned, PlanRefused, has_named};
+ghost use Rattle.mesh_applying.specs.Planning.{IsPlanned, IsStray, PlanRefused, has_named, no_model};
 
 use crate::faults::{name_text, of_plan};
 use crate::loaded::of_load;
@@ -24,7 +31,9 @@ use mesh_tokens::FaultKind;
 use mesh_values::{Name, Str};
 use std::alloc::Global;
 
-fn is_named(nodes: &[Node], name: &Name) -> bool {
+fn is_named(nodes: &[Node], name: &Name) -> bool
+    ensures { result ≡ list_any (λ (n : Node). same_name n.own.name name.now) nodes.now }
+{
     for node in nodes {
         if node.own.name.compare(name).is_eq() {
             return true;
@@ -33,17 +42,9 @@ fn is_named(nodes: &[Node], name: &Name) -> bool {
     false
 }
 
-/// Whether the model that is to be computed again is one of the project, where one is named.
-fn has_named(nodes: &[Node], again: Option<&Restate>) -> bool
-    ensures { result ≡ has_named nodes.now (option_copied again.entry) }
+fn no_model(alloc: Global, name: &Name) -> Result<Refusal, Memory>
+    ensures { IfOk result (λ r. r ≡ no_model name.now) }
 {
-    match again {
-        None => true,
-        Some(again) => is_named(nodes, &again.name),
-    }
-}
-
-fn no_model(alloc: Global, name: &Name) -> Result<Refusal, Memory> {
     let file = Vec::from_slice(alloc, b"-")?;
     let name = name_text(alloc, name)?;
     Ok(Refusal::Model {
@@ -53,19 +54,25 @@ fn no_model(alloc: Global, name: &Name) -> Result<Refusal, Memory> {
     })
 }
 
-fn unnamed(alloc: Global, again: &Restate) -> Refusal {
+fn unnamed(alloc: Global, again: &Restate) -> Refusal
+    ensures { (result ≡ NoMemory) ⊎ (result ≡ no_model again.now.name) }
+{
     match no_model(alloc, &again.name) {
         Ok(refusal) => refusal,
         Err(_) => Refusal::Memory,
     }
 }
 
-fn named(alloc: Global, nodes: &[Node], again: Option<&Restate>, p: Plan) -> Result<Plan, Refusal> {
+/// Whether the model that is to be computed again is one of the project, where one is named.
+fn named(alloc: Global, nodes: &[Node], again: Option<&Restate>) -> Result<(), Refusal>
+    ensures ok { IfOk result (λ _. has_named nodes.now (option_copied again.entry) ≡ true) }
+    ensures err { IfErr result (λ r. (r ≡ NoMemory) ⊎ IsStray nodes.now (option_copied again.entry) r) }
+{
     match again {
-        None => Ok(p),
+        None => Ok(()),
         Some(again) => {
             if is_named(nodes, &again.name) {
-                Ok(p)
+                Ok(())
             } else {
                 Err(unnamed(alloc, again))
             }
@@ -85,11 +92,14 @@ pub(crate) fn planned(
     requires present { is_present b.now ≡ true }
     requires moment { IsMoment t }
     ensures ok { IfOk result (λ p. IsPlanned b.now project.now.nodes env.now t (option_copied again.entry) p) }
-    ensures err { IfErr result (λ r. is_fault r ≡ false → PlanRefused b.now project.now.nodes env.now t (option_copied again.entry) r) }
+    ensures err { IfErr result (λ r. (r ≡ NoMemory) ⊎ PlanRefused b.now project.now.nodes env.now t (option_copied again.entry) r) }
 {
     match mesh_plan::plan(alloc, project, b, env, t, again) {
         Err(fault) => Err(of_plan(alloc, env, fault)),
-        Ok(p) => named(alloc, project.as_slice(), again, p),
+        Ok(p) => match named(alloc, project.as_slice(), again) {
+            Err(refusal) => Err(refusal),
+            Ok(()) => Ok(p),
+        },
     }
 }
 
@@ -100,7 +110,12 @@ fn text_by(
     env: &Str,
     t: i64,
     again: Option<&Restate>,
-) -> Result<Str, Refusal> {
+) -> Result<Str, Refusal>
+    requires present { is_present b.now ≡ true }
+    requires moment { IsMoment t }
+    ensures ok { IfOk result (λ text. (p : Plan) × IsPlanned b.now project.now.nodes env.now t (option_copied again.entry) p × (text ≡ plan_text p)) }
+    ensures err { IfErr result (λ r. (r ≡ NoMemory) ⊎ PlanRefused b.now project.now.nodes env.now t (option_copied again.entry) r) }
+{
     match planned(alloc, b, project, env, t, again) {
         Err(refusal) => Err(refusal),
         Ok(p) => match plan_text(&p) {
@@ -119,7 +134,7 @@ fn plan_project<W: Warehouse>(
     again: Option<&Restate>,
 ) -> Result<Str, Refusal>
     requires moment { IsMoment t }
-    ensures { Answers no_changes (PlanGives project.now.nodes env.now t (option_copied again.entry)) (W.told house.old) (W.told house.new) result }
+    ensures { Answers ⊥ no_changes (PlanGives project.now.nodes env.now t (option_copied again.entry)) (W.told house.old) (W.told house.new) result }
 {
     match present_book(alloc, house) {
         Err(refusal) => Err(refusal),
@@ -138,7 +153,8 @@ pub fn plan<W: Warehouse, F: Folder>(
     again: Option<&Restate>,
 ) -> Result<Str, Refusal>
     requires moment { IsMoment t }
-    ensures { Answers no_changes (λ w. OfProject (F.told folder.old).files dir.now (λ nodes. PlanGives nodes env.now t (option_copied again.entry) w)) (W.told house.old) (W.told house.new) result }
+    ensures answers { Answers (Rose (F.told folder.old).faults (F.told folder.new).faults) no_changes (λ w. OfProject (F.told folder.old).files dir.now (λ nodes. PlanGives nodes env.now t (option_copied again.entry) w)) (W.told house.old) (W.told house.new) result }
+    ensures folder { IsAsked (F.told folder.old) (F.told folder.new) }
 {
     match load(alloc, folder, dir) {
         Err(fault) => Err(of_load(fault)),

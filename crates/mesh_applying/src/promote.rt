@@ -1,54 +1,22 @@
-// A plan is made whole: its own changes, and then those that give its environment its views.
+// The changes of a plan, or of a run's plan, are made.
+ghost use Rattle.std.specs.Prelude.{◌≡◌, ◌≤◌, true};
+ghost use Rattle.mesh_changes.specs.Commands.{Apply, RunAll, is_present};
+ghost use Rattle.mesh_plan.specs.Plans.{promised};
+ghost use Rattle.mesh_applying.specs.Made.{IsPlanFor, IsRunFor};
+ghost use Rattle.mesh_applying.specs.Making.{MakesAll};
+
 use crate::faults::of_exec;
-use crate::listing::{Listing, listing};
+use crate::listing::listing;
+use crate::views::made;
 use mesh_book::Book;
-use mesh_commands::as_refusal;
 use mesh_exec::execute;
 use mesh_house::Warehouse;
 use mesh_list::Memory;
 use mesh_printed::Refusal;
-use mesh_promote::promote;
 use mesh_rules::Plan;
 use mesh_wave::OpenGate;
 use std::alloc::Global;
 use std::thread::Threads;
-
-/// The sum of two counts; one that doesn't fit is as if memory were wanting, which no list of changes reaches.
-fn sum(a: u64, b: u64) -> Result<u64, Refusal> {
-    match a.checked_add(b) {
-        Some(sum) => Ok(sum),
-        None => Err(Refusal::Memory),
-    }
-}
-
-fn promoted<W: Warehouse>(
-    alloc: Global,
-    house: &mut W,
-    b: &Book,
-    p: &Plan,
-    listing: &Listing,
-    done: u64,
-) -> Result<u64, Refusal> {
-    match promote(alloc, house, b, &p.env, &listing.list, &listing.objects, p.moment) {
-        Err(fail) => Err(as_refusal(fail)),
-        Ok(made) => sum(done, made),
-    }
-}
-
-fn made<R: Threads + Sync, W: Warehouse>(
-    rt: &R,
-    alloc: Global,
-    house: &mut W,
-    b: &Book,
-    p: &Plan,
-    listing: &Listing,
-    workers: u32,
-) -> Result<u64, Refusal> {
-    match execute(rt, alloc, p, workers, &OpenGate, house) {
-        Err(fault) => Err(of_exec(alloc, fault)),
-        Ok(done) => promoted(alloc, house, b, p, listing, done.changes),
-    }
-}
 
 /// All changes of a plan for an environment are made, and their number is answered.
 pub(crate) fn make_plan<R: Threads + Sync, W: Warehouse>(
@@ -58,9 +26,34 @@ pub(crate) fn make_plan<R: Threads + Sync, W: Warehouse>(
     b: &Book,
     p: &Plan,
     workers: u32,
-) -> Result<u64, Refusal> {
+) -> Result<u64, Refusal>
+    requires workers { (1 ≤ workers) × (workers ≤ 64) }
+    requires present { is_present b.now ≡ true }
+    requires plan { IsPlanFor b.now p.now }
+    ensures { MakesAll p.now (Apply (promised p.now)) b.now (W.told house.old) (W.told house.new) result }
+{
     match listing(alloc, p) {
         Err(Memory) => Err(Refusal::Memory),
-        Ok(listing) => made(rt, alloc, house, b, p, &listing, workers),
+        Ok(lists) => made(rt, alloc, house, b, p, &lists, workers),
+    }
+}
+
+/// All changes of a run's plan are made, and their number is answered.
+pub(crate) fn make_run<R: Threads + Sync, W: Warehouse>(
+    rt: &R,
+    alloc: Global,
+    house: &mut W,
+    b: &Book,
+    p: &Plan,
+    workers: u32,
+) -> Result<u64, Refusal>
+    requires workers { (1 ≤ workers) × (workers ≤ 64) }
+    requires present { is_present b.now ≡ true }
+    requires plan { IsRunFor b.now p.now }
+    ensures { MakesAll p.now (RunAll (promised p.now)) b.now (W.told house.old) (W.told house.new) result }
+{
+    match execute(rt, alloc, p, workers, &OpenGate, house) {
+        Err(fault) => Err(of_exec(alloc, fault)),
+        Ok(done) => Ok(done.changes),
     }
 }

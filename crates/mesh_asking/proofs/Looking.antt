@@ -26,6 +26,7 @@ module _ {A T : Type 0} where
         let here : first w ≡ Ok x = h.answered w tells in
         subst (IsAnswered r) (same w here ∙ sym (ap (λ (m : Result A Refusal). m >>= rest w) here)) (k.answered w (tells_later a b w h.untouched tells));
     failed = λ e. rose_later a b c h.untouched (k.failed e);
+    inside = k.inside;
   }
 
   -- a step is refused
@@ -38,6 +39,7 @@ module _ {A T : Type 0} where
         let refused : first w ≡ Err e = h.answered w tells (sym (ap is_fault is) ∙ not_fault) in
         ap (λ (m : Result A Refusal). m >>= rest w) refused ∙ ap Err (sym is);
     failed = λ f. let told : y ≡ refusal.Warehouse = cc in h.failed (ap Err (sym is ∙ told));
+    inside = λ f. let told : y ≡ refusal.Input = cc in h.inside (ap Err (sym is ∙ told));
   }
 
   -- the same after a step that asks no house
@@ -47,6 +49,7 @@ module _ {A T : Type 0} where
     untouched = k.untouched;
     answered = λ w tells. subst (IsAnswered r) (sym (ap (λ (n : Result A Refusal). n >>= rest w) is)) (k.answered w tells);
     failed = k.failed;
+    inside = k.inside;
   }
 
   pub given_stops : (m : Result A Refusal) (rest : World → A → Result T Refusal) (a : Told) (e : Refusal) (r : Result T Refusal)
@@ -63,6 +66,12 @@ module _ {A T : Type 0} where
         ⊎_elim
         (λ memory. absurd (let no : refusal.Memory ≡ refusal.Warehouse = sym memory ∙ same in cc))
         (λ other. absurd (let no : is_fault refusal.Warehouse ≡ false = sym (ap is_fault same) ∙ other.0 in cc)) h;
+    inside = λ f.
+        let told : y ≡ refusal.Input = cc in
+        let same : e ≡ refusal.Input = sym is ∙ told in
+        ⊎_elim
+        (λ memory. absurd (let no : refusal.Memory ≡ refusal.Input = sym memory ∙ same in cc))
+        (λ other. absurd (let no : is_fault refusal.Input ≡ false = sym (ap is_fault same) ∙ other.0 in cc)) h;
   }
 
   -- the same for what is given

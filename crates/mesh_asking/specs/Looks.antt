@@ -19,12 +19,13 @@ use Rattle.mesh_layer.specs.declared.faults.ShowFault.{ShowFault}
 use Rattle.mesh_layer.specs.declared.faults.ShowFault.TheVariants as fault
 use Rattle.mesh_printed.specs.Records.{rows_text}
 use Rattle.mesh_printed.specs.declared.refusals.Refusal.{Refusal}
-use Rattle.mesh_printed.specs.declared.refusals.Refusal.TheVariants.{Warehouse, Memory, EnvUnknown, EnvPending, BookBroken, ObjectMissing, StateOld}
+use Rattle.mesh_printed.specs.declared.refusals.Refusal.TheVariants.{Warehouse, Memory, Input, EnvUnknown, EnvPending, BookBroken, ObjectMissing, StateOld}
 
 -- the warehouse failed or memory ran out: no world says when
 abbrev pub is_fault : Refusal → Bool
 is_fault Warehouse = true
 is_fault Memory = true
+is_fault Input = true
 is_fault other = false
 
 -- one step of a command, and then the next
@@ -49,6 +50,7 @@ pub record Looks {T : Type 0} (answer : World → Result T Refusal) (old new : T
   pub untouched : IsUntouched old new
   pub answered : (w : World) → Tells old w → IsAnswered result (answer w)
   pub failed : IsErrOf result Warehouse → Rose old.faults new.faults
+  pub inside : IsErrOf result Input → ⊥
 
 -- the list of an environment that is there and isn't pending
 abbrev pub final_list : List ℕ → Option Env → Result (List Ref) Refusal

@@ -5,10 +5,8 @@ use Rattle.mesh_base.specs.declared.forgets.Restate.{Restate}
 use Rattle.mesh_surface.specs.declared.queries.Surface.{Surface}
 use Rattle.mesh_tokens.specs.declared.faults.ReadFault.{ReadFault}
 use Rattle.mesh_text.specs.Reads.{IsQueryRead}
-use Rattle.mesh_scratch.specs.Horizons.{Clock}
 use Rattle.mesh_house.specs.declared.world.Change.{Change}
 use Rattle.mesh_house.specs.declared.world.World.{World}
-use Rattle.mesh_changes.specs.Commands.{Janitor as SweepAll, Invalidate as ExpireOne, changes}
 use Rattle.mesh_printed.specs.declared.refusals.Refusal.{Refusal}
 use Rattle.mesh_printed.specs.declared.refusals.Refusal.TheVariants.{Usage}
 use Rattle.mesh_line.specs.declared.line.Command.{Command}
@@ -19,7 +17,7 @@ use Rattle.mesh_applying.specs.Migrating.{MigrateGives, MigrateMakes}
 use Rattle.mesh_asking.specs.Fetched.{fetched, word_tokens}
 use Rattle.mesh_asking.specs.Evaluated.{days, evaluated}
 use Rattle.mesh_upkeep.specs.Ingesting.{IngestGives, IngestMakes}
-use Rattle.mesh_upkeep.specs.Upkeep.{InvalidateGives, JanitorGives}
+use Rattle.mesh_upkeep.specs.Upkeep.{InvalidateGives, InvalidateMakes, JanitorGives, JanitorMakes}
 use Rattle.mesh_cli.specs.Sides.{AtMoment, Sides, is_open}
 
 -- an apply of the project in a folder
@@ -46,8 +44,8 @@ Makes dir s (Run env workers moment) w list = AtMoment moment s.clock.moment (λ
 Makes dir s (Evaluate model env first last) w list = list ≡ []
 Makes dir s (Fetchdf query env) w list = list ≡ []
 Makes dir s (Ingest name file append) w list = IngestMakes s.folder.files dir name file append w list
-Makes dir s (Janitor moment) w list = AtMoment moment s.clock.moment (λ t. (clock : Clock) → list ≡ changes clock (SweepAll t) w)
-Makes dir s (Invalidate env) w list = (clock : Clock) → list ≡ changes clock (ExpireOne env) w
+Makes dir s (Janitor moment) w list = AtMoment moment s.clock.moment (λ t. JanitorMakes t w list)
+Makes dir s (Invalidate env) w list = InvalidateMakes env w list
 Makes dir s Migrate w list = MigrateMakes w list
 Makes dir s Batch w list = list ≡ []
 

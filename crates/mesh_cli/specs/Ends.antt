@@ -1,12 +1,11 @@
 -- How a command ends: what it answered, what was printed, and its status.
-use Rattle.std.specs.Prelude.{◌≡◌, ◌⊎◌, ℕ, ◌≤◌, false, List, ◌++◌, take, Result, Ok, Err, IsErrOf}
+use Rattle.std.specs.Prelude.{◌≡◌, ◌⊎◌, ℕ, ◌≤◌, false, List, ◌++◌, take, Result, Ok, Err}
 use Rattle.std.specs.Option.{option_map}
 use Rattle.mesh_list.specs.Counts.{Rose}
 use Rattle.mesh_io.specs.Told.{SinkTold}
 use Rattle.mesh_commands.specs.Answers.{Answers}
 use Rattle.mesh_printed.specs.Refusals.{refusal_line, status}
 use Rattle.mesh_printed.specs.declared.refusals.Refusal.{Refusal}
-use Rattle.mesh_printed.specs.declared.refusals.Refusal.TheVariants.{Input}
 use Rattle.mesh_line.specs.declared.line.Command.{Command}
 use Rattle.mesh_cli.specs.Asked.{Gives, Makes, asks_clock, reads_folder}
 use Rattle.mesh_cli.specs.Sides.{Sides, Sinks}
@@ -15,12 +14,11 @@ use Rattle.mesh_cli.specs.Sides.{Sides, Sinks}
 -- to in the world that the house tells; the outside is told to have failed only where a count of its faults rose; and what the
 -- command doesn't need is as it was.
 pub record Commanded (dir : List ℕ) (c : Command) (old new : Sides) (answer : Result (List ℕ) Refusal) : Type 0 where
-  pub house : Answers (Makes dir old c) (Gives dir old c) old.house new.house answer
+  pub house : Answers (Rose old.folder.faults new.folder.faults ⊎ Rose old.clock.faults new.clock.faults) (Makes dir old c) (Gives dir old c) old.house new.house answer
   pub files : new.folder.files ≡ old.folder.files
   pub moment : new.clock.moment ≡ old.clock.moment
   pub folder : old.folder.faults ≤ new.folder.faults
   pub clock : old.clock.faults ≤ new.clock.faults
-  pub input : IsErrOf answer Input → Rose old.folder.faults new.folder.faults ⊎ Rose old.clock.faults new.clock.faults
   pub unread : reads_folder c ≡ false → new.folder ≡ old.folder
   pub unasked : asks_clock c ≡ false → new.clock ≡ old.clock
 

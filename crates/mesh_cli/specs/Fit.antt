@@ -1,6 +1,5 @@
 -- What the values of a command line keep.
-use Rattle.std.specs.Prelude.{◌≡◌, ℕ, ℤ, ◌≤◌, Unit, false, IfSome}
-use Rattle.std.specs.declared.option.Option.{Option}
+use Rattle.std.specs.Prelude.{◌≡◌, ℕ, ◌≤◌, false, IfSome}
 use Rattle.mesh_days.specs.Moments.{IsMoment}
 use Rattle.mesh_values.specs.Picked.{same_text}
 use Rattle.mesh_changes.specs.Environments.{prod}

@@ -66,6 +66,32 @@ fn applied<R: Threads + Sync, W: Warehouse, F: Folder, C: Clock>(
     }
 }
 
+fn planned_or_applied<R: Threads + Sync, W: Warehouse, F: Folder, C: Clock>(
+    rt: &R,
+    alloc: Global,
+    dir: &Str,
+    env: &Str,
+    auto_apply: bool,
+    workers: u32,
+    moment: Option<i64>,
+    again: Option<&Restate>,
+    folder: &mut F,
+    house: &mut W,
+    clock: &mut C,
+) -> Result<Str, Refusal>
+    requires crew { IsCrew workers }
+    requires moment { IfSome moment IsMoment }
+    ensures { Commanded dir.now (asked.Plan env.now auto_apply workers moment (option_copied again.entry)) (sides (F.told folder.old) (C.told clock.old) (W.told house.old)) (sides (F.told folder.new) (C.told clock.new) (W.told house.new)) result }
+{
+    if auto_apply {
+        applied(
+            rt, alloc, dir, env, workers, moment, again, folder, house, clock,
+        )
+    } else {
+        planned(alloc, dir, env, moment, again, folder, house, clock)
+    }
+}
+
 fn ran<R: Threads + Sync, W: Warehouse, C: Clock>(
     rt: &R,
     alloc: Global,
@@ -116,19 +142,24 @@ pub(crate) fn answered<R: Threads + Sync, W: Warehouse, F: Folder, C: Clock>(
     match command {
         Command::Plan {
             env,
-            auto_apply: false,
-            moment,
-            again,
-            ..
-        } => planned(alloc, dir, env, *moment, again.as_ref(), folder, house, clock),
-        Command::Plan {
-            env,
-            auto_apply: true,
+            auto_apply,
             workers,
             moment,
             again,
-        }
-        | Command::Apply {
+        } => planned_or_applied(
+            rt,
+            alloc,
+            dir,
+            env,
+            *auto_apply,
+            *workers,
+            *moment,
+            again.as_ref(),
+            folder,
+            house,
+            clock,
+        ),
+        Command::Apply {
             env,
             workers,
             moment,

@@ -4,13 +4,18 @@
 //! `mesh_upkeep` for the commands, and on `mesh_printed` for what is printed.
 #![tactic(auto)]
 
-mod batch;
+mod batches;
 mod command;
-mod mesh;
+mod laws;
 mod moment;
 mod place;
 mod printing;
 mod script;
+mod top;
 
-pub use batch::batch;
-pub use mesh::mesh;
+pub use batches::batch;
+pub use laws::{
+    commands_that_are_done_made_their_changes, commands_that_are_refused_change_nothing,
+    commands_without_a_refusal_are_done, plans_applied_at_once_are_applies, workers_change_nothing,
+};
+pub use top::mesh;

@@ -7,6 +7,7 @@ use Rattle.mesh_house.specs.declared.world.Change.{Change}
 use Rattle.mesh_house.specs.declared.world.World.{World}
 use Rattle.mesh_house.specs.House.{Told}
 use Rattle.mesh_house.specs.Runs.{IsPrefixRun, IsRun}
+use Rattle.mesh_io.specs.Told.{FolderTold}
 use Rattle.mesh_layer.specs.Shows.{Tells}
 use Rattle.mesh_printed.specs.declared.refusals.Refusal.{Refusal}
 use Rattle.mesh_printed.specs.declared.refusals.Refusal.TheVariants.{Warehouse, Memory, Input, ObjectMissing}
@@ -46,13 +47,19 @@ IsGiven gives (Ok x) = gives (Ok x)
 IsGiven gives (Err r) = is_fault r ≡ false → gives (Err r)
 
 -- A command that makes such a list of changes of the world that the house tells, and gives such an answer there. The warehouse
--- is told to have failed only where its count of faults rose.
-pub record Answers {T : Type 0} (makes : World → List Change → Type 0) (gives : World → Result T Refusal → Type 0) (old new : Told) (result : Result T Refusal) : Type 0 where
+-- is told to have failed only where its count of faults rose, and the outside only where this stands.
+pub record Answers {T : Type 0} (outside : Type 0) (makes : World → List Change → Type 0) (gives : World → Result T Refusal → Type 0) (old new : Told) (result : Result T Refusal) : Type 0 where
   pub faults : old.faults ≤ new.faults
   pub failed : IsErrOf result Warehouse → Rose old.faults new.faults
+  pub beyond : IsErrOf result Input → outside
   pub early : IfErr result (λ r. is_early r ≡ true → IsAlone old new)
   pub made : (w : World) → Tells old w → IsMade (makes w) w old new result
   pub given : (w : World) → Tells old w → IsGiven (gives w) result
+
+-- the folder stays as it is, and a count of its faults never falls
+pub record IsAsked (old new : FolderTold) : Type 0 where
+  pub files : new.files ≡ old.files
+  pub faults : old.faults ≤ new.faults
 
 -- a command that changes nothing
 abbrev pub no_changes : World → List Change → Type 0

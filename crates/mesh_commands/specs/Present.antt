@@ -8,7 +8,7 @@ use Rattle.mesh_changes.specs.Commands.{is_present}
 use Rattle.mesh_house.specs.declared.world.World.{World}
 use Rattle.mesh_house.specs.House.{Told}
 use Rattle.mesh_printed.specs.declared.refusals.Refusal.{Refusal}
-use Rattle.mesh_printed.specs.declared.refusals.Refusal.TheVariants.{Warehouse, BookBroken, StateOld}
+use Rattle.mesh_printed.specs.declared.refusals.Refusal.TheVariants.{Warehouse, Input, BookBroken, StateOld}
 use Rattle.mesh_commands.specs.Answers.{IsAlone, is_fault}
 
 -- the book breaks a rule, and this is told
@@ -31,6 +31,7 @@ pub record ReadsPresent (old new : Told) (result : Result Book Refusal) : Type 0
   pub alone : IsAlone old new
   pub faults : old.faults ≤ new.faults
   pub failed : IsErrOf result Warehouse → Rose old.faults new.faults
+  pub inside : IsErrOf result Input → ⊥
   pub present : IfOk result (λ b. is_present b ≡ true)
   pub book : IfOk result (λ b. (w : World) → old.world ≡ Some w → b ≡ w.book)
   pub refused : IfErr result (λ r. is_fault r ≡ false → (w : World) → old.world ≡ Some w → IsNotPresent w.book r)

@@ -23,6 +23,7 @@ use Rattle.mesh_scratch.specs.Closures.{Closure, Model, Alone, closures, parents
 use Rattle.mesh_scratch.specs.Horizons.{Clock}
 use Rattle.mesh_scratch.specs.Scratch.{defn_rows, no_bounds, piece_over}
 use Rattle.mesh_scratch.specs.Sources.{inputs}
+use Rattle.mesh_house.specs.declared.world.Change.{Change}
 use Rattle.mesh_house.specs.declared.world.Change.TheVariants.{MakeView, PutSnapshot, ReplaceRows, WriteRange, RecordRange, RecordMarks, Moment}
 use Rattle.mesh_house.specs.declared.world.World.{World}
 use Rattle.mesh_house.specs.Step.{run}
@@ -35,13 +36,22 @@ use Rattle.mesh_due.specs.Plans.{Planned, is_made, planned_by}
 use Rattle.mesh_changes.specs.Changes.{ascending, executes as book_executes, fill, fills as book_fills, followed, forgetting, is_any as is_any_part, makes, opens, parent_table, planned_ref, puts, run_opens, snapshot_of, tables_for, target_of}
 use Rattle.mesh_changes.specs.Environments.{lifetime}
 use Rattle.mesh_exec.specs.Dues.{behind, is_any, leading}
-use Rattle.mesh_exec.specs.Executed.{executed, executes, filled, fills, part_rows, written}
-use Rattle.mesh_exec.specs.Plain.{model_of, models, opened, parents_at, plain_models, puts_of}
+use Rattle.mesh_exec.specs.Executed.{executed, executes, filled, fills, part_fills, part_rows, written}
+use Rattle.mesh_exec.specs.Plain.{making, model_of, models, opened, parents_at, plain_models, puts_of}
 use Rattle.mesh_exec.specs.Planned.{IsOf, as_planned, opens_of, planned_models}
-use Rattle.mesh_exec.specs.Works.{parts_from}
+use Rattle.mesh_exec.specs.Works.{Part, parts, parts_from}
+
+-- the objects of some models are made and filled, and then come some last changes; nothing more comes where an object dangles
+abbrev pub ends : List Planned → List Change → List Part → World → List Change
+ends all last [] w = last
+ends all last (p ∷ ps) w = making all p ++ followed (run w (making all p)) (part_fills (run w (making all p)) all p) (ends all last ps)
+
+nothing_last : (all : List Planned) (ps : List Part) (w : World) → executes all ps w ≡ ends all [] ps w
+nothing_last all [] w = refl
+nothing_last all (p ∷ ps) w = λ i. making all p ++ followed (run w (making all p)) (part_fills (run w (making all p)) all p) (λ v. nothing_last all ps v i)
 
 -- a model without what it stands on
-abbrev strip : Planned → Planned
+abbrev pub strip : Planned → Planned
 strip q = record { node = q.node; closure = Model q.node.own Alone; object = q.object }
 
 stripped : (ns : List Node) (cs : List Closure) (es : List Entry) → length ns ≤ length cs → map strip (planned_by ns cs es) ≡ plain_models ns es
@@ -53,6 +63,12 @@ stripped (n ∷ ns) (c ∷ cs) (e ∷ es) le = ap (λ l. model_of n e ∷ l) (st
 closed_many : (done : List Closure) (ns : List Node) → length (fold with_model done ns) ≡ length done + length ns
 closed_many done [] = omega arith
 closed_many done (n ∷ ns) = omega (arith, closed_many (with_model done n) ns, length-append done (Model n.own (closures_at done n.parents) ∷ []))
+
+as_many_closures : (ns : List Node) → length ns ≤ length (closures ns)
+as_many_closures ns = omega (arith, closed_many [] ns)
+
+pub models_same : (p : Plan) → map strip (planned_models p) ≡ models p
+models_same p = stripped p.project.nodes (closures p.project.nodes) p.entries (as_many_closures p.project.nodes)
 
 -- what is said of a model's parents without their closures
 module _ {B : Type 0} (g : Planned → B) (same : (q : Planned) → g (strip q) ≡ g q) where
@@ -180,12 +196,12 @@ module _ (clock : Clock) (b : Book) (forgets : List Forget) where
   later_parts place k (p ∷ ps) lt = later_at place k p (due clock b forgets p) (dues_from (k + 1) clock b forgets ps) lt (later_parts place (k + 1) ps (omega arith))
 
   -- model by model
-  all_same : (all : List Planned) (place : ℕ) (ns : List Node) (cs : List Closure) (es : List Entry) → length ns ≤ length cs → AllByRecursion (λ (e : Entry). e.made ≡ is_made (version_of b e.object)) es → (w : World)
-      → executes (map strip all) (parts_from place ns es (dues_from place clock b forgets (planned_by ns cs es))) w ≡ book_executes clock b forgets all [] (planned_by ns cs es) w
-  all_same all place [] cs es le made w = refl
-  all_same all place (n ∷ ns) [] es le made w = absurd (omega arith)
-  all_same all place (n ∷ ns) (c ∷ cs) [] le made w = refl
-  all_same all place (n ∷ ns) (c ∷ cs) (e ∷ es) le made w =
+  all_same : (all : List Planned) (last : List Change) (place : ℕ) (ns : List Node) (cs : List Closure) (es : List Entry) → length ns ≤ length cs → AllByRecursion (λ (e : Entry). e.made ≡ is_made (version_of b e.object)) es → (w : World)
+      → ends (map strip all) last (parts_from place ns es (dues_from place clock b forgets (planned_by ns cs es))) w ≡ book_executes clock b forgets all last (planned_by ns cs es) w
+  all_same all last place [] cs es le made w = refl
+  all_same all last place (n ∷ ns) [] es le made w = absurd (omega arith)
+  all_same all last place (n ∷ ns) (c ∷ cs) [] le made w = refl
+  all_same all last place (n ∷ ns) (c ∷ cs) (e ∷ es) le made w =
       let q : Planned = record { node = n; closure = c; object = e.object } in
       let xs = due clock b forgets q in
       let rest = dues_from (place + 1) clock b forgets (planned_by ns cs es) in
@@ -195,25 +211,33 @@ module _ (clock : Clock) (b : Book) (forgets : List Forget) where
       let next : behind place (map (due_at clock place q) xs ++ rest) ≡ dues_from (suc place) clock b forgets (planned_by ns cs es) = gone ∙ ap (λ k. dues_from k clock b forgets (planned_by ns cs es)) (add-one place) in
       let make : makes e.made (map strip all) (strip q) n.own.kind (is_any (map (due_at clock place q) xs)) ≡ makes (is_made (version_of b q.object)) all q n.own.kind (is_any_part xs) =
       (λ i. makes (made.0 i) (map strip all) (strip q) n.own.kind (any_same clock q place xs i)) ∙ makes_same all q n.own.kind (is_made (version_of b q.object)) (is_any_part xs) in
-      (λ i. executes (map strip all) (record { node = n; entry = e; dues = lead i } ∷ parts_from (suc place) ns es (next i)) w)
-      ∙ (λ i. make i ++ followed (run w (make i)) (fills (run w (make i)) (map strip all) (strip q) (map (due_at clock place q) xs)) (executes (map strip all) (parts_from (suc place) ns es (dues_from (suc place) clock b forgets (planned_by ns cs es)))))
+      (λ i. ends (map strip all) last (record { node = n; entry = e; dues = lead i } ∷ parts_from (suc place) ns es (next i)) w)
+      ∙ (λ i. make i ++ followed (run w (make i)) (fills (run w (make i)) (map strip all) (strip q) (map (due_at clock place q) xs)) (ends (map strip all) last (parts_from (suc place) ns es (dues_from (suc place) clock b forgets (planned_by ns cs es)))))
       ∙ (let m = makes (is_made (version_of b q.object)) all q n.own.kind (is_any_part xs) in
-      λ i. m ++ followed (run w m) (fills_same clock q place (run w m) all xs (kind_are clock q place b forgets n.own.kind) i) (λ v. all_same all (suc place) ns cs es (omega arith) made.1 v i))
+      λ i. m ++ followed (run w m) (fills_same clock q place (run w m) all xs (kind_are clock q place b forgets n.own.kind) i) (λ v. all_same all last (suc place) ns cs es (omega arith) made.1 v i))
 
-pub as_the_book_asks : (clock : Clock) (b : Book) (p : Plan) → IsOf clock b p → (w : World) → executed p w ≡ opens_of p ++ book_executes clock b p.forgets (planned_models p) [] (planned_models p) (run w (opens_of p))
-as_the_book_asks clock b p is w =
-    let ns = p.project.nodes in
-    let cs = closures ns in
-    let le : length ns ≤ length cs = omega (arith, closed_many [] ns) in
+-- what comes first is what the book's plan has first
+pub opens_same : (p : Plan) → opened p ≡ opens_of p
+opens_same p =
     let all = planned_models p in
-    let same : map strip all ≡ models p = stripped ns cs p.entries le in
-    let first : opened p ≡ opens_of p =
+    let same = models_same p in
     (λ i. Moment p.moment ∷ (cond p.run [] (puts_of p.moment (sym same i) (sym same i)) ++ forgetting p.forgets))
     ∙ (λ i. Moment p.moment ∷ (cond p.run [] (puts_same p.moment all all i) ++ forgetting p.forgets))
-    ∙ either p.run in
-    (λ i. first i ++ executes (sym same i) (parts_from 0 ns p.entries (is.due i)) (run w (first i)))
-    ∙ ap (λ l. opens_of p ++ l) (all_same clock b p.forgets all 0 ns cs p.entries le is.made (run w (opens_of p)))
+    ∙ either p.run
   where
     either : (r : Bool) → Moment p.moment ∷ (cond r [] (puts p.moment (planned_models p)) ++ forgetting p.forgets) ≡ cond r (run_opens (as_planned p)) (opens (as_planned p))
     either true = refl
     either false = refl
+
+-- with some last changes, which come where nothing dangles
+pub ends_as_the_book : (clock : Clock) (b : Book) (p : Plan) → IsOf clock b p → (last : List Change) (w : World)
+    → ends (models p) last (parts p) w ≡ book_executes clock b p.forgets (planned_models p) last (planned_models p) w
+ends_as_the_book clock b p is last w =
+    let ns = p.project.nodes in
+    (λ i. ends (sym (models_same p) i) last (parts_from 0 ns p.entries (is.due i)) w)
+    ∙ all_same clock b p.forgets (planned_models p) last 0 ns (closures ns) p.entries (as_many_closures ns) is.made w
+
+pub as_the_book_asks : (clock : Clock) (b : Book) (p : Plan) → IsOf clock b p → (w : World) → executed p w ≡ opens_of p ++ book_executes clock b p.forgets (planned_models p) [] (planned_models p) (run w (opens_of p))
+as_the_book_asks clock b p is w =
+    (λ i. opens_same p i ++ nothing_last (models p) (parts p) (run w (opens_same p i)) i)
+    ∙ ap (λ l. opens_of p ++ l) (ends_as_the_book clock b p is [] (run w (opens_of p)))

@@ -1,5 +1,5 @@
 -- A plan is looked at and made.
-use Rattle.std.proofs.Common.{◌≡◌, ◌+◌, ℕ, ℤ, Bool, true, false, cond, List, [], ◌∷◌, ◌++◌, length, Some, None, Ok, Err, Result, IsTrue, refl, sym, ap, ◌∙◌, subst, arith, length-append}
+use Rattle.std.proofs.Common.{◌≡◌, ◌+◌, ℕ, ℤ, Bool, true, false, cond, List, [], ◌∷◌, ◌++◌, length, Some, None, Ok, Err, Result, IsTrue, inl, inr, refl, sym, ap, ◌∙◌, subst, arith, length-append}
 use Rattle.std.specs.Result.{IsErrAnd}
 use Rattle.std.specs.declared.option.Option.{Option}
 use Rattle.std.proofs.lemmas.List.{append-nil}
@@ -33,7 +33,7 @@ use Rattle.mesh_exec.specs.Plain.{models, opened, puts_of}
 use Rattle.mesh_exec.specs.Sources.{first_lack}
 use Rattle.mesh_exec.specs.Steps.{Looks, MakesParts, MakesPlan}
 use Rattle.mesh_exec.specs.Works.{Part, parts}
-use Rattle.mesh_exec.proofs.Stepping.{none_made, prefix_more, prefix_then, run_then, whole_prefix}
+use Rattle.mesh_exec.proofs.Stepping.{prefix_more, prefix_then, run_then, whole_prefix}
 
 abbrev unit_err : ExecFault → Result (Unit {0}) ExecFault
 unit_err f = Err f
@@ -228,7 +228,7 @@ module _ (p : Plan) where
   begins_not a (Err f) is = record {
     faults = omega arith;
     ok = tt;
-    err = λ w t. none_made (executed p w) w a.calls a t.world refl;
+    err = λ w t. inl (refl, refl);
     unmade = λ name kind k. absurd (cc);
     lacking = λ name kind k. absurd (cc);
     dangling = λ o k. absurd (cc);
@@ -242,7 +242,7 @@ module _ (p : Plan) where
   looks_stop a b ps e (Err f) same looked is = record {
     faults = looked.untouched.faults;
     ok = tt;
-    err = λ w t. none_made (executed p w) w a.calls b (looked.untouched.world ∙ t.world) looked.untouched.calls;
+    err = λ w t. inl (looked.untouched.world, looked.untouched.calls);
     unmade = λ name kind k. (looked.untouched.world, looked.untouched.calls);
     lacking = λ name kind k w t. ap (first_lack w.sources) (sym same) ∙ looked.lacking name kind (let x : unit_err e ≡ unit_err (fault.Model name kind) = cc in x) w t;
     dangling = λ o k w t. absurd (looked.dangling o (let x : unit_err e ≡ unit_err (fault.Dangling o) = cc in x) w t);
@@ -256,7 +256,7 @@ module _ (p : Plan) where
   plan_stops a b c ps x e (Err f) same looked made is = record {
     faults = omega (arith, looked.untouched.faults, made.faults);
     ok = tt;
-    err = λ w t. subst (λ k. IsPrefixRun (executed p w) w k c) looked.untouched.calls (made.err w (stays_told a b w looked.untouched t));
+    err = λ w t. inr (ap (first_lack w.sources) (sym same) ∙ looked.ok w t, subst (λ k. IsPrefixRun (executed p w) w k c) looked.untouched.calls (made.err w (stays_told a b w looked.untouched t)));
     unmade = λ name kind k. absurd (made.unmade name kind (let z : nat_err e ≡ nat_err (fault.Model name kind) = cc in z));
     lacking = λ name kind k. absurd (made.unmade name kind (let z : nat_err e ≡ nat_err (fault.Model name kind) = cc in z));
     dangling = λ o k w t. (ap (first_lack w.sources) (sym same) ∙ looked.ok w t, made.dangling o (let z : nat_err e ≡ nat_err (fault.Dangling o) = cc in z) w (stays_told a b w looked.untouched t));

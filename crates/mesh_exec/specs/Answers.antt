@@ -1,5 +1,5 @@
 -- What a call that makes a plan leaves of a house, and why it stops.
-use Rattle.std.specs.Prelude.{◌≡◌, ◌≤◌, length, Some, None, Err, Result, OnOk, OnErr, IfOk, IsErrOf}
+use Rattle.std.specs.Prelude.{◌≡◌, ◌⊎◌, ◌≤◌, length, Some, None, Err, Result, OnOk, OnErr, IfOk, IsErrOf}
 use Rattle.std.specs.Option.{ForSome}
 use Rattle.mesh_list.specs.Counts.{risen, Rose}
 use Rattle.mesh_values.specs.declared.values.Name.{Name}
@@ -31,13 +31,21 @@ of_show (show.Dangling object) = fault.Dangling object
 of_show show.Warehouse = fault.Warehouse
 of_show show.Memory = fault.Memory
 
+-- nothing was changed
+abbrev pub IsUnmade : Told → Told → Type 0
+IsUnmade old new = (new.world ≡ old.world) × (new.calls ≡ old.calls)
+
+-- nothing was changed, or no source lacks anything and a prefix of the plan's changes was made
+abbrev pub IsCut : Plan → World → Told → Told → Type 0
+IsCut p w old new = IsUnmade old new ⊎ ((first_lack w.sources (parts p) ≡ None) × IsPrefixRun (executed p w) w old.calls new)
+
 -- A call that is to make a plan. It is refused for a source before anything is changed; it stops at an object that dangles
 -- in the world that it reached; and a fault of the warehouse is told only where its count rose.
 pub record Executes (p : Plan) (old new : Told) (result : Result Done ExecFault) : Type 0 where
   pub faults : old.faults ≤ new.faults
   pub ok : OnOk result ((w : World) → Tells old w → (first_lack w.sources (parts p) ≡ None) × IsRun (executed p w) w old.calls new × (length (executed p w) ≡ length (outline p)))
-  pub err : OnErr result ((w : World) → Tells old w → IsPrefixRun (executed p w) w old.calls new)
-  pub unmade : (name : Name) (kind : FaultKind) → result ≡ Err (fault.Model name kind) → (new.world ≡ old.world) × (new.calls ≡ old.calls)
+  pub err : OnErr result ((w : World) → Tells old w → IsCut p w old new)
+  pub unmade : (name : Name) (kind : FaultKind) → result ≡ Err (fault.Model name kind) → IsUnmade old new
   pub lacking : (name : Name) (kind : FaultKind) → result ≡ Err (fault.Model name kind) → (w : World) → Tells old w → first_lack w.sources (parts p) ≡ Some (record { model = name; kind = kind })
   pub dangling : (object : Name) → result ≡ Err (fault.Dangling object) → (w : World) → Tells old w → (first_lack w.sources (parts p) ≡ None) × ForSome new.world (λ v. IsLost (models p) (parts p) v object)
   pub failed : IsErrOf result fault.Warehouse → Rose old.faults new.faults

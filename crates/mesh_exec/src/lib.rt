@@ -18,3 +18,4 @@ mod works;
 pub use executing::execute;
 pub use faults::ExecFault;
 pub use laws::a_plan_of_a_book_makes_what_is_asked;
+pub use sources::{Breach, kind_of, model_breach};

@@ -127,7 +127,7 @@ fn first_by_name(a: Option<Breach>, b: Option<Breach>) -> Option<Breach>
 }
 
 /// What the sources lack, by the first of them that lacks something.
-fn model_breach<W: Warehouse>(
+pub fn model_breach<W: Warehouse>(
     alloc: Global,
     house: &mut W,
     decls: &[Decl],
@@ -144,7 +144,8 @@ fn model_breach<W: Warehouse>(
     Ok(found)
 }
 
-fn kind_of(b: Breach) -> FaultKind
+/// What a model lacks, as a fault.
+pub fn kind_of(b: Breach) -> FaultKind
     ensures { result ≡ kind_of b }
 {
     if b.is_there {

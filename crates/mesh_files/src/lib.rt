@@ -13,7 +13,7 @@ mod project;
 mod read;
 
 pub use faults::{LoadFault, bad_path, in_file, outside, too_large};
-pub use files::read_sources;
+pub use files::{read_sources, read_within};
 pub use laws::files_say_one_thing;
 pub use project::{ModelFile, ProjectFiles};
 pub use read::read_files;

@@ -13,6 +13,6 @@ mod views;
 mod walk;
 
 pub use faults::ShowFault;
-pub use shown::{LONGEST_CHAIN, ask, object_rows, show};
-pub use sources::source_tables;
+pub use shown::{LONGEST_CHAIN, ask, object_rows, show, view_tables};
+pub use sources::{picked_rows, source_tables};
 pub use views::view_in;

@@ -78,8 +78,8 @@ fn view_table<W: Warehouse>(
     }
 }
 
-/// Some models of an environment as tables.
-fn view_tables<W: Warehouse>(
+/// Some models of an environment as tables, with the rows behind their views.
+pub fn view_tables<W: Warehouse>(
     alloc: Global,
     house: &mut W,
     env: &Str,

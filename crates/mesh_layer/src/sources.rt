@@ -109,7 +109,8 @@ fn rows_of(body: Option<Body>) -> Option<Rows>
     }
 }
 
-fn picked_rows(
+/// The rows with the declared columns alone, in declared order.
+pub fn picked_rows(
     alloc: Global,
     declared: &[Column],
     columns: &[Column],

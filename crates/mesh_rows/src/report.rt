@@ -124,6 +124,8 @@ pub fn put_counts(alloc: Global, report: &mut Vec<u8>, world: &World) -> Result<
     let objects = world.objects.as_slice().len();
     let snapshots = world.book.snapshots.as_slice().len();
     let environments = world.book.environments.as_slice().len();
-    let text = format!(in alloc; "{objects} objects, {snapshots} snapshots, {environments} environments\n")?;
+    let text = format!(in alloc;
+        "{objects} objects, {snapshots} snapshots, {environments} environments\n"
+    )?;
     put(report, text.as_bytes())
 }

@@ -158,7 +158,9 @@ pub fn cuts<R: Threads + Sync>(
     let tally = run_cuts(rt, stage, path, &bytes, words, &mut turns)?;
     stage.write(path.copy()?, bytes)?;
     let (all, refused, same) = (tally.all, tally.refused, tally.same);
-    let head = format!(in stage.alloc; "{all} cuts, {refused} refused in this file, {same} as the whole file\n")?;
+    let head = format!(in stage.alloc;
+        "{all} cuts, {refused} refused in this file, {same} as the whole file\n"
+    )?;
     put(report, head.as_bytes())?;
     put(report, turns.report.as_slice())
 }
@@ -185,7 +187,11 @@ fn stop<R: Threads + Sync>(
     }
     let second = stage.run(rt, words)?;
     let same = views_text(stage)?.as_slice().cmp(&shown.as_slice()).is_eq();
-    let after = if same { "the same shown after" } else { "something else shown after" };
+    let after = if same {
+        "the same shown after"
+    } else {
+        "something else shown after"
+    };
     let status = first.status;
     let head = format!(in stage.alloc; "status {status}, {after} ")?;
     let mut text = Vec::from_slice(stage.alloc, head.as_bytes())?;

@@ -1,4 +1,4 @@
--- Told: what a command answers, over what it read.
-pub mod Told
--- Sweeps: what the janitor's calls leave, as a command tells it.
+-- Loading: what one change leaves where its call stopped.
+pub mod Loading
+-- Sweeps: what the janitor's call leaves, as a command tells it.
 pub mod Sweeps

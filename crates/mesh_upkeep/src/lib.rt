@@ -1,9 +1,12 @@
-//! The commands that keep a warehouse's book in order. Its contract: `janitor` and `invalidate` make exactly the changes
+//! The commands that keep a warehouse in order. Its contract: `janitor`, `invalidate` and `ingest` make exactly the changes
 //! of their command in the world that the warehouse tells, and answer the line that is printed, or a refusal whose cause
-//! stands there. It stands on `mesh_janitor` and `mesh_printed`.
+//! stands there or in the files of the project. It stands on `mesh_janitor`, on `mesh_files` and `mesh_csv` for the file that
+//! is ingested, and on `mesh_commands` and `mesh_printed`.
 #![tactic(auto)]
 
-mod books;
+mod ingesting;
+mod sourced;
 mod upkeep;
 
+pub use ingesting::ingest;
 pub use upkeep::{invalidate, janitor};

@@ -1,17 +1,16 @@
 // The commands, over the book that the warehouse has.
-ghost use Rattle.std.specs.Prelude.{◌≡◌, true, false, IfOk};
+ghost use Rattle.std.specs.Prelude.{◌≡◌, true, false, IfOk, IsErrOf};
 ghost use Rattle.mesh_values.specs.Picked.{same_text};
-ghost use Rattle.mesh_scratch.specs.Horizons.{Clock};
-ghost use Rattle.mesh_changes.specs.Commands.{Invalidate, Janitor, changes, is_present};
+ghost use Rattle.mesh_changes.specs.Commands.{is_present};
 ghost use Rattle.mesh_changes.specs.Environments.{prod};
-ghost use Rattle.mesh_janitor.specs.Sweeping.{numbers};
+ghost use Rattle.mesh_commands.specs.Answers.{Answers};
 ghost use Rattle.mesh_printed.specs.Reports.{invalidated_line, janitor_line};
-ghost use Rattle.mesh_upkeep.specs.Answered.{Answered};
-ghost use Rattle.mesh_upkeep.specs.Upkeep.{InvalidateRefused, JanitorRefused, invalidate_changes, janitor_changes, swept_line};
+ghost use Rattle.mesh_printed.specs.declared.refusals.Refusal.TheVariants.{Input};
+ghost use Rattle.mesh_upkeep.specs.Upkeep.{ExpiryGives, InvalidateGives, InvalidateMakes, JanitorGives, JanitorMakes, NumbersGiven, SweepGives, invalidate_changes, janitor_changes};
 
-use crate::books::{as_refusal, present};
 use mesh_base::Swept;
 use mesh_book::Book;
+use mesh_commands::{as_refusal, present};
 use mesh_house::Warehouse;
 use mesh_janitor::SweepFault;
 use mesh_list::{Duplicate, Memory};
@@ -27,7 +26,7 @@ fn swept<W: Warehouse>(
     t: i64,
 ) -> Result<mesh_janitor::Swept, Refusal>
     requires { is_present b.now ≡ true }
-    ensures { Answered (λ w. janitor_changes t b.now) (λ w. numbers b.now t) (λ w. JanitorRefused t b.now) (W.told house.old) (W.told house.new) result }
+    ensures { Answers ⊥ (λ w list. list ≡ janitor_changes t b.now) (λ w. NumbersGiven t b.now) (W.told house.old) (W.told house.new) result }
 {
     match mesh_janitor::sweep(alloc, house, b, t) {
         Ok(swept) => Ok(swept),
@@ -51,7 +50,7 @@ fn line_of(alloc: Global, t: i64, swept: mesh_janitor::Swept) -> Result<Str, Mem
 }
 
 fn janitor_by<W: Warehouse>(alloc: Global, house: &mut W, b: &Book, t: i64) -> Result<Str, Refusal>
-    ensures { Answered (λ w. janitor_changes t b.now) (λ w. swept_line t b.now) (λ w. JanitorRefused t b.now) (W.told house.old) (W.told house.new) result }
+    ensures { Answers ⊥ (λ w list. list ≡ janitor_changes t b.now) (λ w. SweepGives t b.now) (W.told house.old) (W.told house.new) result }
 {
     match present(b) {
         Err(refusal) => Err(refusal),
@@ -67,7 +66,7 @@ fn janitor_by<W: Warehouse>(alloc: Global, house: &mut W, b: &Book, t: i64) -> R
 
 /// `janitor`: the line that is printed when it is done.
 pub fn janitor<W: Warehouse>(alloc: Global, house: &mut W, t: i64) -> Result<Str, Refusal>
-    ensures { (clock : Clock) → Answered (changes clock (Janitor t)) (λ w. swept_line t w.book) (λ w. JanitorRefused t w.book) (W.told house.old) (W.told house.new) result }
+    ensures { Answers ⊥ (JanitorMakes t) (JanitorGives t) (W.told house.old) (W.told house.new) result }
 {
     match house.book(alloc) {
         Err(fail) => Err(as_refusal(fail)),
@@ -88,7 +87,7 @@ fn expired<W: Warehouse>(
     requires present { is_present b.now ≡ true }
     requires name { name ≡ env.now }
     requires line { line ≡ invalidated_line env.now }
-    ensures { Answered (λ w. invalidate_changes env.now b.now) (λ w. invalidated_line env.now) (λ w. InvalidateRefused env.now b.now) (W.told house.old) (W.told house.new) result }
+    ensures { Answers ⊥ (λ w list. list ≡ invalidate_changes env.now b.now) (λ w. ExpiryGives env.now b.now) (W.told house.old) (W.told house.new) result }
 {
     match mesh_janitor::invalidate(alloc, house, b, env) {
         Ok(()) => Ok(line),
@@ -115,7 +114,7 @@ fn invalidate_by<W: Warehouse>(
     env: &Str,
 ) -> Result<Str, Refusal>
     requires { same_text env.now prod ≡ false }
-    ensures { Answered (λ w. invalidate_changes env.now b.now) (λ w. invalidated_line env.now) (λ w. InvalidateRefused env.now b.now) (W.told house.old) (W.told house.new) result }
+    ensures { Answers ⊥ (λ w list. list ≡ invalidate_changes env.now b.now) (λ w. ExpiryGives env.now b.now) (W.told house.old) (W.told house.new) result }
 {
     match present(b) {
         Err(refusal) => Err(refusal),
@@ -129,7 +128,7 @@ fn invalidate_by<W: Warehouse>(
 /// `invalidate`: the line that is printed when it is done.
 pub fn invalidate<W: Warehouse>(alloc: Global, house: &mut W, env: &Str) -> Result<Str, Refusal>
     requires { same_text env.now prod ≡ false }
-    ensures { (clock : Clock) → Answered (changes clock (Invalidate env.now)) (λ w. invalidated_line env.now) (λ w. InvalidateRefused env.now w.book) (W.told house.old) (W.told house.new) result }
+    ensures { Answers ⊥ (InvalidateMakes env.now) (InvalidateGives env.now) (W.told house.old) (W.told house.new) result }
 {
     match house.book(alloc) {
         Err(fail) => Err(as_refusal(fail)),

@@ -1,2 +1,0 @@
-MODEL (name a.f, kind FULL);
-SELECT v FROM a.s

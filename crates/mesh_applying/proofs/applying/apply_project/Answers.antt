@@ -1,0 +1,15 @@
+use Rattle.std.proofs.Common.{rules, ◌≡◌, FitsSigned, w64, to_z, of_z, ℤ, ℕ, List, subst}
+use Rattle.std.proofs.lemmas.Int.{to_z-of_z}
+use Rattle.std.specs.Option.{option_copied}
+use Rattle.mesh_commands.specs.Answers.{Answers}
+use Rattle.mesh_commands.proofs.Answering.{read_first}
+use Rattle.mesh_applying.specs.Applying.{ApplyGives, ApplyMakes}
+use Rattle.mesh_applying.proofs.applying.apply_project.Goals as goal
+
+pub returns-in-Ok : goal.returns-in-Ok
+returns-in-Ok g c =
+    let fits : FitsSigned w64 c.args.t = search rules in
+    let same : to_z w64 (of_z w64 c.args.t) ≡ c.args.t = simp to_z-of_z in
+    read_first (ApplyMakes c.args.project.now.nodes c.args.env.now c.args.t (option_copied c.args.again)) (ApplyGives c.args.project.now.nodes c.args.env.now c.args.t (option_copied c.args.again)) _ _ _
+    c.in-Ok.ensures.alone c.in-Ok.ensures.faults c.apply_by.result (subst (λ (t : ℤ). Answers {T = List ℕ} ⊥ (ApplyMakes c.args.project.now.nodes c.args.env.now t (option_copied c.args.again))
+    (ApplyGives c.args.project.now.nodes c.args.env.now t (option_copied c.args.again)) (g.W.Warehouse.told c.present_book.new.house) (g.W.Warehouse.told c.apply_by.new.house) c.apply_by.result) same c.apply_by.ensures)

@@ -1,0 +1,17 @@
+use Rattle.std.proofs.Common.{rules, ◌≡◌, FitsSigned, w64, to_z, of_z, subst, IfOk, IfErr, ℤ, ◌⊎◌}
+use Rattle.std.proofs.lemmas.Int.{to_z-of_z}
+use Rattle.std.specs.Option.{option_copied}
+use Rattle.mesh_rules.specs.declared.plans.Plan.{Plan}
+use Rattle.mesh_plan_text.specs.PlanText.{plan_text}
+use Rattle.mesh_printed.specs.declared.refusals.Refusal.TheVariants.{Memory}
+use Rattle.mesh_applying.specs.Planning.{IsPlanned, PlanRefused}
+use Rattle.mesh_applying.proofs.Refusing.{looked}
+use Rattle.mesh_applying.proofs.planned.plan_project.Goals as goal
+
+pub returns-in-Ok : goal.returns-in-Ok
+returns-in-Ok g c =
+    let fits : FitsSigned w64 c.args.t = search rules in
+    let same : to_z w64 (of_z w64 c.args.t) ≡ c.args.t = simp to_z-of_z in
+    looked c.args.project.now.nodes c.args.env.now c.args.t (option_copied c.args.again) _ _ c.in-Ok.b c.in-Ok.ensures c.text_by.result
+    (subst (λ (t : ℤ). IfOk c.text_by.result (λ text. (p : Plan) × IsPlanned c.in-Ok.b c.args.project.now.nodes c.args.env.now t (option_copied c.args.again) p × (text ≡ plan_text p))) same c.text_by.ensures.ok)
+    (subst (λ (t : ℤ). IfErr c.text_by.result (λ e. (e ≡ Memory) ⊎ PlanRefused c.in-Ok.b c.args.project.now.nodes c.args.env.now t (option_copied c.args.again) e)) same c.text_by.ensures.err)

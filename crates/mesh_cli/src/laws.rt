@@ -1,0 +1,55 @@
+// The laws of commands. These functions compute nothing.
+ghost use Rattle.std.specs.Prelude.{◌≡◌, ◌⊎◌, ℕ, ℤ, List, Ok, Err, true, false};
+ghost use Rattle.std.specs.declared.option.Option.{Option};
+ghost use Rattle.mesh_list.specs.Counts.{Rose};
+ghost use Rattle.mesh_base.specs.declared.forgets.Restate.{Restate};
+ghost use Rattle.mesh_house.specs.declared.world.Change.{Change};
+ghost use Rattle.mesh_house.specs.declared.world.World.{World};
+ghost use Rattle.mesh_house.specs.Runs.{IsRun};
+ghost use Rattle.mesh_layer.specs.Shows.{Tells};
+ghost use Rattle.mesh_commands.specs.Answers.{IsAlone, is_early, is_fault};
+ghost use Rattle.mesh_printed.specs.declared.refusals.Refusal.{Refusal};
+ghost use Rattle.mesh_line.specs.declared.line.Command.{Command as Asked};
+ghost use Rattle.mesh_line.specs.declared.line.Command.TheVariants as asked;
+ghost use Rattle.mesh_cli.specs.Asked.{Gives, Makes};
+ghost use Rattle.mesh_cli.specs.Ends.{Ended, IsWritten};
+ghost use Rattle.mesh_cli.specs.Sides.{Sides, Sinks};
+
+/// A command that ends with status 0 made exactly the changes that it has for the world that the house told, one call each, and
+/// wrote the text that it gives there; nothing was written on the other sink.
+#[tactic(auto, using(crate::proofs::Ending::done_made, crate::proofs::Ending::done_told))]
+pub fn commands_that_are_done_made_their_changes()
+    ensures made { (dir : List ℕ) (c : Asked) (old new : Sides) (sinks printed : Sinks) (w : World) → Ended dir c old new sinks printed 0 → Tells old.house w →
+        (list : List Change) × Makes dir old c w list × IsRun list w old.house.calls new.house }
+    ensures told { (dir : List ℕ) (c : Asked) (old new : Sides) (sinks printed : Sinks) (w : World) → Ended dir c old new sinks printed 0 → Tells old.house w →
+        (text : List ℕ) × Gives dir old c w (Ok text) × IsWritten text sinks.out printed.out × (printed.err ≡ sinks.err) }
+{}
+
+/// A command that is refused before its changes leaves the house alone.
+#[tactic(auto, using(crate::proofs::Ending::refused_left_alone))]
+pub fn commands_that_are_refused_change_nothing()
+    ensures { (dir : List ℕ) (c : Asked) (old new : Sides) (sinks printed : Sinks) (s : ℕ) → (ended : Ended dir c old new sinks printed s) → (r : Refusal) → ended.answer ≡ Err r → is_early r ≡ true → IsAlone old.house new.house }
+{}
+
+/// A command for which nothing stands against it in the world that the house told, and during which nothing failed, ends with
+/// status 0, or with 4 for want of memory.
+#[tactic(auto, using(crate::proofs::Ending::nothing_against_it))]
+pub fn commands_without_a_refusal_are_done()
+    ensures { (dir : List ℕ) (c : Asked) (old new : Sides) (sinks printed : Sinks) (w : World) (s : ℕ) → Ended dir c old new sinks printed s → Tells old.house w →
+        ((r : Refusal) → is_fault r ≡ false → ¬ Gives dir old c w (Err r)) → ¬ Rose old.house.faults new.house.faults → ¬ Rose old.folder.faults new.folder.faults → ¬ Rose old.clock.faults new.clock.faults →
+        ¬ Rose sinks.out.faults printed.out.faults → ¬ Rose sinks.err.faults printed.err.faults → (s ≡ 0) ⊎ (s ≡ 4) }
+{}
+
+/// What a command makes and gives is the same for every number of workers.
+pub fn workers_change_nothing()
+    ensures made { (dir env : List ℕ) (s : Sides) (few many : ℕ) (moment : Option ℤ) (again : Option Restate) → Makes dir s (asked.Apply env few moment again) ≡ Makes dir s (asked.Apply env many moment again) }
+    ensures given { (dir env : List ℕ) (s : Sides) (few many : ℕ) (moment : Option ℤ) (again : Option Restate) → Gives dir s (asked.Apply env few moment again) ≡ Gives dir s (asked.Apply env many moment again) }
+    ensures runs_made { (dir env : List ℕ) (s : Sides) (few many : ℕ) (moment : Option ℤ) → Makes dir s (asked.Run env few moment) ≡ Makes dir s (asked.Run env many moment) }
+    ensures runs_given { (dir env : List ℕ) (s : Sides) (few many : ℕ) (moment : Option ℤ) → Gives dir s (asked.Run env few moment) ≡ Gives dir s (asked.Run env many moment) }
+{}
+
+/// A plan that is applied at once is an apply.
+pub fn plans_applied_at_once_are_applies()
+    ensures made { (dir env : List ℕ) (s : Sides) (workers : ℕ) (moment : Option ℤ) (again : Option Restate) → Makes dir s (asked.Plan env true workers moment again) ≡ Makes dir s (asked.Apply env workers moment again) }
+    ensures given { (dir env : List ℕ) (s : Sides) (workers : ℕ) (moment : Option ℤ) (again : Option Restate) → Gives dir s (asked.Plan env true workers moment again) ≡ Gives dir s (asked.Apply env workers moment again) }
+{}

@@ -1,0 +1,2 @@
+-- Answering: what a command answers, over what it read.
+pub mod Answering
