@@ -5,7 +5,7 @@ use mesh_list::Memory;
 use std::alloc::{AllocError, AllocFailed};
 
 /// Memory ran out, the examples' own files couldn't be read, a script has a step that isn't one, or a view dangles.
-#[derive(Clone, Copy, Debug, PartialEq, Eq)]
+#[derive(Clone, Copy, Debug)]
 pub enum Trouble {
     Memory,
     Outside,
