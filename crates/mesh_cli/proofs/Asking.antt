@@ -1,14 +1,13 @@
 -- What is answered where some words or a text ask for a line.
-use Rattle.std.proofs.Common.{◌≡◌, ◌⊎◌, inl, inr, ℕ, Bool, true, false, not, ◌&&◌, List, Ok, Err, Result, refl, sym, ◌∙◌, ap, subst}
+use Rattle.std.proofs.Common.{◌≡◌, ◌⊎◌, inl, inr, ℕ, Bool, true, false, not, ◌&&◌, List, Err, Result, refl, sym, ◌∙◌, ap}
 use Rattle.std.specs.Option.{is_none}
 use Rattle.mesh_printed.specs.declared.refusals.Refusal.{Refusal}
 use Rattle.mesh_printed.specs.declared.refusals.Refusal.TheVariants.{Usage, Memory}
 use Rattle.mesh_line.specs.declared.line.Line.{Line}
 use Rattle.mesh_line.specs.declared.line.UsageFault.{UsageFault}
 use Rattle.mesh_line.specs.declared.line.UsageFault.TheVariants as fault
-use Rattle.mesh_cli.specs.Ends.{Printed}
-use Rattle.mesh_cli.specs.Scripts.{AskedAnswers, AskedEnds, LineAnswers, command, usage, wanting, is_batch, may_stand, of_usage}
-use Rattle.mesh_cli.specs.Sides.{Sides, Sinks}
+use Rattle.mesh_cli.specs.Scripts.{AskedAnswers, LineAnswers, command, usage, wanting, is_batch, may_stand, of_usage}
+use Rattle.mesh_cli.specs.Sides.{Sides}
 
 -- a line that a script may have isn't itself a batch
 pub not_batch : (line : Line) → may_stand line ≡ true → is_batch line.command ≡ false

@@ -1,5 +1,5 @@
 -- What a command does at its moment.
-use Rattle.std.proofs.Common.{◌≡◌, ℕ, ℤ, Bool, true, false, List, [], Ok, Err, Result, Some, refl, sym, ap, subst, inl, inr, arith}
+use Rattle.std.proofs.Common.{◌≡◌, ℕ, ℤ, true, false, List, Ok, Result, refl, sym, subst, inl, arith}
 use Rattle.std.specs.declared.option.Option.{Option}
 use Rattle.mesh_base.specs.declared.forgets.Restate.{Restate}
 use Rattle.mesh_io.specs.Told.{ClockTold, FolderTold}
@@ -8,7 +8,7 @@ use Rattle.mesh_house.specs.declared.world.Change.{Change}
 use Rattle.mesh_house.specs.declared.world.World.{World}
 use Rattle.mesh_house.specs.House.{Told}
 use Rattle.mesh_printed.specs.declared.refusals.Refusal.{Refusal}
-use Rattle.mesh_line.specs.declared.line.Command.TheVariants.{Plan, Apply, Run, Janitor}
+use Rattle.mesh_line.specs.declared.line.Command.TheVariants.{Plan, Apply, Janitor}
 use Rattle.mesh_applying.specs.Applying.{ApplyGives, ApplyMakes}
 use Rattle.mesh_applying.specs.Loaded.{IsProject, OfProject}
 use Rattle.mesh_upkeep.specs.Upkeep.{JanitorGives, JanitorMakes}

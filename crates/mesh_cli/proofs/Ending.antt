@@ -1,9 +1,8 @@
 -- What the end of a command says of its changes and of what it printed.
-use Rattle.std.proofs.Common.{◌≡◌, ◌⊎◌, inl, inr, ℕ, Bool, true, false, List, Ok, Err, Result, refl, sym, ◌∙◌, ap, subst}
+use Rattle.std.proofs.Common.{◌≡◌, ◌⊎◌, inl, inr, ℕ, true, false, List, Ok, Err, Result, refl, sym, ◌∙◌, subst}
 use Rattle.mesh_list.specs.Counts.{Rose}
 use Rattle.mesh_house.specs.declared.world.Change.{Change}
 use Rattle.mesh_house.specs.declared.world.World.{World}
-use Rattle.mesh_house.specs.House.{Told}
 use Rattle.mesh_house.specs.Runs.{IsRun}
 use Rattle.mesh_io.specs.Told.{SinkTold}
 use Rattle.mesh_layer.specs.Shows.{Tells}

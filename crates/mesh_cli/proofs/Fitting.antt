@@ -1,5 +1,5 @@
 -- The values of a command line are such as its command needs.
-use Rattle.std.proofs.Common.{◌≡◌, ℕ, zero, suc, ℤ, pos, negsuc, ◌≤◌, Bool, true, false, not, codes, List, Some, None, refl, sym, ◌∙◌, ap, subst, arith, option_map, if◌then◌else◌}
+use Rattle.std.proofs.Common.{◌≡◌, ℕ, zero, suc, ℤ, pos, negsuc, Bool, true, false, not, codes, List, Some, None, refl, subst, arith, option_map, if◌then◌else◌}
 use Rattle.std.specs.Prelude.{IfSome}
 use Rattle.std.specs.Option.{option_and_then}
 use Rattle.std.specs.declared.option.Option.{Option}
@@ -9,10 +9,10 @@ use Rattle.mesh_values.specs.Picked.{same_text}
 use Rattle.mesh_changes.specs.Environments.{prod}
 use Rattle.mesh_casts.specs.Casts.{number_named}
 use Rattle.mesh_line.specs.declared.line.Command.{Command}
-use Rattle.mesh_line.specs.declared.line.Command.TheVariants.{Plan, Apply, Run, Evaluate, Fetchdf, Ingest, Janitor, Invalidate, Migrate, Batch}
+use Rattle.mesh_line.specs.declared.line.Command.TheVariants.{Invalidate}
 use Rattle.mesh_line.specs.declared.line.Line.{Line}
 use Rattle.mesh_line.specs.Values.{IsMomentOf, crew, is_crew, workers_named}
-use Rattle.mesh_line.specs.Lines.{IsCommand, IsCommandOf, IsLine, IsLineOf, again_given, apply_given, command_given, days_given, env_given, evaluate_given, fetchdf_given, given, ingest_given, invalidate_given, is_other, model_given, plan_given, run_given, workers_given}
+use Rattle.mesh_line.specs.Lines.{IsCommandOf, IsLine, again_given, apply_given, command_given, days_given, env_given, evaluate_given, fetchdf_given, given, ingest_given, invalidate_given, model_given, plan_given, run_given, workers_given}
 use Rattle.mesh_cli.specs.Fit.{IsCrew, IsFit}
 
 -- so many are 1 to 64

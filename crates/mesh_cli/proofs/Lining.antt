@@ -1,12 +1,12 @@
 -- Which lines a script may have.
-use Rattle.std.proofs.Common.{◌≡◌, ℕ, ℤ, Bool, true, false, not, ◌&&◌, codes, List, Some, None, Ok, Err, Result, refl, sym, ◌∙◌, ap, subst, option_map, if◌then◌else◌, ⊎_elim, inl, inr}
+use Rattle.std.proofs.Common.{◌≡◌, ℕ, ℤ, Bool, true, false, not, ◌&&◌, codes, List, Some, None, Ok, Err, Result, refl, sym, ◌∙◌, ap, subst, option_map, if◌then◌else◌}
 use Rattle.std.specs.Option.{is_none, option_and_then, unwrap_or}
 use Rattle.std.specs.declared.option.Option.{Option}
 use Rattle.clap.specs.Walk.{Row, Text}
 use Rattle.mesh_values.specs.Picked.{same_text}
 use Rattle.mesh_line.specs.declared.line.Command.{Command}
 use Rattle.mesh_line.specs.declared.line.Line.{Line}
-use Rattle.mesh_line.specs.Lines.{IsCommand, IsCommandOf, IsLine, IsLineOf, again_given, apply_given, command_given, env_given, plan_given, run_given, workers_given}
+use Rattle.mesh_line.specs.Lines.{IsCommandOf, IsLine, again_given, apply_given, command_given, env_given, plan_given, run_given, workers_given}
 use Rattle.mesh_line.specs.Scripts.{words_of}
 use Rattle.std.specs.Prelude.{IfOk, IfErr, IsErrOf}
 use Rattle.mesh_printed.specs.declared.refusals.Refusal.{Refusal}

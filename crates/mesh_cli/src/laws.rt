@@ -1,5 +1,5 @@
 // The laws of commands. These functions compute nothing.
-ghost use Rattle.std.specs.Prelude.{◌≡◌, ◌⊎◌, ℕ, ℤ, List, Ok, Err, true, false};
+ghost use Rattle.std.specs.Prelude.{◌≡◌, ◌⊎◌, ◌↔◌, ℕ, ℤ, List, Ok, Err, Result, true, false};
 ghost use Rattle.std.specs.declared.option.Option.{Option};
 ghost use Rattle.mesh_list.specs.Counts.{Rose};
 ghost use Rattle.mesh_base.specs.declared.forgets.Restate.{Restate};
@@ -42,14 +42,14 @@ pub fn commands_without_a_refusal_are_done()
 
 /// What a command makes and gives is the same for every number of workers.
 pub fn workers_change_nothing()
-    ensures made { (dir env : List ℕ) (s : Sides) (few many : ℕ) (moment : Option ℤ) (again : Option Restate) → Makes dir s (asked.Apply env few moment again) ≡ Makes dir s (asked.Apply env many moment again) }
-    ensures given { (dir env : List ℕ) (s : Sides) (few many : ℕ) (moment : Option ℤ) (again : Option Restate) → Gives dir s (asked.Apply env few moment again) ≡ Gives dir s (asked.Apply env many moment again) }
-    ensures runs_made { (dir env : List ℕ) (s : Sides) (few many : ℕ) (moment : Option ℤ) → Makes dir s (asked.Run env few moment) ≡ Makes dir s (asked.Run env many moment) }
-    ensures runs_given { (dir env : List ℕ) (s : Sides) (few many : ℕ) (moment : Option ℤ) → Gives dir s (asked.Run env few moment) ≡ Gives dir s (asked.Run env many moment) }
+    ensures made { (dir env : List ℕ) (s : Sides) (few many : ℕ) (moment : Option ℤ) (again : Option Restate) (w : World) (list : List Change) → Makes dir s (asked.Apply env few moment again) w list → Makes dir s (asked.Apply env many moment again) w list }
+    ensures given { (dir env : List ℕ) (s : Sides) (few many : ℕ) (moment : Option ℤ) (again : Option Restate) (w : World) (answer : Result (List ℕ) Refusal) → Gives dir s (asked.Apply env few moment again) w answer → Gives dir s (asked.Apply env many moment again) w answer }
+    ensures run_made { (dir env : List ℕ) (s : Sides) (few many : ℕ) (moment : Option ℤ) (w : World) (list : List Change) → Makes dir s (asked.Run env few moment) w list → Makes dir s (asked.Run env many moment) w list }
+    ensures run_given { (dir env : List ℕ) (s : Sides) (few many : ℕ) (moment : Option ℤ) (w : World) (answer : Result (List ℕ) Refusal) → Gives dir s (asked.Run env few moment) w answer → Gives dir s (asked.Run env many moment) w answer }
 {}
 
-/// A plan that is applied at once is an apply.
+/// A plan that is applied at once makes and gives what an apply does.
 pub fn plans_applied_at_once_are_applies()
-    ensures made { (dir env : List ℕ) (s : Sides) (workers : ℕ) (moment : Option ℤ) (again : Option Restate) → Makes dir s (asked.Plan env true workers moment again) ≡ Makes dir s (asked.Apply env workers moment again) }
-    ensures given { (dir env : List ℕ) (s : Sides) (workers : ℕ) (moment : Option ℤ) (again : Option Restate) → Gives dir s (asked.Plan env true workers moment again) ≡ Gives dir s (asked.Apply env workers moment again) }
+    ensures made { (dir env : List ℕ) (s : Sides) (workers : ℕ) (moment : Option ℤ) (again : Option Restate) (w : World) (list : List Change) → Makes dir s (asked.Plan env true workers moment again) w list ↔ Makes dir s (asked.Apply env workers moment again) w list }
+    ensures given { (dir env : List ℕ) (s : Sides) (workers : ℕ) (moment : Option ℤ) (again : Option Restate) (w : World) (answer : Result (List ℕ) Refusal) → Gives dir s (asked.Plan env true workers moment again) w answer ↔ Gives dir s (asked.Apply env workers moment again) w answer }
 {}

@@ -1,4 +1,4 @@
-use Rattle.std.proofs.Common.{Err, refl, ap, subst, sym, ◌∙◌}
+use Rattle.std.proofs.Common.{Err, refl, ap, subst}
 use Rattle.mesh_line.specs.Lines.{IsLine}
 use Rattle.mesh_line.specs.declared.line.UsageFault.{UsageFault}
 use Rattle.mesh_printed.specs.declared.refusals.Refusal.{Refusal}
