@@ -1,0 +1,8 @@
+-- Horizons: a core has the same horizon and schedule.
+pub mod Horizons
+-- Shown: a definition with fewer items shows what is wanted as the whole one does.
+pub mod Shown
+-- Cores: a model's rows are those of its core.
+pub mod Cores
+-- Marking: a core has the same marks.
+pub mod Marking

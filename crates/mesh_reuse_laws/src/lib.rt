@@ -1,0 +1,7 @@
+//! Laws of reuse, each the contract of a function with an empty body: a model needs no more of its ancestors than its core
+//! has.
+#![tactic(auto)]
+
+mod laws;
+
+pub use laws::{cores_have_the_same_marks, cores_have_the_same_rows, cores_have_the_same_times};
