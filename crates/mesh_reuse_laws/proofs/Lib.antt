@@ -6,3 +6,7 @@ pub mod Shown
 pub mod Cores
 -- Marking: a core has the same marks.
 pub mod Marking
+-- Twins: compatible models of one definition have one core.
+pub mod Twins
+-- Fit: what a well-formed definition reads of its parents are columns of these.
+pub mod Fit

@@ -2,11 +2,13 @@
 ghost use Rattle.std.specs.Prelude.{◌≡◌, List};
 ghost use Rattle.mesh_base.specs.declared.jobs.Input.{Input};
 ghost use Rattle.mesh_values.specs.declared.times.Bounds.{Bounds};
-ghost use Rattle.mesh_scratch.specs.Closures.{Closure};
+ghost use Rattle.mesh_scratch.specs.Closures.{Closure, own_of};
 ghost use Rattle.mesh_scratch.specs.Horizons.{Clock, horizon, schedule};
 ghost use Rattle.mesh_scratch.specs.Scratch.{from_scratch, piece};
-ghost use Rattle.mesh_reuse.specs.Cores.{core};
+ghost use Rattle.mesh_reuse.specs.Cores.{core, IsTwin};
+ghost use Rattle.mesh_reuse.specs.Compatible.{IsCompatible};
 ghost use Rattle.mesh_due.specs.Marks.{marks};
+ghost use Rattle.mesh_reuse_laws.specs.Well.{AreWell};
 
 /// The core of a model has the model's horizon and the units of its schedule.
 #[tactic(auto, using(crate::proofs::Horizons::horizon_core, crate::proofs::Horizons::schedule_core))]
@@ -26,4 +28,11 @@ pub fn cores_have_the_same_rows()
 #[tactic(auto, using(crate::proofs::Marking::marks_core))]
 pub fn cores_have_the_same_marks()
     ensures { (clock : Clock) (c : Closure) → marks clock c ≡ marks clock (core c) }
+{}
+
+/// Where nothing but columns was added above a model, whose own definition is the same, the old model and the new one need
+/// the same: they are twins.
+#[tactic(auto, using(crate::proofs::Fit::well_twins))]
+pub fn additions_above_leave_twins()
+    ensures { (old new : Closure) → IsCompatible old new → own_of old ≡ own_of new → AreWell old → AreWell new → IsTwin old new }
 {}

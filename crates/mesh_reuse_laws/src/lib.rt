@@ -4,4 +4,7 @@
 
 mod laws;
 
-pub use laws::{cores_have_the_same_marks, cores_have_the_same_rows, cores_have_the_same_times};
+pub use laws::{
+    additions_above_leave_twins, cores_have_the_same_marks, cores_have_the_same_rows,
+    cores_have_the_same_times,
+};

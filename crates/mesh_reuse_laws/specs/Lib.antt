@@ -1,0 +1,2 @@
+-- Well: closures whose models are well formed with their parents.
+pub mod Well
