@@ -10,3 +10,11 @@ pub mod Marking
 pub mod Twins
 -- Fit: what a well-formed definition reads of its parents are columns of these.
 pub mod Fit
+-- Projects: the closures of proper projects are well formed.
+pub mod Projects
+-- Books: so are those of the snapshots of well-formed books.
+pub mod Books
+-- Staying: a table stays with twins.
+pub mod Staying
+-- Sharing: twins have the same rows, times and marks.
+pub mod Sharing

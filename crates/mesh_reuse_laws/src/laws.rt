@@ -1,13 +1,23 @@
 // What the core of a model keeps.
-ghost use Rattle.std.specs.Prelude.{◌≡◌, List};
+ghost use Rattle.std.specs.Prelude.{◌≡◌, true, List, Some};
+ghost use Rattle.std.specs.List.{All};
 ghost use Rattle.mesh_base.specs.declared.jobs.Input.{Input};
+ghost use Rattle.mesh_base.specs.declared.plans.Category.{Category};
+ghost use Rattle.mesh_base.specs.declared.snapshots.Node.{Node};
+ghost use Rattle.mesh_base.specs.declared.snapshots.Snapshot.{Snapshot};
+ghost use Rattle.mesh_rules.specs.Proper.{is_proper};
+ghost use Rattle.mesh_book.specs.declared.book.Book.{Book};
+ghost use Rattle.mesh_book.specs.WellFormed.{is_well_formed_book};
+ghost use Rattle.mesh_listed.specs.Closing.{IsSnapshot, closing};
 ghost use Rattle.mesh_values.specs.declared.times.Bounds.{Bounds};
-ghost use Rattle.mesh_scratch.specs.Closures.{Closure, own_of};
+ghost use Rattle.mesh_scratch.specs.Closures.{Closure, closures, own_of};
 ghost use Rattle.mesh_scratch.specs.Horizons.{Clock, horizon, schedule};
 ghost use Rattle.mesh_scratch.specs.Scratch.{from_scratch, piece};
 ghost use Rattle.mesh_reuse.specs.Cores.{core, IsTwin};
+ghost use Rattle.mesh_reuse.specs.Categories.{HasCategory, Stated};
 ghost use Rattle.mesh_reuse.specs.Compatible.{IsCompatible};
 ghost use Rattle.mesh_due.specs.Marks.{marks};
+ghost use Rattle.mesh_due.specs.Versions.{stays};
 ghost use Rattle.mesh_reuse_laws.specs.Well.{AreWell};
 
 /// The core of a model has the model's horizon and the units of its schedule.
@@ -30,9 +40,33 @@ pub fn cores_have_the_same_marks()
     ensures { (clock : Clock) (c : Closure) → marks clock c ≡ marks clock (core c) }
 {}
 
+/// So twins have the same rows from scratch, those of each unit too, and the same horizon, schedule and marks.
+#[tactic(auto, using(crate::proofs::Sharing::same_rows, crate::proofs::Sharing::same_pieces, crate::proofs::Sharing::same_horizons, crate::proofs::Sharing::same_schedules, crate::proofs::Sharing::twin_marks))]
+pub fn twins_have_the_same_rows()
+    ensures rows { (a b : Closure) → IsTwin a b → (sources : List Input) (clock : Clock) → from_scratch sources clock a ≡ from_scratch sources clock b }
+    ensures pieces { (a b : Closure) → IsTwin a b → (sources : List Input) (clock : Clock) (u : Bounds) → piece sources clock a u ≡ piece sources clock b u }
+    ensures horizons { (a b : Closure) → IsTwin a b → (clock : Clock) → horizon clock a ≡ horizon clock b }
+    ensures schedules { (a b : Closure) → IsTwin a b → (clock : Clock) → schedule clock a ≡ schedule clock b }
+    ensures marks { (a b : Closure) → IsTwin a b → (clock : Clock) → marks clock a ≡ marks clock b }
+{}
+
+/// The models of a proper project are well formed with their parents, and so are those that they stand on. So are the
+/// snapshots of a well-formed book.
+#[tactic(auto, using(crate::proofs::Projects::projects_well, crate::proofs::Books::snapshots_well))]
+pub fn models_are_well_formed_with_their_ancestors()
+    ensures projects { (nodes : List Node) → is_proper nodes ≡ true → All AreWell (closures nodes) }
+    ensures snapshots { (b : Book) → is_well_formed_book b ≡ true → (s : Snapshot) → IsSnapshot b.snapshots s → AreWell (closing b.snapshots s) }
+{}
+
 /// Where nothing but columns was added above a model, whose own definition is the same, the old model and the new one need
 /// the same: they are twins.
 #[tactic(auto, using(crate::proofs::Fit::well_twins))]
 pub fn additions_above_leave_twins()
     ensures { (old new : Closure) → IsCompatible old new → own_of old ≡ own_of new → AreWell old → AreWell new → IsTwin old new }
+{}
+
+/// A table stays only where the model that has it and the new one are twins.
+pub fn tables_stay_with_twins()
+    ensures { (old new : Stated) (category : Category) → HasCategory (Some old) new category → stays category (own_of new.closure).kind ≡ true →
+        AreWell old.closure → AreWell new.closure → IsTwin old.closure new.closure }
 {}
