@@ -18,3 +18,5 @@ pub mod Books
 pub mod Staying
 -- Sharing: twins have the same rows, times and marks.
 pub mod Sharing
+-- Given: the tables that the models of a plan are given are of twins.
+pub mod Given

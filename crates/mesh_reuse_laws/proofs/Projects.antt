@@ -34,7 +34,7 @@ well_ancestors Alone h = All-nil IsWell
 well_ancestors (With c cs) h = All-append IsWell (standing c) (ancestors cs) h.0 (well_ancestors cs h.1)
 
 -- a list about a place of it
-at_place : (nodes : List Node) (i : ℕ) (n : Node) → slice_get nodes i ≡ Some n → (before : List Node) × ((after : List Node) × ((before ++ n ∷ after ≡ nodes) × (length before ≡ i)))
+pub at_place : (nodes : List Node) (i : ℕ) (n : Node) → slice_get nodes i ≡ Some n → (before : List Node) × ((after : List Node) × ((before ++ n ∷ after ≡ nodes) × (length before ≡ i)))
 at_place [] i n e = absurd (cc)
 at_place (x ∷ nodes) zero n e = let same : x ≡ n = cc in ([], (nodes, (ap (λ z. z ∷ nodes) (sym same), refl)))
 at_place (x ∷ nodes) (suc i) n e =
@@ -103,6 +103,9 @@ module _ (nodes : List Node) (h : is_proper nodes ≡ true) where
       let (n, there) = model_at (slice_get all i) (slice_get nodes i) c e (owns i) in
       let (before, (after, (whole, size))) = at_place nodes i n there in
       here before after n whole (λ j less. below k j (omega (arith, l, less, size))) c (ap (slice_get all) size ∙ e)
+
+pub project_well_at : (nodes : List Node) → is_proper nodes ≡ true → (i : ℕ) (c : Closure) → slice_get (closures nodes) i ≡ Some c → AreWell c
+project_well_at nodes h i c e = below nodes h (suc i) i (omega arith) c e
 
 get_there : {X : Type 0} (xs : List X) (k : ℕ) (d : X) → k < length xs → slice_get xs k ≡ Some (get_or xs k d)
 get_there [] k d l = absurd (omega (arith, l))

@@ -1,7 +1,9 @@
 // What the core of a model keeps.
 ghost use Rattle.std.specs.Prelude.{◌≡◌, true, List, Some};
-ghost use Rattle.std.specs.List.{All};
+ghost use Rattle.std.specs.declared.option.Option.{Option};
+ghost use Rattle.std.specs.List.{All, Contains};
 ghost use Rattle.mesh_base.specs.declared.jobs.Input.{Input};
+ghost use Rattle.mesh_base.specs.declared.forgets.Restate.{Restate};
 ghost use Rattle.mesh_base.specs.declared.plans.Category.{Category};
 ghost use Rattle.mesh_base.specs.declared.snapshots.Node.{Node};
 ghost use Rattle.mesh_base.specs.declared.snapshots.Snapshot.{Snapshot};
@@ -17,7 +19,11 @@ ghost use Rattle.mesh_reuse.specs.Cores.{core, IsTwin};
 ghost use Rattle.mesh_reuse.specs.Categories.{HasCategory, Stated};
 ghost use Rattle.mesh_reuse.specs.Compatible.{IsCompatible};
 ghost use Rattle.mesh_due.specs.Marks.{marks};
+ghost use Rattle.mesh_due.specs.Plans.{Planned};
 ghost use Rattle.mesh_due.specs.Versions.{stays};
+ghost use Rattle.mesh_changes.specs.Changes.{Plan};
+ghost use Rattle.mesh_changes.specs.Planning.{IsPlan};
+ghost use Rattle.mesh_reuse_laws.specs.Shared.{SharesWithTwins};
 ghost use Rattle.mesh_reuse_laws.specs.Well.{AreWell};
 
 /// The core of a model has the model's horizon and the units of its schedule.
@@ -69,4 +75,12 @@ pub fn additions_above_leave_twins()
 pub fn tables_stay_with_twins()
     ensures { (old new : Stated) (category : Category) → HasCategory (Some old) new category → stays category (own_of new.closure).kind ≡ true →
         AreWell old.closure → AreWell new.closure → IsTwin old.closure new.closure }
+{}
+
+/// Where snapshots of a book share a table only as twins, a plan keeps it so: each snapshot whose table a model of the plan
+/// is given is of a model of its name, and the two are twins.
+pub fn given_tables_are_of_twins()
+    ensures { (clock : Clock) (b : Book) (nodes : List Node) (restate : Option Restate) (plan : Plan) → is_well_formed_book b ≡ true → is_proper nodes ≡ true → IsPlan clock b nodes restate plan →
+        SharesWithTwins b → (p : Planned) → Contains plan.models p → (s : Snapshot) → IsSnapshot b.snapshots s → s.object ≡ p.object →
+        (s.name ≡ p.node.own.name) × IsTwin (closing b.snapshots s) p.closure }
 {}

@@ -1,0 +1,243 @@
+-- The tables that the models of a plan are given are of twins.
+use Rattle.std.proofs.Common.{◌≡◌, ℕ, zero, suc, ◌<◌, ◌||◌, not, Bool, true, false, cond, ◌⊎◌, inl, inr, List, [], ◌∷◌, ◌++◌, map, length, refl, ap, sym, ◌∙◌, subst, arith}
+use Rattle.std.specs.List.{All, AllByRecursion, Contains, find, flat_map, list_all, slice_get}
+use Rattle.std.specs.Option.{option_and_then, option_map, option_or, option_to_list}
+use Rattle.std.specs.Ordering.{is_eq}
+use Rattle.std.specs.declared.cmp.Ordering.{Ordering}
+use Rattle.std.specs.declared.option.Option.{Option}
+use Rattle.std.specs.declared.option.Option.TheVariants.{None, Some}
+use Rattle.std.proofs.lemmas.Cmp.{tied_itself}
+use Rattle.std.proofs.lemmas.Option.{slice_get_within}
+use Rattle.mesh_list.specs.Keyed.{found}
+use Rattle.mesh_values.specs.NameOrder.{names_exact, names_total}
+use Rattle.mesh_values.specs.Names.{name_cmp}
+use Rattle.mesh_values.specs.Picked.{same_text}
+use Rattle.mesh_values.specs.declared.values.Name.{Name}
+use Rattle.mesh_base.specs.Keys.{ref_cmp, ref_name, snapshot_ref}
+use Rattle.mesh_base.specs.declared.definitions.Own.{Own}
+use Rattle.mesh_base.specs.declared.forgets.Restate.{Restate}
+use Rattle.mesh_base.specs.declared.plans.Category.{Category}
+use Rattle.mesh_base.specs.declared.snapshots.Node.{Node}
+use Rattle.mesh_base.specs.declared.snapshots.Ref.{Ref}
+use Rattle.mesh_base.specs.declared.snapshots.Snapshot.{Snapshot}
+use Rattle.mesh_rules.specs.Proper.{is_proper}
+use Rattle.mesh_book.specs.declared.book.Book.{Book}
+use Rattle.mesh_book.specs.WellFormed.{is_well_formed_book, snapshot_at}
+use Rattle.mesh_book.proofs.Exchanged.{found_key}
+use Rattle.mesh_scratch.specs.Closures.{Closure, Closures, Model, Alone, With, closures, each_of, own_of, with_parent}
+use Rattle.mesh_scratch.specs.Horizons.{Clock}
+use Rattle.mesh_laws.proofs.Finding.{get_map, one_passes}
+use Rattle.mesh_laws.proofs.Has.{Has, Has_from}
+use Rattle.mesh_laws.proofs.Projects.{IsBefore, before_it, closures_there}
+use Rattle.mesh_laws.proofs.ReadColumns.{text_is}
+use Rattle.mesh_listed.specs.Closing.{IsSnapshot, closing, parents_by}
+use Rattle.mesh_listed.proofs.Books.{fits, is_its_own, its_ref}
+use Rattle.mesh_listed.proofs.Depths.{closing_is}
+use Rattle.mesh_reuse.specs.Categories.{HasCategory}
+use Rattle.mesh_reuse.specs.Cores.{core, IsTwin}
+use Rattle.mesh_due.specs.Parts.{same_name}
+use Rattle.mesh_due.specs.Plans.{Planned}
+use Rattle.mesh_due.specs.Versions.{fresh, is_free, kept_object, node_ref, stays, table_name, version}
+use Rattle.mesh_changes.specs.Changes.{Plan, parents_in, planned_ref}
+use Rattle.mesh_changes.specs.Planning.{HasNoClash, HasObject, IsPlan, compared, compared_list, stated, stated_new}
+use Rattle.mesh_reuse_laws.specs.Shared.{SharesWithTwins}
+use Rattle.mesh_reuse_laws.specs.Well.{AreWell}
+use Rattle.mesh_reuse_laws.proofs.Books.{snapshots_well}
+use Rattle.mesh_reuse_laws.proofs.Projects.{at_place, project_well_at}
+use Rattle.mesh_reuse_laws.proofs.Staying.{staying_twins}
+
+-- lists
+place_there : {X : Type 0} (xs : List X) (x : X) → Has x xs → (i : ℕ) × (slice_get xs i ≡ Some x)
+place_there [] x h = absurd h
+place_there (y ∷ xs) x (inl e) = (0, ap Some e)
+place_there (y ∷ xs) x (inr h) = let (i, e) = place_there xs x h in (suc i, e)
+
+in_front : {X : Type 0} (front rest : List X) (i : ℕ) (x : X) → slice_get front i ≡ Some x → slice_get (front ++ rest) i ≡ Some x
+in_front [] rest i x e = absurd (cc)
+in_front (y ∷ front) rest zero x e = e
+in_front (y ∷ front) rest (suc i) x e = in_front front rest i x e
+
+each_at : {X : Type 0} (P : X → Type 0) (xs : List X) → AllByRecursion P xs → (i : ℕ) (x : X) → slice_get xs i ≡ Some x → P x
+each_at P [] h i x e = absurd (cc)
+each_at P (y ∷ xs) h zero x e = let same : y ≡ x = cc in subst P same h.0
+each_at P (y ∷ xs) h (suc i) x e = each_at P xs h.1 i x e
+
+found_there : {A K : Type 0} (R : K → K → Ordering) (key : A → K) (k : K) (x : A) (xs : List A) → found R key k xs ≡ Some x → Has x xs
+found_there R key k x [] e = absurd (cc)
+found_there R key k x (y ∷ xs) e = go (is_eq (R (key y) k)) e (found_there R key k x xs)
+  where
+    go : (b : Bool) → cond b (Some y) (found R key k xs) ≡ Some x → (found R key k xs ≡ Some x → Has x xs) → Has x (y ∷ xs)
+    go true e rest = inl (let same : y ≡ x = cc in same)
+    go false e rest = inr (rest e)
+
+find_passes : {A : Type 0} (p : A → Bool) (xs : List A) (x : A) → find p xs ≡ Some x → p x ≡ true
+find_passes p [] x e = absurd (cc)
+find_passes p (y ∷ xs) x e = go (p y) refl e (find_passes p xs x)
+  where
+    go : (b : Bool) → p y ≡ b → cond b (Some y) (find p xs) ≡ Some x → (find p xs ≡ Some x → p x ≡ true) → p x ≡ true
+    go true t e rest = let same : y ≡ x = cc in ap p (sym same) ∙ t
+    go false t e rest = rest e
+
+mapped_there : {X Y : Type 0} (f : X → Y) (o : Option X) (y : Y) → option_map f o ≡ Some y → (x : X) × ((o ≡ Some x) × (f x ≡ y))
+mapped_there f None y e = absurd (cc)
+mapped_there f (Some x) y e = (x, (refl, (let same : f x ≡ y = cc in same)))
+
+-- parents are one list of closures
+as_each : (cs ds : Closures) → each_of cs ≡ each_of ds → cs ≡ ds
+as_each Alone Alone e = refl
+as_each Alone (With d ds) e = absurd (cc)
+as_each (With c cs) Alone e = absurd (cc)
+as_each (With c cs) (With d ds) e =
+    let first : c ≡ d = cc in
+    let rest : each_of cs ≡ each_of ds = cc in
+    λ i. With (first i) (as_each cs ds rest i)
+
+module _ (clock : Clock) (b : Book) (nodes : List Node) (restate : Option Restate) (plan : Plan)
+    (well : is_well_formed_book b ≡ true) (proper : is_proper nodes ≡ true) (is : IsPlan clock b nodes restate plan) where
+  abbrev all : List Snapshot
+  all = b.snapshots
+
+  abbrev models : List Planned
+  models = plan.models
+
+  abbrev node : Planned → Node
+  node p = p.node
+
+  abbrev closure : Planned → Closure
+  closure p = p.closure
+
+  node_at : (i : ℕ) (p : Planned) → slice_get models i ≡ Some p → slice_get nodes i ≡ Some p.node
+  node_at i p e = ap (λ l. slice_get l i) (sym is.models) ∙ get_map node models i ∙ ap (option_map node) e
+
+  closure_at : (i : ℕ) (p : Planned) → slice_get models i ≡ Some p → slice_get (closures nodes) i ≡ Some p.closure
+  closure_at i p e = ap (λ l. slice_get l i) (sym is.closed) ∙ get_map closure models i ∙ ap (option_map closure) e
+
+  model_at : (i : ℕ) (m : Node) → slice_get nodes i ≡ Some m → (q : Planned) × (slice_get models i ≡ Some q)
+  model_at i m e =
+      let (q, (there, same)) = mapped_there node (slice_get models i) m (sym (get_map node models i) ∙ ap (λ l. slice_get l i) is.models ∙ e) in
+      (q, there)
+
+  abbrev planned_at : List ℕ → List Planned
+  planned_at js = flat_map (λ i. option_to_list (slice_get models i)) js
+
+  -- a model at a place whose closure is that of its snapshot, where it has one
+  abbrev Same_at : ℕ → Type 0
+  Same_at j = (q : Planned) × ((slice_get models j ≡ Some q) × ((u : Snapshot) → snapshot_at all (planned_ref q) ≡ Some u → closing all u ≡ q.closure))
+
+  abbrev Kept : List Ref → Type 0
+  Kept refs = (r : Ref) → Has r refs → (u : Snapshot) × (snapshot_at all r ≡ Some u)
+
+  same_parents : (js : List ℕ) → ((j : ℕ) → Has j js → Same_at j) → Kept (map planned_ref (planned_at js))
+      → each_of (parents_by (closing all) all (map planned_ref (planned_at js))) ≡ flat_map (λ i. option_to_list (slice_get (closures nodes) i)) js
+  same_parents [] f g = refl
+  same_parents (j ∷ js) f g =
+      let (q, (e, c)) = f j (inl refl) in
+      let rest : List Ref = map planned_ref (planned_at js) in
+      let kept : Kept (planned_ref q ∷ rest) = subst (λ o. Kept (map planned_ref (option_to_list o ++ planned_at js))) e g in
+      let (u, known) = kept (planned_ref q) (inl refl) in
+      ap (λ o. each_of (parents_by (closing all) all (map planned_ref (option_to_list o ++ planned_at js)))) e
+      ∙ ap (λ o. each_of (with_parent (option_map (closing all) o) (parents_by (closing all) all rest))) known
+      ∙ (λ i. c u known i ∷ same_parents js (λ k h. f k (inr h)) (λ r h. kept r (inr h)) i)
+      ∙ sym (ap (λ o. option_to_list o ++ flat_map (λ i. option_to_list (slice_get (closures nodes) i)) js) (closure_at j q e))
+
+  no_clash : (i : ℕ) (p : Planned) → slice_get models i ≡ Some p → HasNoClash b models p
+  no_clash i p e = each_at (HasNoClash b models) models is.clashes i p e
+
+  -- a snapshot of a model's reference has its closure
+  one_known : (i : ℕ) (p : Planned) → slice_get models i ≡ Some p → ((j : ℕ) → j < i → (q : Planned) → slice_get models j ≡ Some q → (u : Snapshot) → snapshot_at all (planned_ref q) ≡ Some u → closing all u ≡ q.closure)
+      → (t : Snapshot) → snapshot_at all (planned_ref p) ≡ Some t → closing all t ≡ p.closure
+  one_known i p e rest t there =
+      let (before, (after, (whole, size))) = at_place nodes i p.node (node_at i p e) in
+      let (parents, here, are) = closures_there nodes proper before after p.node whole in
+      let both : Some (Model p.node.own parents) ≡ Some p.closure = sym here ∙ ap (slice_get (closures nodes)) size ∙ closure_at i p e in
+      let same : Model p.node.own parents ≡ p.closure = cc in
+      let its : IsSnapshot all t = is_its_own all (planned_ref p) t there in
+      let fit = fits b t well its in
+      let (own, refs) = (no_clash i p e).stored t its (ap (λ (r : Ref). r.fingerprint) (its_ref all (planned_ref p) t there)) in
+      let at : (j : ℕ) → Has j p.node.parents → Same_at j =
+      λ j h.
+      let (m, known, lower) = before_it nodes proper before after p.node whole j h in
+      let (q, f) = model_at j m (ap (λ l. slice_get l j) (sym whole) ∙ in_front before (p.node ∷ after) j m known) in
+      let inside = slice_get_within before j m known in
+      (q, (f, rest j (omega (arith, inside, size)) q f)) in
+      let kept : Kept (map planned_ref (planned_at p.node.parents)) =
+      subst Kept refs (λ r h. let parent = fit.parents r h in (parent.snapshot, parent.known)) in
+      let its_parents : parents_by (closing all) all t.parents ≡ parents =
+      ap (parents_by (closing all) all) refs
+      ∙ as_each (parents_by (closing all) all (map planned_ref (planned_at p.node.parents))) parents (same_parents p.node.parents at kept ∙ sym are) in
+      closing_is b well t its ∙ (λ i. Model (own i) (its_parents i)) ∙ same
+
+  known_below : (k i : ℕ) → i < k → (p : Planned) → slice_get models i ≡ Some p → (t : Snapshot) → snapshot_at all (planned_ref p) ≡ Some t → closing all t ≡ p.closure
+  known_below zero i l p e t there = absurd (omega (arith, l))
+  known_below (suc k) i l p e t there = one_known i p e (λ j less q f u it. known_below k j (omega (arith, l, less)) q f u it) t there
+
+  module _ (shared : SharesWithTwins b) (i : ℕ) (p : Planned) (e : slice_get models i ≡ Some p) (s : Snapshot) (known : IsSnapshot all s) (share : s.object ≡ p.object) where
+    abbrev Goal : Type 0
+    Goal = (s.name ≡ p.node.own.name) × IsTwin (closing all s) p.closure
+
+    abbrev beside : Option Snapshot
+    beside = compared b plan.env p.node.own.name
+
+    -- it is that of the model's own snapshot
+    of_own : (t : Snapshot) → snapshot_at all (planned_ref p) ≡ Some t → t.object ≡ p.object → Goal
+    of_own t there same =
+        let (names, twins) = shared s t known (is_its_own all (planned_ref p) t there) (share ∙ sym same) in
+        (names ∙ ap ref_name (its_ref all (planned_ref p) t there), twins ∙ ap core (known_below (suc i) i (omega arith) p e t there))
+
+    beside_is : (c : Snapshot) → beside ≡ Some c → IsSnapshot all c × (c.name ≡ p.node.own.name)
+    beside_is c f = go (found name_cmp ref_name p.node.own.name (compared_list b plan.env)) refl f
+      where
+        go : (o : Option Ref) → found name_cmp ref_name p.node.own.name (compared_list b plan.env) ≡ o → option_and_then (snapshot_at all) o ≡ Some c → IsSnapshot all c × (c.name ≡ p.node.own.name)
+        go None g h = absurd (cc)
+        go (Some r) g h = (is_its_own all r c h, ap ref_name (its_ref all r c h) ∙ found_key name_cmp ref_name names_exact p.node.own.name r (compared_list b plan.env) g)
+
+    -- or that of the snapshot that the model is compared with
+    of_compared : (c : Snapshot) → beside ≡ Some c → c.object ≡ p.object → (category : Category) → HasCategory (option_map (stated b) beside) (stated_new p) category → stays category p.node.own.kind ≡ true → Goal
+    of_compared c f same category has stay =
+        let (its, name) = beside_is c f in
+        let (names, twins) = shared s c known its (share ∙ sym same) in
+        let as_stated : HasCategory (Some (stated b c)) (stated_new p) category = subst (λ o. HasCategory (option_map (stated b) o) (stated_new p) category) f has in
+        (names ∙ name, twins ∙ staying_twins (stated b c) (stated_new p) category p.node.own.kind as_stated stay (snapshots_well b well c its) (project_well_at nodes proper i p.closure (closure_at i p e)))
+
+    -- a fresh one is that of no other fingerprint, and so of the model's own snapshot
+    of_fresh : snapshot_at all (planned_ref p) ≡ None → fresh all p.node.own.name p.node.fingerprint ≡ Some p.object → Goal
+    of_fresh none f =
+        let free : is_free all p.node.fingerprint p.object ≡ true =
+        find_passes (is_free all p.node.fingerprint) (map (table_name p.node.own.name p.node.fingerprint) (0 ∷ 1 ∷ 2 ∷ 3 ∷ [])) p.object f in
+        let among : Has s all = found_there ref_cmp snapshot_ref (snapshot_ref s) s all known in
+        let one : (same_text s.fingerprint p.node.fingerprint || not (same_name s.object p.object)) ≡ true =
+        one_passes (λ (s : Snapshot). same_text s.fingerprint p.node.fingerprint || not (same_name s.object p.object)) all s free among in
+        let used : same_name s.object p.object ≡ true = ap (λ n. same_name n p.object) share ∙ ap is_eq (tied_itself names_total p.object) in
+        let alike : same_text s.fingerprint p.node.fingerprint ≡ true = first (same_text s.fingerprint p.node.fingerprint) (same_name s.object p.object) one used in
+        let fingerprints : s.fingerprint ≡ p.node.fingerprint = text_is s.fingerprint p.node.fingerprint alike in
+        let (own, refs) = (no_clash i p e).stored s known fingerprints in
+        let names : s.name ≡ p.node.own.name = sym (fits b s well known).name ∙ ap (λ (o : Own). o.name) own in
+        let reference : snapshot_ref s ≡ planned_ref p = (λ j. record { name = names j; fingerprint = fingerprints j }) in
+        let there : snapshot_at all (planned_ref p) ≡ Some s = ap (snapshot_at all) (sym reference) ∙ known in
+        let clash : None ≡ Some s = sym none ∙ there in
+        absurd (cc)
+      where
+        first : (x y : Bool) → (x || not y) ≡ true → y ≡ true → x ≡ true
+        first true y h k = refl
+        first false true h k = absurd (cc)
+        first false false h k = absurd (cc)
+
+    given : Goal
+    given = from_own (snapshot_at all (planned_ref p)) refl its.object
+      where
+        its : HasObject b plan.env p
+        its = each_at (HasObject b plan.env) models is.objects i p e
+
+        from_compared : (v : Bool) (o : Option Snapshot) → stays its.category p.node.own.kind ≡ v → beside ≡ o → snapshot_at all (planned_ref p) ≡ None
+            → option_or (kept_object v o) (fresh all p.node.own.name p.node.fingerprint) ≡ Some p.object → Goal
+        from_compared true (Some c) t f none h = of_compared c f (let same : c.object ≡ p.object = cc in same) its.category its.is t
+        from_compared true None t f none h = of_fresh none h
+        from_compared false o t f none h = of_fresh none h
+
+        from_own : (o : Option Snapshot) → snapshot_at all (planned_ref p) ≡ o
+            → option_or (option_map (λ (s : Snapshot). s.object) o) (option_or (kept_object (stays its.category p.node.own.kind) beside) (fresh all p.node.own.name p.node.fingerprint)) ≡ Some p.object → Goal
+        from_own (Some t) there h = of_own t there (let same : t.object ≡ p.object = cc in same)
+        from_own None there h = from_compared (stays its.category p.node.own.kind) beside refl refl there h
+
+  pub given_twins : SharesWithTwins b → (p : Planned) → Contains models p → (s : Snapshot) → IsSnapshot all s → s.object ≡ p.object → (s.name ≡ p.node.own.name) × IsTwin (closing all s) p.closure
+  given_twins shared p h s known share = let (i, e) = place_there models p (Has_from models p h) in given shared i p e s known share
