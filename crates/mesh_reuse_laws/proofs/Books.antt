@@ -1,12 +1,11 @@
 -- The closures of the snapshots of a well-formed book are well formed.
-use Rattle.std.proofs.Common.{◌≡◌, ℕ, zero, suc, ◌<◌, nat_eq, Bool, true, inl, inr, List, [], ◌∷◌, map, refl, ap, sym, ◌∙◌, subst, arith}
-use Rattle.std.specs.List.{All}
+use Rattle.std.proofs.Common.{◌≡◌, ℕ, zero, suc, ◌<◌, nat_eq, true, inl, inr, List, [], ◌∷◌, map, refl, ap, sym, ◌∙◌, subst, arith}
 use Rattle.std.specs.Option.{option_map}
 use Rattle.std.specs.declared.option.Option.{Option}
 use Rattle.std.specs.declared.option.Option.TheVariants.{None, Some}
 use Rattle.std.proofs.lemmas.Bool.{and_parts}
 use Rattle.std.proofs.lemmas.List.Elements.{All-cons}
-use Rattle.mesh_base.specs.Keys.{ref_name, snapshot_ref}
+use Rattle.mesh_base.specs.Keys.{ref_name}
 use Rattle.mesh_base.specs.Outputs.{columns_of}
 use Rattle.mesh_base.specs.declared.definitions.Own.{Own}
 use Rattle.mesh_base.specs.declared.snapshots.Ref.{Ref}
@@ -16,12 +15,12 @@ use Rattle.mesh_rules.specs.declared.relations.Relation.{Relation}
 use Rattle.mesh_rules.specs.Proper.{is_well_formed}
 use Rattle.mesh_book.specs.declared.book.Book.{Book}
 use Rattle.mesh_book.specs.WellFormed.{columns_at, is_well_formed_book, parents_of, snapshot_at}
-use Rattle.mesh_scratch.specs.Closures.{Closure, Closures, Model, ancestors, each_of, own_of, with_parent}
+use Rattle.mesh_scratch.specs.Closures.{Closures, Model, ancestors, each_of, own_of, with_parent}
 use Rattle.mesh_laws.specs.Found.{model_relation}
 use Rattle.mesh_laws.proofs.Has.{Has}
 use Rattle.mesh_laws.proofs.Lists.{Each}
 use Rattle.mesh_listed.specs.Closing.{IsSnapshot, closed, closing, parents_by}
-use Rattle.mesh_listed.proofs.Books.{Fit, IsParent, fits, is_its_own, its_ref}
+use Rattle.mesh_listed.proofs.Books.{IsParent, fits, is_its_own, its_ref}
 use Rattle.mesh_listed.proofs.Depths.{closing_is}
 use Rattle.mesh_reuse_laws.specs.Well.{IsWell, AreWell}
 use Rattle.mesh_reuse_laws.proofs.Projects.{well_ancestors}

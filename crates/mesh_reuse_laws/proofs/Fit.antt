@@ -1,17 +1,16 @@
 -- What a well-formed definition reads of its parents are columns of these.
-use Rattle.std.proofs.Common.{◌≡◌, ℕ, pos, Bool, true, false, cond, not, ◌&&◌, ◌||◌, inl, inr, List, [], ◌∷◌, ◌++◌, map, refl, ap, sym, ◌∙◌, subst}
-use Rattle.std.specs.List.{All, AllByRecursion, Contains, slice_get}
+use Rattle.std.proofs.Common.{◌≡◌, pos, Bool, true, false, cond, not, ◌&&◌, ◌||◌, inl, inr, List, [], ◌∷◌, ◌++◌, map, refl, ap, sym, ◌∙◌, subst}
+use Rattle.std.specs.List.{AllByRecursion, Contains}
 use Rattle.std.specs.Option.{option_map, is_some}
 use Rattle.std.specs.Ordering.{is_eq}
 use Rattle.std.specs.declared.option.Option.{Option}
 use Rattle.std.specs.declared.option.Option.TheVariants.{None, Some}
 use Rattle.std.proofs.lemmas.Bool.{and_parts}
-use Rattle.std.proofs.lemmas.Cmp.{tied_itself}
 use Rattle.mesh_list.specs.Keyed.{ascends, below_first, found}
 use Rattle.mesh_list.proofs.Each.{each_found}
 use Rattle.mesh_values.specs.Crons.{is_cron}
 use Rattle.mesh_values.specs.Kinds.{time_column}
-use Rattle.mesh_values.specs.NameOrder.{names_exact, names_total}
+use Rattle.mesh_values.specs.NameOrder.{names_total}
 use Rattle.mesh_values.specs.Names.{name_cmp}
 use Rattle.mesh_values.specs.Picked.{same_text}
 use Rattle.mesh_values.specs.declared.values.Column.{Column}
@@ -24,7 +23,6 @@ use Rattle.mesh_base.specs.declared.definitions.Own.{Own}
 use Rattle.mesh_base.specs.declared.definitions.Reading.{Reading}
 use Rattle.mesh_base.specs.declared.jobs.Input.{Input}
 use Rattle.mesh_base.specs.declared.queries.FromItem.{FromItem}
-use Rattle.mesh_base.specs.declared.queries.Query.{Query}
 use Rattle.mesh_base.specs.declared.queries.Select.{Select}
 use Rattle.mesh_rules.specs.declared.relations.Parent.{Parent}
 use Rattle.mesh_rules.specs.declared.relations.Relation.{Relation}
@@ -37,9 +35,8 @@ use Rattle.mesh_scratch.specs.Horizons.{Clock}
 use Rattle.mesh_scratch.specs.Scratch.{from_scratch, inputs_of, no_bounds, table_of, tables}
 use Rattle.mesh_scratch.specs.Sources.{declared, inputs}
 use Rattle.mesh_laws.specs.Alike.{named}
-use Rattle.mesh_laws.specs.Found.{model_relation, DefnFindsAll, FindsAll, HasColumn}
-use Rattle.mesh_laws.specs.Reads.{reads, IsRead, IsSelectOf, NamesColumn}
-use Rattle.mesh_laws.proofs.Amounts.{equal_of}
+use Rattle.mesh_laws.specs.Found.{model_relation, DefnFindsAll, FindsAll}
+use Rattle.mesh_laws.specs.Reads.{reads, IsRead, NamesColumn}
 use Rattle.mesh_laws.proofs.Finding.{closures_find, one_passes}
 use Rattle.mesh_laws.proofs.Has.{Has, Has_from, Has_map, Has_map_from, Has_to}
 use Rattle.mesh_laws.proofs.Lists.{Each, Each_left, Each_right, each}

@@ -1,6 +1,6 @@
 -- The tables that the models of a plan are given are of twins.
-use Rattle.std.proofs.Common.{◌≡◌, ℕ, zero, suc, ◌<◌, ◌||◌, not, Bool, true, false, cond, ◌⊎◌, inl, inr, List, [], ◌∷◌, ◌++◌, map, length, refl, ap, sym, ◌∙◌, subst, arith}
-use Rattle.std.specs.List.{All, AllByRecursion, Contains, find, flat_map, list_all, slice_get}
+use Rattle.std.proofs.Common.{◌≡◌, ℕ, zero, suc, ◌<◌, ◌||◌, not, Bool, true, false, cond, inl, inr, List, [], ◌∷◌, ◌++◌, map, refl, ap, sym, ◌∙◌, subst, arith}
+use Rattle.std.specs.List.{AllByRecursion, Contains, find, flat_map, slice_get}
 use Rattle.std.specs.Option.{option_and_then, option_map, option_or, option_to_list}
 use Rattle.std.specs.Ordering.{is_eq}
 use Rattle.std.specs.declared.cmp.Ordering.{Ordering}
@@ -12,7 +12,6 @@ use Rattle.mesh_list.specs.Keyed.{found}
 use Rattle.mesh_values.specs.NameOrder.{names_exact, names_total}
 use Rattle.mesh_values.specs.Names.{name_cmp}
 use Rattle.mesh_values.specs.Picked.{same_text}
-use Rattle.mesh_values.specs.declared.values.Name.{Name}
 use Rattle.mesh_base.specs.Keys.{ref_cmp, ref_name, snapshot_ref}
 use Rattle.mesh_base.specs.declared.definitions.Own.{Own}
 use Rattle.mesh_base.specs.declared.forgets.Restate.{Restate}
@@ -24,11 +23,11 @@ use Rattle.mesh_rules.specs.Proper.{is_proper}
 use Rattle.mesh_book.specs.declared.book.Book.{Book}
 use Rattle.mesh_book.specs.WellFormed.{is_well_formed_book, snapshot_at}
 use Rattle.mesh_book.proofs.Exchanged.{found_key}
-use Rattle.mesh_scratch.specs.Closures.{Closure, Closures, Model, Alone, With, closures, each_of, own_of, with_parent}
+use Rattle.mesh_scratch.specs.Closures.{Closure, Closures, Model, Alone, With, closures, each_of, with_parent}
 use Rattle.mesh_scratch.specs.Horizons.{Clock}
 use Rattle.mesh_laws.proofs.Finding.{get_map, one_passes}
 use Rattle.mesh_laws.proofs.Has.{Has, Has_from}
-use Rattle.mesh_laws.proofs.Projects.{IsBefore, before_it, closures_there}
+use Rattle.mesh_laws.proofs.Projects.{before_it, closures_there}
 use Rattle.mesh_laws.proofs.ReadColumns.{text_is}
 use Rattle.mesh_listed.specs.Closing.{IsSnapshot, closing, parents_by}
 use Rattle.mesh_listed.proofs.Books.{fits, is_its_own, its_ref}
@@ -37,11 +36,10 @@ use Rattle.mesh_reuse.specs.Categories.{HasCategory}
 use Rattle.mesh_reuse.specs.Cores.{core, IsTwin}
 use Rattle.mesh_due.specs.Parts.{same_name}
 use Rattle.mesh_due.specs.Plans.{Planned}
-use Rattle.mesh_due.specs.Versions.{fresh, is_free, kept_object, node_ref, stays, table_name, version}
-use Rattle.mesh_changes.specs.Changes.{Plan, parents_in, planned_ref}
+use Rattle.mesh_due.specs.Versions.{fresh, is_free, kept_object, stays, table_name}
+use Rattle.mesh_changes.specs.Changes.{Plan, planned_ref}
 use Rattle.mesh_changes.specs.Planning.{HasNoClash, HasObject, IsPlan, compared, compared_list, stated, stated_new}
 use Rattle.mesh_reuse_laws.specs.Shared.{SharesWithTwins}
-use Rattle.mesh_reuse_laws.specs.Well.{AreWell}
 use Rattle.mesh_reuse_laws.proofs.Books.{snapshots_well}
 use Rattle.mesh_reuse_laws.proofs.Projects.{at_place, project_well_at}
 use Rattle.mesh_reuse_laws.proofs.Staying.{staying_twins}

@@ -1,5 +1,5 @@
 -- A core has the same horizon and schedule.
-use Rattle.std.proofs.Common.{◌≡◌, ℕ, ℤ, List, ◌++◌, refl, ap, sym}
+use Rattle.std.proofs.Common.{◌≡◌, ℕ, List, ◌++◌, refl, ap, sym}
 use Rattle.mesh_base.specs.declared.definitions.Own.{Own}
 use Rattle.mesh_scratch.specs.Closures.{Closure, Closures, Model, Alone, With, own_of}
 use Rattle.mesh_scratch.specs.Horizons.{Clock, with_horizon, horizon_under, horizons_from, horizons_of, horizon, units_from, schedule}

@@ -1,5 +1,5 @@
 -- The closures of proper projects and of well-formed books are well formed.
-use Rattle.std.proofs.Common.{◌≡◌, ℕ, zero, suc, ◌<◌, ◌≤◌, ◌&&◌, nat_eq, nat_le, Bool, true, false, inl, inr, List, [], ◌∷◌, ◌++◌, map, length, get_or, refl, ap, sym, ◌∙◌, subst, arith}
+use Rattle.std.proofs.Common.{◌≡◌, ℕ, zero, suc, ◌<◌, nat_eq, nat_le, true, inl, inr, List, [], ◌∷◌, ◌++◌, map, length, get_or, refl, ap, sym, ◌∙◌, subst, arith}
 use Rattle.std.specs.List.{All, flat_map, slice_get}
 use Rattle.std.specs.Option.{option_map, option_to_list}
 use Rattle.std.specs.declared.option.Option.{Option}
@@ -12,7 +12,6 @@ use Rattle.mesh_list.specs.Keyed.{ascends}
 use Rattle.mesh_base.specs.Outputs.{columns_of}
 use Rattle.mesh_base.specs.declared.definitions.Own.{Own}
 use Rattle.mesh_base.specs.declared.snapshots.Node.{Node}
-use Rattle.mesh_rules.specs.declared.relations.Parent.{Parent}
 use Rattle.mesh_rules.specs.Relations.{parent_relation, rank_over}
 use Rattle.mesh_rules.specs.Proper.{are_fit, are_places, have_distinct_names, is_fit, is_proper, is_well_formed, node_cmp, node_itself, parent_at, stands_on}
 use Rattle.mesh_rules.specs.Proper as proper

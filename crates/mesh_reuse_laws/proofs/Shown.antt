@@ -1,5 +1,5 @@
 -- A definition with fewer items shows what is wanted as the whole one does.
-use Rattle.std.proofs.Common.{◌≡◌, ℕ, Bool, true, false, cond, ◌||◌, List, [], ◌∷◌, ◌++◌, map, refl, ap, sym, ◌∙◌, subst}
+use Rattle.std.proofs.Common.{◌≡◌, Bool, true, false, cond, ◌||◌, List, [], ◌∷◌, ◌++◌, map, refl, ap, sym, ◌∙◌}
 use Rattle.std.specs.List.{filter, flat_map}
 use Rattle.std.specs.declared.option.Option.{Option}
 use Rattle.std.specs.declared.option.Option.TheVariants.{None, Some}
@@ -18,7 +18,7 @@ use Rattle.mesh_base.specs.declared.definitions.Own.{Own}
 use Rattle.mesh_base.specs.declared.jobs.Input.{Input}
 use Rattle.mesh_base.specs.declared.queries.Item.{Item}
 use Rattle.mesh_base.specs.declared.queries.Select.{Select}
-use Rattle.mesh_meaning.specs.Ev.{Scope, Ev}
+use Rattle.mesh_meaning.specs.Ev.{Ev}
 use Rattle.mesh_meaning.specs.Sel.{Joined, Group, holds, row_scope, row_holds, from_columns, from_rows, groups, group_scope, item_row, group_row, made_rows, union_rows, cte_inputs}
 use Rattle.mesh_scratch.specs.Scratch.{no_bounds, defn_rows, lies_by, is_of_unit, piece_over, rows_over, table_of}
 use Rattle.mesh_laws.specs.Cuts.{cut}
@@ -26,7 +26,7 @@ use Rattle.mesh_laws.proofs.ReadColumns.{Str, among, text_is, text_self}
 use Rattle.mesh_laws.proofs.Cutting.{later}
 use Rattle.mesh_laws.proofs.Lists.{Each}
 use Rattle.mesh_laws.proofs.Reading.{Row}
-use Rattle.mesh_reuse.specs.Cores.{is_time, is_wanted, pruned_select, pruned_selects, pruned_defn, pruned_own}
+use Rattle.mesh_reuse.specs.Cores.{is_time, is_wanted, pruned_selects, pruned_defn, pruned_own}
 
 -- a filter on what is made of elements
 filter_map : {X Y : Type 0} (f : X → Y) (p : X → Bool) (q : Y → Bool) → ((x : X) → p x ≡ q (f x)) → (xs : List X) → map f (filter p xs) ≡ filter q (map f xs)

@@ -1,6 +1,6 @@
 -- A table stays with twins.
-use Rattle.std.proofs.Common.{◌≡◌, Bool, true, false, List, ℕ, refl, subst}
-use Rattle.std.specs.declared.option.Option.TheVariants.{None, Some}
+use Rattle.std.proofs.Common.{◌≡◌, true, refl, subst}
+use Rattle.std.specs.declared.option.Option.TheVariants.{Some}
 use Rattle.mesh_values.specs.declared.kinds.Kind.{Kind}
 use Rattle.mesh_base.specs.declared.plans.Category.{Category}
 use Rattle.mesh_base.specs.declared.plans.Category.TheVariants.{Unchanged, Added, Breaking, NonBreaking, IndirectBreaking, IndirectNonBreaking}

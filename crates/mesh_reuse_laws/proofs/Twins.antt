@@ -1,6 +1,6 @@
 -- Compatible models of one definition have one core.
-use Rattle.std.proofs.Common.{◌≡◌, ℕ, Bool, true, false, cond, not, ◌&&◌, ◌||◌, ◌⊎◌, inl, inr, List, [], ◌∷◌, map, refl, ap, sym, ◌∙◌, subst}
-use Rattle.std.specs.List.{Contains, filter}
+use Rattle.std.proofs.Common.{◌≡◌, Bool, true, false, cond, not, ◌&&◌, ◌||◌, ◌⊎◌, inl, inr, List, [], ◌∷◌, refl, ap, sym, ◌∙◌, subst}
+use Rattle.std.specs.List.{filter}
 use Rattle.std.specs.declared.option.Option.{Option}
 use Rattle.mesh_values.specs.Kinds.{time_column}
 use Rattle.mesh_values.specs.Picked.{same_text}
@@ -12,11 +12,10 @@ use Rattle.mesh_base.specs.declared.definitions.Own.{Own}
 use Rattle.mesh_base.specs.declared.definitions.Reading.{Reading}
 use Rattle.mesh_base.specs.declared.expressions.Expr.{Expr}
 use Rattle.mesh_base.specs.declared.queries.Item.{Item}
-use Rattle.mesh_base.specs.declared.queries.Query.{Query}
 use Rattle.mesh_base.specs.declared.queries.Select.{Select}
 use Rattle.mesh_rules.specs.Seen.{has_column, are_distinct}
 use Rattle.mesh_scratch.specs.Closures.{Closure, Closures, Model, Alone, With, own_of}
-use Rattle.mesh_laws.specs.Reads.{reads, StandsIn, NamesColumn, IsSelectOf, IsRead}
+use Rattle.mesh_laws.specs.Reads.{reads, StandsIn, NamesColumn, IsRead}
 use Rattle.mesh_laws.proofs.Has.{Has, Has_from, Has_to, Has_filter_from}
 use Rattle.mesh_laws.proofs.Lists.{Each}
 use Rattle.mesh_laws.proofs.ReadColumns.{Str, among, text_is, text_self, of_one}
