@@ -20,3 +20,5 @@ pub mod Staying
 pub mod Sharing
 -- Given: the tables that the models of a plan are given are of twins.
 pub mod Given
+-- Examples: twins in a small project, worked out by hand.
+pub mod Examples
