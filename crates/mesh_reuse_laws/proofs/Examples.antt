@@ -1,7 +1,7 @@
 -- Twins in a small project, worked out by hand, and models that are none.
-use Rattle.std.proofs.Common.{◌≡◌, ℕ, zero, suc, pos, true, false, List, [], ◌∷◌, length, inl, inr, refl, ap, sym, ◌∙◌, arith}
+use Rattle.std.proofs.Common.{◌≡◌, ℕ, pos, true, false, List, [], ◌∷◌, length, inl, inr, refl, ap, sym, ◌∙◌, arith}
 use Rattle.std.specs.Prelude.{codes}
-use Rattle.std.specs.declared.option.Option.TheVariants.{None, Some}
+use Rattle.std.specs.declared.option.Option.TheVariants.{None}
 use Rattle.mesh_values.specs.Crons.{CronSets}
 use Rattle.mesh_values.specs.declared.kinds.Kind.TheVariants as kind
 use Rattle.mesh_values.specs.declared.times.Unit.TheVariants as unit
@@ -21,7 +21,7 @@ use Rattle.mesh_base.specs.declared.queries.Select.{Select}
 use Rattle.mesh_meaning.specs.Named.{Place, columns, columns_here, columns_when}
 use Rattle.mesh_scratch.specs.Closures.{Closure, Closures, Model, Alone, With, own_of}
 use Rattle.mesh_laws.specs.Reads.{reads}
-use Rattle.mesh_reuse.specs.Cores.{core, pruned, IsTwin}
+use Rattle.mesh_reuse.specs.Cores.{pruned, IsTwin}
 use Rattle.mesh_reuse.specs.Compatible.{IsAdditive, IsCompatible, keep, no_more, skip}
 
 abbrev every_day : CronSets

@@ -12,6 +12,7 @@ use Rattle.mesh_list.specs.Keyed.{found}
 use Rattle.mesh_values.specs.NameOrder.{names_exact, names_total}
 use Rattle.mesh_values.specs.Names.{name_cmp}
 use Rattle.mesh_values.specs.Picked.{same_text}
+use Rattle.mesh_values.specs.declared.values.Name.{Name}
 use Rattle.mesh_base.specs.Keys.{ref_cmp, ref_name, snapshot_ref}
 use Rattle.mesh_base.specs.declared.definitions.Own.{Own}
 use Rattle.mesh_base.specs.declared.forgets.Restate.{Restate}
@@ -36,16 +37,16 @@ use Rattle.mesh_reuse.specs.Categories.{HasCategory}
 use Rattle.mesh_reuse.specs.Cores.{core, IsTwin}
 use Rattle.mesh_due.specs.Parts.{same_name}
 use Rattle.mesh_due.specs.Plans.{Planned}
-use Rattle.mesh_due.specs.Versions.{fresh, is_free, kept_object, stays, table_name}
+use Rattle.mesh_due.specs.Versions.{fresh, is_free, kept_object, node_ref, stays, table_name}
 use Rattle.mesh_changes.specs.Changes.{Plan, planned_ref}
-use Rattle.mesh_changes.specs.Planning.{HasNoClash, HasObject, IsPlan, compared, compared_list, stated, stated_new}
+use Rattle.mesh_changes.specs.Planning.{HasNoClash, HasObject, IsKept, IsPlan, IsRunPlan, compared, compared_list, stated, stated_new}
 use Rattle.mesh_reuse_laws.specs.Shared.{SharesWithTwins}
 use Rattle.mesh_reuse_laws.proofs.Books.{snapshots_well}
 use Rattle.mesh_reuse_laws.proofs.Projects.{at_place, project_well_at}
 use Rattle.mesh_reuse_laws.proofs.Staying.{staying_twins}
 
 -- lists
-place_there : {X : Type 0} (xs : List X) (x : X) → Has x xs → (i : ℕ) × (slice_get xs i ≡ Some x)
+pub place_there : {X : Type 0} (xs : List X) (x : X) → Has x xs → (i : ℕ) × (slice_get xs i ≡ Some x)
 place_there [] x h = absurd h
 place_there (y ∷ xs) x (inl e) = (0, ap Some e)
 place_there (y ∷ xs) x (inr h) = let (i, e) = place_there xs x h in (suc i, e)
@@ -55,7 +56,7 @@ in_front [] rest i x e = absurd (cc)
 in_front (y ∷ front) rest zero x e = e
 in_front (y ∷ front) rest (suc i) x e = in_front front rest i x e
 
-each_at : {X : Type 0} (P : X → Type 0) (xs : List X) → AllByRecursion P xs → (i : ℕ) (x : X) → slice_get xs i ≡ Some x → P x
+pub each_at : {X : Type 0} (P : X → Type 0) (xs : List X) → AllByRecursion P xs → (i : ℕ) (x : X) → slice_get xs i ≡ Some x → P x
 each_at P [] h i x e = absurd (cc)
 each_at P (y ∷ xs) h zero x e = let same : y ≡ x = cc in subst P same h.0
 each_at P (y ∷ xs) h (suc i) x e = each_at P xs h.1 i x e
@@ -79,6 +80,14 @@ find_passes p (y ∷ xs) x e = go (p y) refl e (find_passes p xs x)
 mapped_there : {X Y : Type 0} (f : X → Y) (o : Option X) (y : Y) → option_map f o ≡ Some y → (x : X) × ((o ≡ Some x) × (f x ≡ y))
 mapped_there f None y e = absurd (cc)
 mapped_there f (Some x) y e = (x, (refl, (let same : f x ≡ y = cc in same)))
+
+-- what a model is compared with is a snapshot of the book, of the model's name
+pub compared_is : (b : Book) (env : List ℕ) (name : Name) (c : Snapshot) → compared b env name ≡ Some c → IsSnapshot b.snapshots c × (c.name ≡ name)
+compared_is b env name c f = go (found name_cmp ref_name name (compared_list b env)) refl f
+  where
+    go : (o : Option Ref) → found name_cmp ref_name name (compared_list b env) ≡ o → option_and_then (snapshot_at b.snapshots) o ≡ Some c → IsSnapshot b.snapshots c × (c.name ≡ name)
+    go None g h = absurd (cc)
+    go (Some r) g h = (is_its_own b.snapshots r c h, ap ref_name (its_ref b.snapshots r c h) ∙ found_key name_cmp ref_name names_exact name r (compared_list b env) g)
 
 -- parents are one list of closures
 as_each : (cs ds : Closures) → each_of cs ≡ each_of ds → cs ≡ ds
@@ -104,7 +113,7 @@ module _ (clock : Clock) (b : Book) (nodes : List Node) (restate : Option Restat
   abbrev closure : Planned → Closure
   closure p = p.closure
 
-  node_at : (i : ℕ) (p : Planned) → slice_get models i ≡ Some p → slice_get nodes i ≡ Some p.node
+  pub node_at : (i : ℕ) (p : Planned) → slice_get models i ≡ Some p → slice_get nodes i ≡ Some p.node
   node_at i p e = ap (λ l. slice_get l i) (sym is.models) ∙ get_map node models i ∙ ap (option_map node) e
 
   closure_at : (i : ℕ) (p : Planned) → slice_get models i ≡ Some p → slice_get (closures nodes) i ≡ Some p.closure
@@ -182,17 +191,10 @@ module _ (clock : Clock) (b : Book) (nodes : List Node) (restate : Option Restat
         let (names, twins) = shared s t known (is_its_own all (planned_ref p) t there) (share ∙ sym same) in
         (names ∙ ap ref_name (its_ref all (planned_ref p) t there), twins ∙ ap core (known_below (suc i) i (omega arith) p e t there))
 
-    beside_is : (c : Snapshot) → beside ≡ Some c → IsSnapshot all c × (c.name ≡ p.node.own.name)
-    beside_is c f = go (found name_cmp ref_name p.node.own.name (compared_list b plan.env)) refl f
-      where
-        go : (o : Option Ref) → found name_cmp ref_name p.node.own.name (compared_list b plan.env) ≡ o → option_and_then (snapshot_at all) o ≡ Some c → IsSnapshot all c × (c.name ≡ p.node.own.name)
-        go None g h = absurd (cc)
-        go (Some r) g h = (is_its_own all r c h, ap ref_name (its_ref all r c h) ∙ found_key name_cmp ref_name names_exact p.node.own.name r (compared_list b plan.env) g)
-
     -- or that of the snapshot that the model is compared with
     of_compared : (c : Snapshot) → beside ≡ Some c → c.object ≡ p.object → (category : Category) → HasCategory (option_map (stated b) beside) (stated_new p) category → stays category p.node.own.kind ≡ true → Goal
     of_compared c f same category has stay =
-        let (its, name) = beside_is c f in
+        let (its, name) = compared_is b plan.env p.node.own.name c f in
         let (names, twins) = shared s c known its (share ∙ sym same) in
         let as_stated : HasCategory (Some (stated b c)) (stated_new p) category = subst (λ o. HasCategory (option_map (stated b) o) (stated_new p) category) f has in
         (names ∙ name, twins ∙ staying_twins (stated b c) (stated_new p) category p.node.own.kind as_stated stay (snapshots_well b well c its) (project_well_at nodes proper i p.closure (closure_at i p e)))
@@ -220,7 +222,7 @@ module _ (clock : Clock) (b : Book) (nodes : List Node) (restate : Option Restat
         first false true h k = absurd (cc)
         first false false h k = absurd (cc)
 
-    given : Goal
+    pub given : Goal
     given = from_own (snapshot_at all (planned_ref p)) refl its.object
       where
         its : HasObject b plan.env p
@@ -239,3 +241,12 @@ module _ (clock : Clock) (b : Book) (nodes : List Node) (restate : Option Restat
 
   pub given_twins : SharesWithTwins b → (p : Planned) → Contains models p → (s : Snapshot) → IsSnapshot all s → s.object ≡ p.object → (s.name ≡ p.node.own.name) × IsTwin (closing all s) p.closure
   given_twins shared p h s known share = let (i, e) = place_there models p (Has_from models p h) in given shared i p e s known share
+
+-- the same of a run
+pub run_twins : (clock : Clock) (b : Book) (plan : Plan) → IsRunPlan clock b plan → SharesWithTwins b → (p : Planned) → Contains plan.models p → (s : Snapshot) → IsSnapshot b.snapshots s → s.object ≡ p.object
+    → (s.name ≡ p.node.own.name) × IsTwin (closing b.snapshots s) p.closure
+run_twins clock b plan is shared p h s known share =
+    let (i, e) = place_there plan.models p (Has_from plan.models p h) in
+    let kept = each_at (IsKept b) plan.models is.models i p e in
+    let (names, twins) = shared s kept.snapshot known (is_its_own b.snapshots (node_ref p.node) kept.snapshot kept.known) (share ∙ sym kept.object) in
+    (names ∙ ap ref_name (its_ref b.snapshots (node_ref p.node) kept.snapshot kept.known), twins ∙ ap core kept.closure)

@@ -20,5 +20,7 @@ pub mod Staying
 pub mod Sharing
 -- Given: the tables that the models of a plan are given are of twins.
 pub mod Given
+-- Single: no two models of a plan are given one table.
+pub mod Single
 -- Examples: twins in a small project, worked out by hand.
 pub mod Examples

@@ -1,5 +1,5 @@
 // What the core of a model keeps.
-ghost use Rattle.std.specs.Prelude.{◌≡◌, true, List, Some};
+ghost use Rattle.std.specs.Prelude.{◌≡◌, true, List, Some, length};
 ghost use Rattle.std.specs.declared.option.Option.{Option};
 ghost use Rattle.std.specs.List.{All, Contains};
 ghost use Rattle.mesh_base.specs.declared.jobs.Input.{Input};
@@ -22,7 +22,7 @@ ghost use Rattle.mesh_due.specs.Marks.{marks};
 ghost use Rattle.mesh_due.specs.Plans.{Planned};
 ghost use Rattle.mesh_due.specs.Versions.{stays};
 ghost use Rattle.mesh_changes.specs.Changes.{Plan};
-ghost use Rattle.mesh_changes.specs.Planning.{IsPlan};
+ghost use Rattle.mesh_changes.specs.Planning.{IsPlan, IsRunPlan};
 ghost use Rattle.mesh_reuse_laws.specs.Shared.{SharesWithTwins};
 ghost use Rattle.mesh_reuse_laws.specs.Well.{AreWell};
 
@@ -77,10 +77,19 @@ pub fn tables_stay_with_twins()
         AreWell old.closure → AreWell new.closure → IsTwin old.closure new.closure }
 {}
 
-/// Where snapshots of a book share a table only as twins, a plan keeps it so: each snapshot whose table a model of the plan
-/// is given is of a model of its name, and the two are twins.
+/// Where snapshots of a book share a table only as twins, each snapshot whose table a model of a plan is given is of a model
+/// of its name, and the two are twins: in a plan of a proper project, and in a run.
 pub fn given_tables_are_of_twins()
-    ensures { (clock : Clock) (b : Book) (nodes : List Node) (restate : Option Restate) (plan : Plan) → is_well_formed_book b ≡ true → is_proper nodes ≡ true → IsPlan clock b nodes restate plan →
+    ensures plan { (clock : Clock) (b : Book) (nodes : List Node) (restate : Option Restate) (plan : Plan) → is_well_formed_book b ≡ true → is_proper nodes ≡ true → IsPlan clock b nodes restate plan →
         SharesWithTwins b → (p : Planned) → Contains plan.models p → (s : Snapshot) → IsSnapshot b.snapshots s → s.object ≡ p.object →
         (s.name ≡ p.node.own.name) × IsTwin (closing b.snapshots s) p.closure }
+    ensures run { (clock : Clock) (b : Book) (plan : Plan) → IsRunPlan clock b plan → SharesWithTwins b → (p : Planned) → Contains plan.models p → (s : Snapshot) → IsSnapshot b.snapshots s → s.object ≡ p.object →
+        (s.name ≡ p.node.own.name) × IsTwin (closing b.snapshots s) p.closure }
+{}
+
+/// No two models of such a plan are given one table, where the fingerprints of the project have 32 bytes.
+pub fn no_table_is_given_twice()
+    ensures { (clock : Clock) (b : Book) (nodes : List Node) (restate : Option Restate) (plan : Plan) → is_well_formed_book b ≡ true → is_proper nodes ≡ true → IsPlan clock b nodes restate plan →
+        SharesWithTwins b → ((n : Node) → Contains nodes n → length n.fingerprint ≡ 32) →
+        (p q : Planned) → Contains plan.models p → Contains plan.models q → p.object ≡ q.object → p ≡ q }
 {}
