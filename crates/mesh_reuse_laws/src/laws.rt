@@ -1,4 +1,4 @@
-// What the core of a model keeps.
+// When a table may be used again.
 ghost use Rattle.std.specs.Prelude.{◌≡◌, true, List, Some, length};
 ghost use Rattle.std.specs.declared.option.Option.{Option};
 ghost use Rattle.std.specs.List.{All, Contains};

@@ -1,5 +1,6 @@
 //! Laws of reuse, each the contract of a function with an empty body: a model needs no more of its ancestors than its core
-//! has.
+//! has, models that are compatible and have one definition are twins, and a plan gives its models tables of twins alone.
+//! Its definitions are read in this order: `Well` and `Shared`. It stands on `mesh_reuse`, `mesh_listed` and `mesh_changes`.
 #![tactic(auto)]
 
 mod laws;
