@@ -42,24 +42,9 @@ use Rattle.mesh_changes.specs.Changes.{Plan, planned_ref}
 use Rattle.mesh_changes.specs.Planning.{HasNoClash, HasObject, IsKept, IsPlan, IsRunPlan, compared, compared_list, stated, stated_new}
 use Rattle.mesh_reuse_laws.specs.Shared.{SharesWithTwins}
 use Rattle.mesh_reuse_laws.proofs.Books.{snapshots_well}
-use Rattle.mesh_reuse_laws.proofs.Projects.{at_place, project_well_at}
+use Rattle.mesh_reuse_laws.proofs.Known.{closure_at, each_at, known_below, place_there}
+use Rattle.mesh_reuse_laws.proofs.Projects.{project_well_at}
 use Rattle.mesh_reuse_laws.proofs.Staying.{staying_twins}
-
--- lists
-pub place_there : {X : Type 0} (xs : List X) (x : X) → Has x xs → (i : ℕ) × (slice_get xs i ≡ Some x)
-place_there [] x h = absurd h
-place_there (y ∷ xs) x (inl e) = (0, ap Some e)
-place_there (y ∷ xs) x (inr h) = let (i, e) = place_there xs x h in (suc i, e)
-
-in_front : {X : Type 0} (front rest : List X) (i : ℕ) (x : X) → slice_get front i ≡ Some x → slice_get (front ++ rest) i ≡ Some x
-in_front [] rest i x e = absurd (cc)
-in_front (y ∷ front) rest zero x e = e
-in_front (y ∷ front) rest (suc i) x e = in_front front rest i x e
-
-pub each_at : {X : Type 0} (P : X → Type 0) (xs : List X) → AllByRecursion P xs → (i : ℕ) (x : X) → slice_get xs i ≡ Some x → P x
-each_at P [] h i x e = absurd (cc)
-each_at P (y ∷ xs) h zero x e = let same : y ≡ x = cc in subst P same h.0
-each_at P (y ∷ xs) h (suc i) x e = each_at P xs h.1 i x e
 
 found_there : {A K : Type 0} (R : K → K → Ordering) (key : A → K) (k : K) (x : A) (xs : List A) → found R key k xs ≡ Some x → Has x xs
 found_there R key k x [] e = absurd (cc)
@@ -77,10 +62,6 @@ find_passes p (y ∷ xs) x e = go (p y) refl e (find_passes p xs x)
     go true t e rest = let same : y ≡ x = cc in ap p (sym same) ∙ t
     go false t e rest = rest e
 
-mapped_there : {X Y : Type 0} (f : X → Y) (o : Option X) (y : Y) → option_map f o ≡ Some y → (x : X) × ((o ≡ Some x) × (f x ≡ y))
-mapped_there f None y e = absurd (cc)
-mapped_there f (Some x) y e = (x, (refl, (let same : f x ≡ y = cc in same)))
-
 -- what a model is compared with is a snapshot of the book, of the model's name
 pub compared_is : (b : Book) (env : List ℕ) (name : Name) (c : Snapshot) → compared b env name ≡ Some c → IsSnapshot b.snapshots c × (c.name ≡ name)
 compared_is b env name c f = go (found name_cmp ref_name name (compared_list b env)) refl f
@@ -88,16 +69,6 @@ compared_is b env name c f = go (found name_cmp ref_name name (compared_list b e
     go : (o : Option Ref) → found name_cmp ref_name name (compared_list b env) ≡ o → option_and_then (snapshot_at b.snapshots) o ≡ Some c → IsSnapshot b.snapshots c × (c.name ≡ name)
     go None g h = absurd (cc)
     go (Some r) g h = (is_its_own b.snapshots r c h, ap ref_name (its_ref b.snapshots r c h) ∙ found_key name_cmp ref_name names_exact name r (compared_list b env) g)
-
--- parents are one list of closures
-as_each : (cs ds : Closures) → each_of cs ≡ each_of ds → cs ≡ ds
-as_each Alone Alone e = refl
-as_each Alone (With d ds) e = absurd (cc)
-as_each (With c cs) Alone e = absurd (cc)
-as_each (With c cs) (With d ds) e =
-    let first : c ≡ d = cc in
-    let rest : each_of cs ≡ each_of ds = cc in
-    λ i. With (first i) (as_each cs ds rest i)
 
 module _ (clock : Clock) (b : Book) (nodes : List Node) (restate : Option Restate) (plan : Plan)
     (well : is_well_formed_book b ≡ true) (proper : is_proper nodes ≡ true) (is : IsPlan clock b nodes restate plan) where
@@ -107,76 +78,11 @@ module _ (clock : Clock) (b : Book) (nodes : List Node) (restate : Option Restat
   abbrev models : List Planned
   models = plan.models
 
-  abbrev node : Planned → Node
-  node p = p.node
-
-  abbrev closure : Planned → Closure
-  closure p = p.closure
-
-  pub node_at : (i : ℕ) (p : Planned) → slice_get models i ≡ Some p → slice_get nodes i ≡ Some p.node
-  node_at i p e = ap (λ l. slice_get l i) (sym is.models) ∙ get_map node models i ∙ ap (option_map node) e
-
-  closure_at : (i : ℕ) (p : Planned) → slice_get models i ≡ Some p → slice_get (closures nodes) i ≡ Some p.closure
-  closure_at i p e = ap (λ l. slice_get l i) (sym is.closed) ∙ get_map closure models i ∙ ap (option_map closure) e
-
-  model_at : (i : ℕ) (m : Node) → slice_get nodes i ≡ Some m → (q : Planned) × (slice_get models i ≡ Some q)
-  model_at i m e =
-      let (q, (there, same)) = mapped_there node (slice_get models i) m (sym (get_map node models i) ∙ ap (λ l. slice_get l i) is.models ∙ e) in
-      (q, there)
-
-  abbrev planned_at : List ℕ → List Planned
-  planned_at js = flat_map (λ i. option_to_list (slice_get models i)) js
-
-  -- a model at a place whose closure is that of its snapshot, where it has one
-  abbrev Same_at : ℕ → Type 0
-  Same_at j = (q : Planned) × ((slice_get models j ≡ Some q) × ((u : Snapshot) → snapshot_at all (planned_ref q) ≡ Some u → closing all u ≡ q.closure))
-
-  abbrev Kept : List Ref → Type 0
-  Kept refs = (r : Ref) → Has r refs → (u : Snapshot) × (snapshot_at all r ≡ Some u)
-
-  same_parents : (js : List ℕ) → ((j : ℕ) → Has j js → Same_at j) → Kept (map planned_ref (planned_at js))
-      → each_of (parents_by (closing all) all (map planned_ref (planned_at js))) ≡ flat_map (λ i. option_to_list (slice_get (closures nodes) i)) js
-  same_parents [] f g = refl
-  same_parents (j ∷ js) f g =
-      let (q, (e, c)) = f j (inl refl) in
-      let rest : List Ref = map planned_ref (planned_at js) in
-      let kept : Kept (planned_ref q ∷ rest) = subst (λ o. Kept (map planned_ref (option_to_list o ++ planned_at js))) e g in
-      let (u, known) = kept (planned_ref q) (inl refl) in
-      ap (λ o. each_of (parents_by (closing all) all (map planned_ref (option_to_list o ++ planned_at js)))) e
-      ∙ ap (λ o. each_of (with_parent (option_map (closing all) o) (parents_by (closing all) all rest))) known
-      ∙ (λ i. c u known i ∷ same_parents js (λ k h. f k (inr h)) (λ r h. kept r (inr h)) i)
-      ∙ sym (ap (λ o. option_to_list o ++ flat_map (λ i. option_to_list (slice_get (closures nodes) i)) js) (closure_at j q e))
-
   no_clash : (i : ℕ) (p : Planned) → slice_get models i ≡ Some p → HasNoClash b models p
   no_clash i p e = each_at (HasNoClash b models) models is.clashes i p e
 
-  -- a snapshot of a model's reference has its closure
-  one_known : (i : ℕ) (p : Planned) → slice_get models i ≡ Some p → ((j : ℕ) → j < i → (q : Planned) → slice_get models j ≡ Some q → (u : Snapshot) → snapshot_at all (planned_ref q) ≡ Some u → closing all u ≡ q.closure)
-      → (t : Snapshot) → snapshot_at all (planned_ref p) ≡ Some t → closing all t ≡ p.closure
-  one_known i p e rest t there =
-      let (before, (after, (whole, size))) = at_place nodes i p.node (node_at i p e) in
-      let (parents, here, are) = closures_there nodes proper before after p.node whole in
-      let both : Some (Model p.node.own parents) ≡ Some p.closure = sym here ∙ ap (slice_get (closures nodes)) size ∙ closure_at i p e in
-      let same : Model p.node.own parents ≡ p.closure = cc in
-      let its : IsSnapshot all t = is_its_own all (planned_ref p) t there in
-      let fit = fits b t well its in
-      let (own, refs) = (no_clash i p e).stored t its (ap (λ (r : Ref). r.fingerprint) (its_ref all (planned_ref p) t there)) in
-      let at : (j : ℕ) → Has j p.node.parents → Same_at j =
-      λ j h.
-      let (m, known, lower) = before_it nodes proper before after p.node whole j h in
-      let (q, f) = model_at j m (ap (λ l. slice_get l j) (sym whole) ∙ in_front before (p.node ∷ after) j m known) in
-      let inside = slice_get_within before j m known in
-      (q, (f, rest j (omega (arith, inside, size)) q f)) in
-      let kept : Kept (map planned_ref (planned_at p.node.parents)) =
-      subst Kept refs (λ r h. let parent = fit.parents r h in (parent.snapshot, parent.known)) in
-      let its_parents : parents_by (closing all) all t.parents ≡ parents =
-      ap (parents_by (closing all) all) refs
-      ∙ as_each (parents_by (closing all) all (map planned_ref (planned_at p.node.parents))) parents (same_parents p.node.parents at kept ∙ sym are) in
-      closing_is b well t its ∙ (λ i. Model (own i) (its_parents i)) ∙ same
-
-  known_below : (k i : ℕ) → i < k → (p : Planned) → slice_get models i ≡ Some p → (t : Snapshot) → snapshot_at all (planned_ref p) ≡ Some t → closing all t ≡ p.closure
-  known_below zero i l p e t there = absurd (omega (arith, l))
-  known_below (suc k) i l p e t there = one_known i p e (λ j less q f u it. known_below k j (omega (arith, l, less)) q f u it) t there
+  slice_closure : (i : ℕ) (p : Planned) → slice_get models i ≡ Some p → slice_get (closures nodes) i ≡ Some p.closure
+  slice_closure i p e = closure_at b well nodes proper models is.models is.closed (λ j q f. (no_clash j q f).stored) i p e
 
   module _ (shared : SharesWithTwins b) (i : ℕ) (p : Planned) (e : slice_get models i ≡ Some p) (s : Snapshot) (known : IsSnapshot all s) (share : s.object ≡ p.object) where
     abbrev Goal : Type 0
@@ -189,7 +95,7 @@ module _ (clock : Clock) (b : Book) (nodes : List Node) (restate : Option Restat
     of_own : (t : Snapshot) → snapshot_at all (planned_ref p) ≡ Some t → t.object ≡ p.object → Goal
     of_own t there same =
         let (names, twins) = shared s t known (is_its_own all (planned_ref p) t there) (share ∙ sym same) in
-        (names ∙ ap ref_name (its_ref all (planned_ref p) t there), twins ∙ ap core (known_below (suc i) i (omega arith) p e t there))
+        (names ∙ ap ref_name (its_ref all (planned_ref p) t there), twins ∙ ap core (known_below b well nodes proper models is.models is.closed (λ j q f. (no_clash j q f).stored) (suc i) i (omega arith) p e t there))
 
     -- or that of the snapshot that the model is compared with
     of_compared : (c : Snapshot) → beside ≡ Some c → c.object ≡ p.object → (category : Category) → HasCategory (option_map (stated b) beside) (stated_new p) category → stays category p.node.own.kind ≡ true → Goal
@@ -197,7 +103,7 @@ module _ (clock : Clock) (b : Book) (nodes : List Node) (restate : Option Restat
         let (its, name) = compared_is b plan.env p.node.own.name c f in
         let (names, twins) = shared s c known its (share ∙ sym same) in
         let as_stated : HasCategory (Some (stated b c)) (stated_new p) category = subst (λ o. HasCategory (option_map (stated b) o) (stated_new p) category) f has in
-        (names ∙ name, twins ∙ staying_twins (stated b c) (stated_new p) category p.node.own.kind as_stated stay (snapshots_well b well c its) (project_well_at nodes proper i p.closure (closure_at i p e)))
+        (names ∙ name, twins ∙ staying_twins (stated b c) (stated_new p) category p.node.own.kind as_stated stay (snapshots_well b well c its) (project_well_at nodes proper i p.closure (slice_closure i p e)))
 
     -- a fresh one is that of no other fingerprint, and so of the model's own snapshot
     of_fresh : snapshot_at all (planned_ref p) ≡ None → fresh all p.node.own.name p.node.fingerprint ≡ Some p.object → Goal

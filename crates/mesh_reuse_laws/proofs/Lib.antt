@@ -18,6 +18,8 @@ pub mod Books
 pub mod Staying
 -- Sharing: twins have the same rows, times and marks.
 pub mod Sharing
+-- Known: a stored snapshot of a model's reference has the model's closure.
+pub mod Known
 -- Given: the tables that the models of a plan are given are of twins.
 pub mod Given
 -- Single: no two models of a plan are given one table.

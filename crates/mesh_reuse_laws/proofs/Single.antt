@@ -29,9 +29,10 @@ use Rattle.mesh_listed.proofs.Books.{is_its_own}
 use Rattle.mesh_due.specs.Plans.{Planned}
 use Rattle.mesh_due.specs.Versions.{fresh, group, is_free, kept_object, stays, table_name}
 use Rattle.mesh_changes.specs.Changes.{Plan, planned_ref}
-use Rattle.mesh_changes.specs.Planning.{HasObject, IsPlan, compared}
+use Rattle.mesh_changes.specs.Planning.{HasNoClash, HasObject, IsPlan, compared}
 use Rattle.mesh_reuse_laws.specs.Shared.{SharesWithTwins}
-use Rattle.mesh_reuse_laws.proofs.Given.{compared_is, each_at, given, node_at, place_there}
+use Rattle.mesh_reuse_laws.proofs.Given.{compared_is, given}
+use Rattle.mesh_reuse_laws.proofs.Known.{each_at, node_at, place_there}
 
 -- lists that end in as many elements
 ends_alike : (xs ys us vs : List ℕ) → xs ++ us ≡ ys ++ vs → length us ≡ length vs → xs ≡ ys
@@ -154,7 +155,7 @@ module _ (clock : Clock) (b : Book) (nodes : List Node) (restate : Option Restat
         ∙ (given clock b nodes restate plan well proper is shared j q f s known (at ∙ share)).0
 
     its_size : (k : ℕ) (r : Planned) → slice_get plan.models k ≡ Some r → length r.node.fingerprint ≡ 32
-    its_size k r g = long r.node (there nodes k r.node (node_at clock b nodes restate plan well proper is k r g))
+    its_size k r g = long r.node (there nodes k r.node (node_at b well nodes proper plan.models is.models is.closed (λ j q f. (each_at (HasNoClash b plan.models) plan.models is.clashes j q f).stored) k r g))
       where
         there : (ns : List Node) (k : ℕ) (n : Node) → slice_get ns k ≡ Some n → Contains ns n
         there ns k n g = (k, slice_get_within ns k n g, get_or_from_slice_get ns k n n g)
@@ -176,7 +177,7 @@ module _ (clock : Clock) (b : Book) (nodes : List Node) (restate : Option Restat
         let c = and_parts (ascends node_cmp node_itself nodes) _ a.1 in
         let distinct : have_distinct_names nodes ≡ true = (and_parts (have_distinct_names nodes) (are_fit nodes nodes) c.1).0 in
         let place : i ≡ j =
-        one_place nodes distinct i j p.node q.node (node_at clock b nodes restate plan well proper is i p e) (node_at clock b nodes restate plan well proper is j q f) (one_name (origin p (its_object i p e)) (origin q (its_object j q f))) in
+        one_place nodes distinct i j p.node q.node (node_at b well nodes proper plan.models is.models is.closed (λ j q f. (each_at (HasNoClash b plan.models) plan.models is.clashes j q f).stored) i p e) (node_at b well nodes proper plan.models is.models is.closed (λ j q f. (each_at (HasNoClash b plan.models) plan.models is.clashes j q f).stored) j q f) (one_name (origin p (its_object i p e)) (origin q (its_object j q f))) in
         let both : Some p ≡ Some q = sym e ∙ ap (slice_get plan.models) place ∙ f in
         let same : p ≡ q = cc in
         same
