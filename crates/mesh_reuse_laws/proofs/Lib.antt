@@ -24,5 +24,7 @@ pub mod Known
 pub mod Given
 -- Single: no two models of a plan are given one table.
 pub mod Single
+-- Putting: putting the snapshots of a plan keeps tables for twins.
+pub mod Putting
 -- Examples: twins in a small project, worked out by hand.
 pub mod Examples

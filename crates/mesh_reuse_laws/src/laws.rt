@@ -1,5 +1,5 @@
 // When a table may be used again.
-ghost use Rattle.std.specs.Prelude.{◌≡◌, true, List, Some, length};
+ghost use Rattle.std.specs.Prelude.{◌≡◌, ℤ, true, List, Some, length};
 ghost use Rattle.std.specs.declared.option.Option.{Option};
 ghost use Rattle.std.specs.List.{All, Contains};
 ghost use Rattle.mesh_base.specs.declared.jobs.Input.{Input};
@@ -23,7 +23,7 @@ ghost use Rattle.mesh_due.specs.Plans.{Planned};
 ghost use Rattle.mesh_due.specs.Versions.{stays};
 ghost use Rattle.mesh_changes.specs.Changes.{Plan};
 ghost use Rattle.mesh_changes.specs.Planning.{IsPlan, IsRunPlan};
-ghost use Rattle.mesh_reuse_laws.specs.Shared.{SharesWithTwins};
+ghost use Rattle.mesh_reuse_laws.specs.Shared.{HasPut, SharesWithTwins};
 ghost use Rattle.mesh_reuse_laws.specs.Well.{AreWell};
 
 /// The core of a model has the model's horizon and the units of its schedule.
@@ -92,4 +92,11 @@ pub fn no_table_is_given_twice()
     ensures { (clock : Clock) (b : Book) (nodes : List Node) (restate : Option Restate) (plan : Plan) → is_well_formed_book b ≡ true → is_proper nodes ≡ true → IsPlan clock b nodes restate plan →
         SharesWithTwins b → ((n : Node) → Contains nodes n → length n.fingerprint ≡ 32) →
         (p q : Planned) → Contains plan.models p → Contains plan.models q → p.object ≡ q.object → p ≡ q }
+{}
+
+/// Putting the snapshots of such a plan, or of some of its models, keeps it so: also in the later book snapshots share a
+/// table only as twins.
+pub fn plans_keep_tables_for_twins()
+    ensures { (clock : Clock) (before after : Book) (nodes : List Node) (restate : Option Restate) (plan : Plan) (t : ℤ) → is_well_formed_book before ≡ true → is_proper nodes ≡ true → IsPlan clock before nodes restate plan →
+        SharesWithTwins before → ((n : Node) → Contains nodes n → length n.fingerprint ≡ 32) → is_well_formed_book after ≡ true → HasPut t plan.models before after → SharesWithTwins after }
 {}
