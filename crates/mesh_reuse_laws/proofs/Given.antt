@@ -95,7 +95,7 @@ module _ (clock : Clock) (b : Book) (nodes : List Node) (restate : Option Restat
     of_own : (t : Snapshot) → snapshot_at all (planned_ref p) ≡ Some t → t.object ≡ p.object → Goal
     of_own t there same =
         let (names, twins) = shared s t known (is_its_own all (planned_ref p) t there) (share ∙ sym same) in
-        (names ∙ ap ref_name (its_ref all (planned_ref p) t there), twins ∙ ap core (known_below b well nodes proper models is.models is.closed (λ j q f. (no_clash j q f).stored) (suc i) i (omega arith) p e t there))
+        (names ∙ ap ref_name (its_ref all (planned_ref p) t there), twins ∙ ap core (known_below b well nodes proper models is.models is.closed (λ j q f. (no_clash j q f).stored) (suc i) i (omega arith) p e t there).0)
 
     -- or that of the snapshot that the model is compared with
     of_compared : (c : Snapshot) → beside ≡ Some c → c.object ≡ p.object → (category : Category) → HasCategory (option_map (stated b) beside) (stated_new p) category → stays category p.node.own.kind ≡ true → Goal

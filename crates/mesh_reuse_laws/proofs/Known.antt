@@ -1,5 +1,5 @@
 -- A stored snapshot of a model's reference has the model's closure.
-use Rattle.std.proofs.Common.{◌≡◌, ℕ, zero, suc, ◌<◌, ◌||◌, not, Bool, true, false, cond, inl, inr, List, [], ◌∷◌, ◌++◌, map, refl, ap, sym, ◌∙◌, subst, arith}
+use Rattle.std.proofs.Common.{◌+◌, max, nat_eq, ◌≡◌, ℕ, zero, suc, ◌<◌, ◌||◌, not, Bool, true, false, cond, inl, inr, List, [], ◌∷◌, ◌++◌, map, refl, ap, sym, ◌∙◌, subst, arith}
 use Rattle.std.specs.List.{AllByRecursion, Contains, find, flat_map, slice_get}
 use Rattle.std.specs.Option.{option_and_then, option_map, option_or, option_to_list}
 use Rattle.std.specs.Ordering.{is_eq}
@@ -7,6 +7,7 @@ use Rattle.std.specs.declared.cmp.Ordering.{Ordering}
 use Rattle.std.specs.declared.option.Option.{Option}
 use Rattle.std.specs.declared.option.Option.TheVariants.{None, Some}
 use Rattle.std.proofs.lemmas.Cmp.{tied_itself}
+use Rattle.std.proofs.lemmas.Bool.{and_parts, eqb-true}
 use Rattle.std.proofs.lemmas.Option.{slice_get_within}
 use Rattle.mesh_list.specs.Keyed.{found}
 use Rattle.mesh_values.specs.NameOrder.{names_exact, names_total}
@@ -20,9 +21,12 @@ use Rattle.mesh_base.specs.declared.plans.Category.{Category}
 use Rattle.mesh_base.specs.declared.snapshots.Node.{Node}
 use Rattle.mesh_base.specs.declared.snapshots.Ref.{Ref}
 use Rattle.mesh_base.specs.declared.snapshots.Snapshot.{Snapshot}
-use Rattle.mesh_rules.specs.Proper.{is_proper}
+use Rattle.mesh_rules.specs.declared.relations.Parent.{Parent}
+use Rattle.mesh_rules.specs.Relations.{rank_over}
+use Rattle.mesh_rules.specs.Proper.{is_proper, is_well_formed, parent_at}
+use Rattle.mesh_rules.specs.Proper as proper_rules
 use Rattle.mesh_book.specs.declared.book.Book.{Book}
-use Rattle.mesh_book.specs.WellFormed.{is_well_formed_book, snapshot_at}
+use Rattle.mesh_book.specs.WellFormed.{is_well_formed_book, parents_of, rank_at, snapshot_at}
 use Rattle.mesh_book.proofs.Exchanged.{found_key}
 use Rattle.mesh_scratch.specs.Closures.{Closure, Closures, Model, Alone, With, closures, each_of, with_parent}
 use Rattle.mesh_scratch.specs.Horizons.{Clock}
@@ -42,7 +46,7 @@ use Rattle.mesh_changes.specs.Changes.{parents_in, planned_ref}
 use Rattle.mesh_changes.specs.Planning.{HasNoClash, HasObject, IsKept, IsPlan, IsRunPlan, compared, compared_list, stated, stated_new}
 use Rattle.mesh_reuse_laws.specs.Shared.{SharesWithTwins}
 use Rattle.mesh_reuse_laws.proofs.Books.{snapshots_well}
-use Rattle.mesh_reuse_laws.proofs.Projects.{at_place, project_well_at}
+use Rattle.mesh_reuse_laws.proofs.Projects.{at_place, its_rank}
 use Rattle.mesh_reuse_laws.proofs.Staying.{staying_twins}
 
 -- lists
@@ -75,6 +79,18 @@ as_each (With c cs) (With d ds) e =
     let rest : each_of cs ≡ each_of ds = cc in
     λ i. With (first i) (as_each cs ds rest i)
 
+-- the least rank above some
+abbrev over : ℕ → List ℕ → ℕ
+over rank [] = rank
+over rank (r ∷ rs) = over (max rank (r + 1)) rs
+
+abbrev parent_rank : Parent → ℕ
+parent_rank p = p.rank
+
+over_ranks : (rank : ℕ) (ps : List Parent) → rank_over rank ps ≡ over rank (map parent_rank ps)
+over_ranks rank [] = refl
+over_ranks rank (p ∷ ps) = over_ranks (max rank (p.rank + 1)) ps
+
 -- The models of a project with their closures, and a book in which a fingerprint of one of them stands for it alone.
 module _ (b : Book) (well : is_well_formed_book b ≡ true) (nodes : List Node) (proper : is_proper nodes ≡ true) (models : List Planned)
     (made : map (λ (p : Planned). p.node) models ≡ nodes) (closed : map (λ (p : Planned). p.closure) models ≡ closures nodes)
@@ -102,9 +118,13 @@ module _ (b : Book) (well : is_well_formed_book b ≡ true) (nodes : List Node) 
   abbrev planned_at : List ℕ → List Planned
   planned_at js = flat_map (λ i. option_to_list (slice_get models i)) js
 
-  -- a model at a place whose closure is that of its snapshot, where it has one
+  -- a model's snapshot has its closure and its rank
+  abbrev pub IsSame : Planned → Snapshot → Type 0
+  IsSame q u = (closing all u ≡ q.closure) × (u.rank ≡ q.node.rank)
+
+  -- a model at a place, where it has a snapshot
   abbrev Same_at : ℕ → Type 0
-  Same_at j = (q : Planned) × ((slice_get models j ≡ Some q) × ((u : Snapshot) → snapshot_at all (planned_ref q) ≡ Some u → closing all u ≡ q.closure))
+  Same_at j = (q : Planned) × ((slice_get models j ≡ Some q) × ((u : Snapshot) → snapshot_at all (planned_ref q) ≡ Some u → IsSame q u))
 
   abbrev Kept : List Ref → Type 0
   Kept refs = (r : Ref) → Has r refs → (u : Snapshot) × (snapshot_at all r ≡ Some u)
@@ -119,12 +139,22 @@ module _ (b : Book) (well : is_well_formed_book b ≡ true) (nodes : List Node) 
       let (u, known) = kept (planned_ref q) (inl refl) in
       ap (λ o. each_of (parents_by (closing all) all (map planned_ref (option_to_list o ++ planned_at js)))) e
       ∙ ap (λ o. each_of (with_parent (option_map (closing all) o) (parents_by (closing all) all rest))) known
-      ∙ (λ i. c u known i ∷ same_parents js (λ k h. f k (inr h)) (λ r h. kept r (inr h)) i)
+      ∙ (λ i. (c u known).0 i ∷ same_parents js (λ k h. f k (inr h)) (λ r h. kept r (inr h)) i)
       ∙ sym (ap (λ o. option_to_list o ++ flat_map (λ i. option_to_list (slice_get (closures nodes) i)) js) (closure_at j q e))
 
-  -- a snapshot of a model's reference has its closure
-  one_known : (i : ℕ) (p : Planned) → slice_get models i ≡ Some p → ((j : ℕ) → j < i → (q : Planned) → slice_get models j ≡ Some q → (u : Snapshot) → snapshot_at all (planned_ref q) ≡ Some u → closing all u ≡ q.closure)
-      → (t : Snapshot) → snapshot_at all (planned_ref p) ≡ Some t → closing all t ≡ p.closure
+  same_ranks : (js : List ℕ) → ((j : ℕ) → Has j js → Same_at j) → Kept (map planned_ref (planned_at js)) → map parent_rank (parents_of all (map planned_ref (planned_at js))) ≡ map parent_rank (proper_rules.parents_at nodes js)
+  same_ranks [] f g = refl
+  same_ranks (j ∷ js) f g =
+      let (q, (e, c)) = f j (inl refl) in
+      let kept : Kept (planned_ref q ∷ map planned_ref (planned_at js)) = subst (λ o. Kept (map planned_ref (option_to_list o ++ planned_at js))) e g in
+      let (u, known) = kept (planned_ref q) (inl refl) in
+      ap (λ o. map parent_rank (parents_of all (map planned_ref (option_to_list o ++ planned_at js)))) e
+      ∙ (λ i. (ap rank_at known ∙ (c u known).1) i ∷ same_ranks js (λ k h. f k (inr h)) (λ r h. kept r (inr h)) i)
+      ∙ sym (ap (λ o. map parent_rank (parent_at o ++ proper_rules.parents_at nodes js)) (node_at j q e))
+
+  -- a snapshot of a model's reference has its closure and its rank
+  one_known : (i : ℕ) (p : Planned) → slice_get models i ≡ Some p → ((j : ℕ) → j < i → (q : Planned) → slice_get models j ≡ Some q → (u : Snapshot) → snapshot_at all (planned_ref q) ≡ Some u → IsSame q u)
+      → (t : Snapshot) → snapshot_at all (planned_ref p) ≡ Some t → IsSame p t
   one_known i p e rest t there =
       let (before, (after, (whole, size))) = at_place nodes i p.node (node_at i p e) in
       let (parents, here, are) = closures_there nodes proper before after p.node whole in
@@ -144,8 +174,16 @@ module _ (b : Book) (well : is_well_formed_book b ≡ true) (nodes : List Node) 
       let its_parents : parents_by (closing all) all t.parents ≡ parents =
       ap (parents_by (closing all) all) refs
       ∙ as_each (parents_by (closing all) all (map planned_ref (planned_at p.node.parents))) parents (same_parents p.node.parents at kept ∙ sym are) in
-      closing_is b well t its ∙ (λ i. Model (own i) (its_parents i)) ∙ same
+      let stands = (and_parts (nat_eq t.rank (rank_over 0 (parents_of all t.parents))) (is_well_formed (parents_of all t.parents) t.own) fit.stands).0 in
+      let rank : t.rank ≡ p.node.rank =
+      eqb-true t.rank (rank_over 0 (parents_of all t.parents)) stands
+      ∙ ap (λ l. rank_over 0 (parents_of all l)) refs
+      ∙ over_ranks 0 (parents_of all (map planned_ref (planned_at p.node.parents)))
+      ∙ ap (over 0) (same_ranks p.node.parents at kept)
+      ∙ sym (over_ranks 0 (proper_rules.parents_at nodes p.node.parents))
+      ∙ sym (its_rank nodes proper before after p.node whole) in
+      (closing_is b well t its ∙ (λ i. Model (own i) (its_parents i)) ∙ same, rank)
 
-  pub known_below : (k i : ℕ) → i < k → (p : Planned) → slice_get models i ≡ Some p → (t : Snapshot) → snapshot_at all (planned_ref p) ≡ Some t → closing all t ≡ p.closure
+  pub known_below : (k i : ℕ) → i < k → (p : Planned) → slice_get models i ≡ Some p → (t : Snapshot) → snapshot_at all (planned_ref p) ≡ Some t → IsSame p t
   known_below zero i l p e t there = absurd (omega (arith, l))
   known_below (suc k) i l p e t there = one_known i p e (λ j less q f u it. known_below k j (omega (arith, l, less)) q f u it) t there

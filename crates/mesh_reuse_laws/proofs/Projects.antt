@@ -4,7 +4,7 @@ use Rattle.std.specs.List.{All, flat_map, slice_get}
 use Rattle.std.specs.Option.{option_map, option_to_list}
 use Rattle.std.specs.declared.option.Option.{Option}
 use Rattle.std.specs.declared.option.Option.TheVariants.{None, Some}
-use Rattle.std.proofs.lemmas.Bool.{and_parts}
+use Rattle.std.proofs.lemmas.Bool.{and_parts, eqb-true}
 use Rattle.std.proofs.lemmas.List.{map-append}
 use Rattle.std.proofs.lemmas.List.Elements.{All-nil, All-cons, All-append}
 use Rattle.std.proofs.lemmas.Option.{slice_get_within}
@@ -71,11 +71,19 @@ module _ (nodes : List Node) (h : is_proper nodes ≡ true) where
       (and_parts (have_distinct_names nodes) (are_fit nodes nodes) b.1).1
 
   module _ (before after : List Node) (n : Node) (whole : before ++ n ∷ after ≡ nodes) where
-    its_rules : is_well_formed (proper.parents_at nodes n.parents) n.own ≡ true
-    its_rules =
+    its_stand : stands_on (proper.parents_at nodes n.parents) n.rank n.own ≡ true
+    its_stand =
         let rules : is_fit nodes n ≡ true = one_passes (is_fit nodes) nodes n fits (subst (Has n) whole (Has_right n before (n ∷ after) (inl refl))) in
-        let stands = (and_parts (are_places nodes n.parents) (stands_on (proper.parents_at nodes n.parents) n.rank n.own) rules).1 in
-        (and_parts (nat_eq n.rank (rank_over 0 (proper.parents_at nodes n.parents))) (is_well_formed (proper.parents_at nodes n.parents) n.own) stands).1
+        (and_parts (are_places nodes n.parents) (stands_on (proper.parents_at nodes n.parents) n.rank n.own) rules).1
+
+    its_parts : (nat_eq n.rank (rank_over 0 (proper.parents_at nodes n.parents)) ≡ true) × (is_well_formed (proper.parents_at nodes n.parents) n.own ≡ true)
+    its_parts = and_parts (nat_eq n.rank (rank_over 0 (proper.parents_at nodes n.parents))) (is_well_formed (proper.parents_at nodes n.parents) n.own) its_stand
+
+    its_rules : is_well_formed (proper.parents_at nodes n.parents) n.own ≡ true
+    its_rules = its_parts.1
+
+    pub its_rank : n.rank ≡ rank_over 0 (proper.parents_at nodes n.parents)
+    its_rank = eqb-true n.rank (rank_over 0 (proper.parents_at nodes n.parents)) its_parts.0
 
     -- the closure at a place is well where those at places before it are
     here : ((j : ℕ) → j < length before → (c : Closure) → slice_get all j ≡ Some c → AreWell c) → (c : Closure) → slice_get all (length before) ≡ Some c → AreWell c

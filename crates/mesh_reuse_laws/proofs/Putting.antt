@@ -54,7 +54,7 @@ module _ (clock : Clock) (before after : Book) (nodes : List Node) (restate : Op
   new_closing s known p h is_p =
       let (i, e) = place_there models p (Has_from models p h) in
       let there : snapshot_at after.snapshots (planned_ref p) ≡ Some s = ap (λ u. snapshot_at after.snapshots (snapshot_ref u)) (sym is_p) ∙ known in
-      known_below after well_after nodes proper models is.models is.closed stored (suc i) i (omega arith) p e s there
+      (known_below after well_after nodes proper models is.models is.closed stored (suc i) i (omega arith) p e s there).0
 
   abbrev Goal : Snapshot → Snapshot → Type 0
   Goal s s' = (s.name ≡ s'.name) × IsTwin (closing after.snapshots s) (closing after.snapshots s')
