@@ -1,13 +1,12 @@
 -- The tables that the models of a plan are given are of twins.
-use Rattle.std.proofs.Common.{◌≡◌, ℕ, zero, suc, ◌<◌, ◌||◌, not, Bool, true, false, cond, inl, inr, List, [], ◌∷◌, ◌++◌, map, refl, ap, sym, ◌∙◌, subst, arith}
-use Rattle.std.specs.List.{AllByRecursion, Contains, find, flat_map, slice_get}
-use Rattle.std.specs.Option.{option_and_then, option_map, option_or, option_to_list}
+use Rattle.std.proofs.Common.{◌≡◌, ℕ, suc, ◌||◌, not, Bool, true, false, cond, inl, inr, List, [], ◌∷◌, map, refl, ap, sym, ◌∙◌, subst, arith}
+use Rattle.std.specs.List.{Contains, find, slice_get}
+use Rattle.std.specs.Option.{option_and_then, option_map, option_or}
 use Rattle.std.specs.Ordering.{is_eq}
 use Rattle.std.specs.declared.cmp.Ordering.{Ordering}
 use Rattle.std.specs.declared.option.Option.{Option}
 use Rattle.std.specs.declared.option.Option.TheVariants.{None, Some}
 use Rattle.std.proofs.lemmas.Cmp.{tied_itself}
-use Rattle.std.proofs.lemmas.Option.{slice_get_within}
 use Rattle.mesh_list.specs.Keyed.{found}
 use Rattle.mesh_values.specs.NameOrder.{names_exact, names_total}
 use Rattle.mesh_values.specs.Names.{name_cmp}
@@ -24,15 +23,13 @@ use Rattle.mesh_rules.specs.Proper.{is_proper}
 use Rattle.mesh_book.specs.declared.book.Book.{Book}
 use Rattle.mesh_book.specs.WellFormed.{is_well_formed_book, snapshot_at}
 use Rattle.mesh_book.proofs.Exchanged.{found_key}
-use Rattle.mesh_scratch.specs.Closures.{Closure, Closures, Model, Alone, With, closures, each_of, with_parent}
+use Rattle.mesh_scratch.specs.Closures.{closures}
 use Rattle.mesh_scratch.specs.Horizons.{Clock}
-use Rattle.mesh_laws.proofs.Finding.{get_map, one_passes}
+use Rattle.mesh_laws.proofs.Finding.{one_passes}
 use Rattle.mesh_laws.proofs.Has.{Has, Has_from}
-use Rattle.mesh_laws.proofs.Projects.{before_it, closures_there}
 use Rattle.mesh_laws.proofs.ReadColumns.{text_is}
-use Rattle.mesh_listed.specs.Closing.{IsSnapshot, closing, parents_by}
+use Rattle.mesh_listed.specs.Closing.{IsSnapshot, closing}
 use Rattle.mesh_listed.proofs.Books.{fits, is_its_own, its_ref}
-use Rattle.mesh_listed.proofs.Depths.{closing_is}
 use Rattle.mesh_reuse.specs.Categories.{HasCategory}
 use Rattle.mesh_reuse.specs.Cores.{core, IsTwin}
 use Rattle.mesh_due.specs.Parts.{same_name}

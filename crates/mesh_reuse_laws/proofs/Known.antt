@@ -1,23 +1,11 @@
 -- A stored snapshot of a model's reference has the model's closure.
-use Rattle.std.proofs.Common.{◌+◌, max, nat_eq, ◌≡◌, ℕ, zero, suc, ◌<◌, ◌||◌, not, Bool, true, false, cond, inl, inr, List, [], ◌∷◌, ◌++◌, map, refl, ap, sym, ◌∙◌, subst, arith}
-use Rattle.std.specs.List.{AllByRecursion, Contains, find, flat_map, slice_get}
-use Rattle.std.specs.Option.{option_and_then, option_map, option_or, option_to_list}
-use Rattle.std.specs.Ordering.{is_eq}
-use Rattle.std.specs.declared.cmp.Ordering.{Ordering}
+use Rattle.std.proofs.Common.{◌+◌, max, nat_eq, ◌≡◌, ℕ, zero, suc, ◌<◌, true, inl, inr, List, [], ◌∷◌, ◌++◌, map, refl, ap, sym, ◌∙◌, subst, arith}
+use Rattle.std.specs.List.{AllByRecursion, flat_map, slice_get}
+use Rattle.std.specs.Option.{option_map, option_to_list}
 use Rattle.std.specs.declared.option.Option.{Option}
 use Rattle.std.specs.declared.option.Option.TheVariants.{None, Some}
-use Rattle.std.proofs.lemmas.Cmp.{tied_itself}
 use Rattle.std.proofs.lemmas.Bool.{and_parts, eqb-true}
 use Rattle.std.proofs.lemmas.Option.{slice_get_within}
-use Rattle.mesh_list.specs.Keyed.{found}
-use Rattle.mesh_values.specs.NameOrder.{names_exact, names_total}
-use Rattle.mesh_values.specs.Names.{name_cmp}
-use Rattle.mesh_values.specs.Picked.{same_text}
-use Rattle.mesh_values.specs.declared.values.Name.{Name}
-use Rattle.mesh_base.specs.Keys.{ref_cmp, ref_name, snapshot_ref}
-use Rattle.mesh_base.specs.declared.definitions.Own.{Own}
-use Rattle.mesh_base.specs.declared.forgets.Restate.{Restate}
-use Rattle.mesh_base.specs.declared.plans.Category.{Category}
 use Rattle.mesh_base.specs.declared.snapshots.Node.{Node}
 use Rattle.mesh_base.specs.declared.snapshots.Ref.{Ref}
 use Rattle.mesh_base.specs.declared.snapshots.Snapshot.{Snapshot}
@@ -27,27 +15,16 @@ use Rattle.mesh_rules.specs.Proper.{is_proper, is_well_formed, parent_at}
 use Rattle.mesh_rules.specs.Proper as proper_rules
 use Rattle.mesh_book.specs.declared.book.Book.{Book}
 use Rattle.mesh_book.specs.WellFormed.{is_well_formed_book, parents_of, rank_at, snapshot_at}
-use Rattle.mesh_book.proofs.Exchanged.{found_key}
 use Rattle.mesh_scratch.specs.Closures.{Closure, Closures, Model, Alone, With, closures, each_of, with_parent}
-use Rattle.mesh_scratch.specs.Horizons.{Clock}
-use Rattle.mesh_laws.proofs.Finding.{get_map, one_passes}
-use Rattle.mesh_laws.proofs.Has.{Has, Has_from}
+use Rattle.mesh_laws.proofs.Finding.{get_map}
+use Rattle.mesh_laws.proofs.Has.{Has}
 use Rattle.mesh_laws.proofs.Projects.{before_it, closures_there}
-use Rattle.mesh_laws.proofs.ReadColumns.{text_is}
 use Rattle.mesh_listed.specs.Closing.{IsSnapshot, closing, parents_by}
 use Rattle.mesh_listed.proofs.Books.{fits, is_its_own, its_ref}
 use Rattle.mesh_listed.proofs.Depths.{closing_is}
-use Rattle.mesh_reuse.specs.Categories.{HasCategory}
-use Rattle.mesh_reuse.specs.Cores.{core, IsTwin}
-use Rattle.mesh_due.specs.Parts.{same_name}
 use Rattle.mesh_due.specs.Plans.{Planned}
-use Rattle.mesh_due.specs.Versions.{fresh, is_free, kept_object, node_ref, stays, table_name}
 use Rattle.mesh_changes.specs.Changes.{parents_in, planned_ref}
-use Rattle.mesh_changes.specs.Planning.{HasNoClash, HasObject, IsKept, IsPlan, IsRunPlan, compared, compared_list, stated, stated_new}
-use Rattle.mesh_reuse_laws.specs.Shared.{SharesWithTwins}
-use Rattle.mesh_reuse_laws.proofs.Books.{snapshots_well}
 use Rattle.mesh_reuse_laws.proofs.Projects.{at_place, its_rank}
-use Rattle.mesh_reuse_laws.proofs.Staying.{staying_twins}
 
 -- lists
 pub place_there : {X : Type 0} (xs : List X) (x : X) → Has x xs → (i : ℕ) × (slice_get xs i ≡ Some x)

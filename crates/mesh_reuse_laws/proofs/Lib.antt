@@ -24,6 +24,8 @@ pub mod Known
 pub mod Given
 -- Single: no two models of a plan are given one table.
 pub mod Single
+-- Puts: what putting the snapshots of some models of a plan makes of a book.
+pub mod Puts
 -- Putting: putting the snapshots of a plan keeps tables for twins.
 pub mod Putting
 -- Examples: twins in a small project, worked out by hand.

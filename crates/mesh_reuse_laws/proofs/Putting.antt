@@ -1,18 +1,15 @@
 -- Putting the snapshots of a plan keeps tables for twins.
-use Rattle.std.proofs.Common.{◌≡◌, ℕ, ℤ, suc, true, ◌⊎◌, inl, inr, List, map, length, refl, ap, sym, ◌∙◌, subst, arith}
+use Rattle.std.proofs.Common.{◌≡◌, ℕ, ℤ, suc, true, ◌⊎◌, inl, inr, List, map, length, refl, ap, sym, ◌∙◌, arith}
 use Rattle.std.specs.List.{Contains, slice_get}
 use Rattle.std.specs.declared.option.Option.{Option}
-use Rattle.std.specs.declared.option.Option.TheVariants.{None, Some}
+use Rattle.std.specs.declared.option.Option.TheVariants.{Some}
 use Rattle.mesh_base.specs.Keys.{snapshot_ref}
-use Rattle.mesh_base.specs.declared.definitions.Own.{Own}
 use Rattle.mesh_base.specs.declared.forgets.Restate.{Restate}
 use Rattle.mesh_base.specs.declared.snapshots.Node.{Node}
-use Rattle.mesh_base.specs.declared.snapshots.Ref.{Ref}
 use Rattle.mesh_base.specs.declared.snapshots.Snapshot.{Snapshot}
 use Rattle.mesh_rules.specs.Proper.{is_proper}
 use Rattle.mesh_book.specs.declared.book.Book.{Book}
 use Rattle.mesh_book.specs.WellFormed.{is_well_formed_book, snapshot_at}
-use Rattle.mesh_scratch.specs.Closures.{Closure}
 use Rattle.mesh_scratch.specs.Horizons.{Clock}
 use Rattle.mesh_laws.proofs.Has.{Has_from}
 use Rattle.mesh_listed.specs.Closing.{IsSnapshot, closing}

@@ -1,7 +1,7 @@
 // When a table may be used again.
-ghost use Rattle.std.specs.Prelude.{◌≡◌, ℤ, true, List, Some, length};
+ghost use Rattle.std.specs.Prelude.{◌≡◌, ℤ, true, List, Some, length, map};
 ghost use Rattle.std.specs.declared.option.Option.{Option};
-ghost use Rattle.std.specs.List.{All, Contains};
+ghost use Rattle.std.specs.List.{All, Contains, fold};
 ghost use Rattle.mesh_base.specs.declared.jobs.Input.{Input};
 ghost use Rattle.mesh_base.specs.declared.forgets.Restate.{Restate};
 ghost use Rattle.mesh_base.specs.declared.plans.Category.{Category};
@@ -9,6 +9,7 @@ ghost use Rattle.mesh_base.specs.declared.snapshots.Node.{Node};
 ghost use Rattle.mesh_base.specs.declared.snapshots.Snapshot.{Snapshot};
 ghost use Rattle.mesh_rules.specs.Proper.{is_proper};
 ghost use Rattle.mesh_book.specs.declared.book.Book.{Book};
+ghost use Rattle.mesh_book.specs.Changes.{put_snapshot};
 ghost use Rattle.mesh_book.specs.WellFormed.{is_well_formed_book};
 ghost use Rattle.mesh_listed.specs.Closing.{IsSnapshot, closing};
 ghost use Rattle.mesh_values.specs.declared.times.Bounds.{Bounds};
@@ -21,7 +22,7 @@ ghost use Rattle.mesh_reuse.specs.Compatible.{IsCompatible};
 ghost use Rattle.mesh_due.specs.Marks.{marks};
 ghost use Rattle.mesh_due.specs.Plans.{Planned};
 ghost use Rattle.mesh_due.specs.Versions.{stays};
-ghost use Rattle.mesh_changes.specs.Changes.{Plan};
+ghost use Rattle.mesh_changes.specs.Changes.{Plan, snapshot_of};
 ghost use Rattle.mesh_changes.specs.Planning.{IsPlan, IsRunPlan};
 ghost use Rattle.mesh_reuse_laws.specs.Shared.{HasPut, SharesWithTwins};
 ghost use Rattle.mesh_reuse_laws.specs.Well.{AreWell};
@@ -94,9 +95,12 @@ pub fn no_table_is_given_twice()
         (p q : Planned) → Contains plan.models p → Contains plan.models q → p.object ≡ q.object → p ≡ q }
 {}
 
-/// Putting the snapshots of such a plan, or of some of its models, keeps it so: also in the later book snapshots share a
-/// table only as twins.
+/// Putting the snapshots of such a plan, or of some of its models, makes a book that has those of the book before, with their
+/// definitions, parents and ranks, and beside them only the ones that are put. Where it is well formed, its snapshots too
+/// share a table only as twins.
 pub fn plans_keep_tables_for_twins()
-    ensures { (clock : Clock) (before after : Book) (nodes : List Node) (restate : Option Restate) (plan : Plan) (t : ℤ) → is_well_formed_book before ≡ true → is_proper nodes ≡ true → IsPlan clock before nodes restate plan →
+    ensures put { (clock : Clock) (before : Book) (nodes : List Node) (restate : Option Restate) (plan : Plan) (t : ℤ) → is_well_formed_book before ≡ true → is_proper nodes ≡ true → IsPlan clock before nodes restate plan →
+        (some : List Planned) → ((p : Planned) → Contains some p → Contains plan.models p) → HasPut t plan.models before (fold put_snapshot before (map (snapshot_of t plan.models) some)) }
+    ensures shared { (clock : Clock) (before after : Book) (nodes : List Node) (restate : Option Restate) (plan : Plan) (t : ℤ) → is_well_formed_book before ≡ true → is_proper nodes ≡ true → IsPlan clock before nodes restate plan →
         SharesWithTwins before → ((n : Node) → Contains nodes n → length n.fingerprint ≡ 32) → is_well_formed_book after ≡ true → HasPut t plan.models before after → SharesWithTwins after }
 {}
