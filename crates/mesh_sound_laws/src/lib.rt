@@ -1,0 +1,11 @@
+//! Laws on the way to the promise of `mesh_sound`: that a world stays well kept where a kind of change is made as a command
+//! makes it.
+#![tactic(auto)]
+
+mod laws;
+
+pub use laws::{
+    deleting_an_environment_keeps_the_world_sound, dropping_a_view_keeps_the_world_sound,
+    expiring_an_environment_keeps_the_world_sound, finalizing_keeps_the_world_sound,
+    setting_an_environment_pending_keeps_the_world_sound,
+};
