@@ -8,3 +8,11 @@ pub mod EnvLaws
 pub mod Pending
 -- ViewGone: a view goes.
 pub mod ViewGone
+-- Recorded: what is recorded of one version changes.
+pub mod Recorded
+-- Forgetting: units and marks are forgotten.
+pub mod Forgetting
+-- VersionGone: a version is forgotten.
+pub mod VersionGone
+-- ObjectGone: an object goes.
+pub mod ObjectGone

@@ -1,22 +1,30 @@
 // What the definitions give.
-ghost use Rattle.std.specs.Prelude.{◌≡◌, ℕ, ℤ, List, Some, None, true};
-ghost use Rattle.std.specs.List.{Contains};
+ghost use Rattle.std.specs.Prelude.{◌≡◌, ℕ, ℤ, List, [], ◌∷◌, Some, None, true, false};
+ghost use Rattle.std.specs.List.{All, Contains};
 ghost use Rattle.std.specs.Option.{ForSome};
 ghost use Rattle.std.specs.declared.option.Option.{Option};
+ghost use Rattle.mesh_values.specs.declared.kinds.Kind.TheVariants as kind;
 ghost use Rattle.mesh_values.specs.declared.values.Name.{Name};
+ghost use Rattle.mesh_values.specs.declared.values.Pair.{Pair};
+ghost use Rattle.mesh_base.specs.declared.forgets.Forget.{Forget};
+ghost use Rattle.mesh_base.specs.declared.forgets.Forget.TheVariants.{Range};
 ghost use Rattle.mesh_base.specs.declared.snapshots.Env.{Env};
 ghost use Rattle.mesh_base.specs.declared.snapshots.Ref.{Ref};
 ghost use Rattle.mesh_base.specs.declared.snapshots.Snapshot.{Snapshot};
 ghost use Rattle.mesh_rules.specs.Proper.{is_plain_schema};
 ghost use Rattle.mesh_book.specs.WellFormed.{snapshot_at};
+ghost use Rattle.mesh_book.specs.declared.versions.Version.{Version};
+ghost use Rattle.mesh_scratch.specs.Horizons.{Clock, Shows, schedule};
+ghost use Rattle.mesh_listed.specs.Closing.{closing, IsSnapshot};
 ghost use Rattle.mesh_listed.specs.Listed.{is_list_fit};
-ghost use Rattle.mesh_house.specs.declared.world.Change.TheVariants.{DeleteEnv, DropView, Expire, Finalize, SetPending};
+ghost use Rattle.mesh_house.specs.declared.world.Change.TheVariants.{DeleteEnv, DropObject, DropView, Expire, Finalize, ForgetUnits, ForgetVersion, SetPending};
 ghost use Rattle.mesh_house.specs.declared.world.World.{World};
 ghost use Rattle.mesh_house.specs.Step.{step};
-ghost use Rattle.mesh_house.specs.World.{view};
+ghost use Rattle.mesh_house.specs.World.{version_of, view};
 ghost use Rattle.mesh_changes.specs.Environments.{IsEnv, view_in};
 ghost use Rattle.mesh_due.specs.Parts.{Parts};
-ghost use Rattle.mesh_sound.specs.Sound.{IsEntry, IsObjectMade, Sound};
+ghost use Rattle.mesh_sound.specs.Histories.{left};
+ghost use Rattle.mesh_sound.specs.Sound.{IsEntry, IsObjectMade, Sound, parent_objects};
 
 /// An environment may expire.
 pub fn expiring_an_environment_keeps_the_world_sound()
@@ -49,4 +57,29 @@ pub fn setting_an_environment_pending_keeps_the_world_sound()
 pub fn dropping_a_view_keeps_the_world_sound()
     ensures { (x : Parts) (w : World) → Sound x w → (e : Env) → IsEnv w.book e → e.pending ≡ true → (m : Name) → is_plain_schema m.schema ≡ true →
         Sound x (step w (DropView (view_in e.name m))) }
+{}
+
+/// Units and marks may be forgotten, where each unit of an incremental model stands in its schedule. They are then no longer
+/// in doubt.
+pub fn forgetting_units_keeps_the_world_sound()
+    ensures { (x : Parts) (w : World) → Sound x w → (list : List Forget) →
+        ((object : Name) (start end : ℤ) → Contains list (Range object start end) → (s : Snapshot) → IsSnapshot w.book.snapshots s → s.object ≡ object →
+        (time : List ℕ) (lookback : ℕ) → s.own.kind ≡ kind.Incremental time lookback → (clock : Clock) → Shows clock w.book.moment →
+        Contains (schedule clock (closing w.book.snapshots s)) (record { start = start; end = end })) →
+        Sound (left (ForgetUnits list ∷ []) x) (step w (ForgetUnits list)) }
+{}
+
+/// A version may be forgotten whose object no entry of an environment has. No part of it is then in doubt.
+pub fn forgetting_a_version_keeps_the_world_sound()
+    ensures { (x : Parts) (w : World) → Sound x w → (object : Name) →
+        ((e : Env) → IsEnv w.book e → (r : Ref) → IsEntry e r → (s : Snapshot) → snapshot_at w.book.snapshots r ≡ Some s → ¬ (s.object ≡ object)) →
+        Sound (left (ForgetVersion object ∷ []) x) (step w (ForgetVersion object)) }
+{}
+
+/// An object may go whose version isn't made, and which isn't a target of a view that is made.
+pub fn dropping_an_object_keeps_the_world_sound()
+    ensures { (x : Parts) (w : World) → Sound x w → (object : Name) → ((v : Version) → version_of w.book object ≡ Some v → v.made ≡ false) →
+        ((s : Snapshot) → IsSnapshot w.book.snapshots s → s.own.kind ≡ kind.View → (v : Version) → version_of w.book s.object ≡ Some v → v.made ≡ true →
+        All (λ (t : Pair). ¬ (t.second ≡ object)) (parent_objects w.book.snapshots s.parents)) →
+        Sound x (step w (DropObject object)) }
 {}
