@@ -16,3 +16,9 @@ pub mod Forgetting
 pub mod VersionGone
 -- ObjectGone: an object goes.
 pub mod ObjectGone
+-- Recording: marks or a unit are recorded.
+pub mod Recording
+-- ObjectPut: an object is put.
+pub mod ObjectPut
+-- Making: a table or a view is made.
+pub mod Making

@@ -1,13 +1,17 @@
 // What the definitions give.
-ghost use Rattle.std.specs.Prelude.{◌≡◌, ℕ, ℤ, List, [], ◌∷◌, Some, None, true, false};
-ghost use Rattle.std.specs.List.{All, Contains};
+ghost use Rattle.std.specs.Prelude.{◌≡◌, ◌<ℤ◌, IsSome, ℕ, ℤ, List, [], ◌∷◌, Some, None, true, false};
+ghost use Rattle.std.specs.List.{All, Contains, filter};
 ghost use Rattle.std.specs.Option.{ForSome};
 ghost use Rattle.std.specs.declared.option.Option.{Option};
+ghost use Rattle.mesh_values.specs.Bag.{IsSameBag};
 ghost use Rattle.mesh_values.specs.declared.kinds.Kind.TheVariants as kind;
+ghost use Rattle.mesh_values.specs.declared.values.Column.{Column};
 ghost use Rattle.mesh_values.specs.declared.values.Name.{Name};
 ghost use Rattle.mesh_values.specs.declared.values.Pair.{Pair};
+ghost use Rattle.mesh_base.specs.Outputs.{columns_of};
+ghost use Rattle.mesh_base.specs.declared.definitions.Own.{Own};
 ghost use Rattle.mesh_base.specs.declared.forgets.Forget.{Forget};
-ghost use Rattle.mesh_base.specs.declared.forgets.Forget.TheVariants.{Range};
+ghost use Rattle.mesh_base.specs.declared.forgets.Forget.TheVariants.{Marks, Range};
 ghost use Rattle.mesh_base.specs.declared.snapshots.Env.{Env};
 ghost use Rattle.mesh_base.specs.declared.snapshots.Ref.{Ref};
 ghost use Rattle.mesh_base.specs.declared.snapshots.Snapshot.{Snapshot};
@@ -15,16 +19,18 @@ ghost use Rattle.mesh_rules.specs.Proper.{is_plain_schema};
 ghost use Rattle.mesh_book.specs.WellFormed.{snapshot_at};
 ghost use Rattle.mesh_book.specs.declared.versions.Version.{Version};
 ghost use Rattle.mesh_scratch.specs.Horizons.{Clock, Shows, schedule};
+ghost use Rattle.mesh_scratch.specs.Scratch.{defn_rows, from_scratch, is_of_unit, no_bounds, piece};
 ghost use Rattle.mesh_listed.specs.Closing.{closing, IsSnapshot};
 ghost use Rattle.mesh_listed.specs.Listed.{is_list_fit};
-ghost use Rattle.mesh_house.specs.declared.world.Change.TheVariants.{DeleteEnv, DropObject, DropView, Expire, Finalize, ForgetUnits, ForgetVersion, SetPending};
+ghost use Rattle.mesh_house.specs.declared.world.Change.TheVariants.{DeleteEnv, DropObject, DropView, Expire, Finalize, ForgetUnits, ForgetVersion, MakeTable, MakeView, RecordMarks, RecordRange, SetPending};
 ghost use Rattle.mesh_house.specs.declared.world.World.{World};
 ghost use Rattle.mesh_house.specs.Step.{step};
-ghost use Rattle.mesh_house.specs.World.{version_of, view};
+ghost use Rattle.mesh_house.specs.World.{object_at, version_of, view};
 ghost use Rattle.mesh_changes.specs.Environments.{IsEnv, view_in};
+ghost use Rattle.mesh_due.specs.Marks.{marks};
 ghost use Rattle.mesh_due.specs.Parts.{Parts};
-ghost use Rattle.mesh_sound.specs.Histories.{left};
-ghost use Rattle.mesh_sound.specs.Sound.{IsEntry, IsObjectMade, Sound, parent_objects};
+ghost use Rattle.mesh_sound.specs.Histories.{left, taken_by};
+ghost use Rattle.mesh_sound.specs.Sound.{IsEntry, IsObjectMade, Sound, parent_objects, table_rows};
 
 /// An environment may expire.
 pub fn expiring_an_environment_keeps_the_world_sound()
@@ -82,4 +88,40 @@ pub fn dropping_an_object_keeps_the_world_sound()
         ((s : Snapshot) → IsSnapshot w.book.snapshots s → s.own.kind ≡ kind.View → (v : Version) → version_of w.book s.object ≡ Some v → v.made ≡ true →
         All (λ (t : Pair). ¬ (t.second ≡ object)) (parent_objects w.book.snapshots s.parents)) →
         Sound x (step w (DropObject object)) }
+{}
+
+/// Marks may be recorded of a table that is made. Of a FULL table they are its model's, and unless the table is in doubt
+/// afterwards it has its rows from scratch; a seed's has the rows of its file. Other parts that were in doubt are so still.
+pub fn recording_marks_keeps_the_world_sound()
+    ensures { (x y : Parts) (w : World) → Sound x w → (object : Name) (v : Version) → version_of w.book object ≡ Some v → v.made ≡ true → (ms : List ℤ) →
+        ((q : Forget) → taken_by (RecordMarks object ms) q ≡ false → y q ≡ false → x q ≡ false) →
+        ((s : Snapshot) → IsSnapshot w.book.snapshots s → s.object ≡ object → s.own.kind ≡ kind.Full → (clock : Clock) → Shows clock w.book.moment →
+        (ms ≡ marks clock (closing w.book.snapshots s)) × (y (Marks object) ≡ false → ForSome (table_rows w object) (λ rows. IsSameBag rows (from_scratch w.sources clock (closing w.book.snapshots s))))) →
+        ((s : Snapshot) → IsSnapshot w.book.snapshots s → s.object ≡ object → s.own.kind ≡ kind.Seed → ForSome (table_rows w object) (λ rows. IsSameBag rows (defn_rows s.own.defn [] no_bounds))) →
+        Sound y (step w (RecordMarks object ms)) }
+{}
+
+/// A unit of the schedule may be recorded of a table that is made and which, unless the unit is in doubt afterwards, has its
+/// rows from scratch there. Other parts that were in doubt are so still.
+pub fn recording_a_unit_keeps_the_world_sound()
+    ensures { (x y : Parts) (w : World) → Sound x w → (object : Name) (v : Version) → version_of w.book object ≡ Some v → v.made ≡ true → (start end : ℤ) → start <ℤ end →
+        ((q : Forget) → taken_by (RecordRange object start end) q ≡ false → y q ≡ false → x q ≡ false) →
+        ((s : Snapshot) → IsSnapshot w.book.snapshots s → s.object ≡ object → (time : List ℕ) (lookback : ℕ) → s.own.kind ≡ kind.Incremental time lookback → (clock : Clock) → Shows clock w.book.moment →
+        Contains (schedule clock (closing w.book.snapshots s)) (record { start = start; end = end })
+        × (y (Range object start end) ≡ false → ForSome (table_rows w object) (λ rows. IsSameBag (filter (is_of_unit s.own (record { start = start; end = end })) rows) (piece w.sources clock (closing w.book.snapshots s) (record { start = start; end = end }))))) →
+        Sound y (step w (RecordRange object start end)) }
+{}
+
+/// A table may be made of a version that isn't made, with its model's columns. No part of it is then in doubt.
+pub fn making_a_table_keeps_the_world_sound()
+    ensures { (x : Parts) (w : World) → Sound x w → (object : Name) (columns : List Column) (v : Version) → version_of w.book object ≡ Some v → v.made ≡ false →
+        ((s : Snapshot) → IsSnapshot w.book.snapshots s → s.object ≡ object → ¬ (s.own.kind ≡ kind.View) × (columns ≡ columns_of s.own)) →
+        Sound (left (MakeTable object columns ∷ []) x) (step w (MakeTable object columns)) }
+{}
+
+/// A view may be made, and made again, with its model's columns and query over its parents' objects, where these stand.
+pub fn making_a_view_keeps_the_world_sound()
+    ensures { (x : Parts) (w : World) → Sound x w → (object : Name) (columns : List Column) (v : Version) → version_of w.book object ≡ Some v → (own : Own) (targets : List Pair) →
+        ((s : Snapshot) → IsSnapshot w.book.snapshots s → s.object ≡ object → (s.own.kind ≡ kind.View) × (own ≡ s.own) × (columns ≡ columns_of s.own) × (targets ≡ parent_objects w.book.snapshots s.parents)) →
+        All (λ (t : Pair). IsSome (object_at w t.second)) targets → Sound x (step w (MakeView object columns own targets)) }
 {}
