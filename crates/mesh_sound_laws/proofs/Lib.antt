@@ -22,3 +22,7 @@ pub mod Recording
 pub mod ObjectPut
 -- Making: a table or a view is made.
 pub mod Making
+-- Replacing: the rows of a table are replaced.
+pub mod Replacing
+-- Writing: the rows of a unit are written.
+pub mod Writing

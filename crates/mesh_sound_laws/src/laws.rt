@@ -5,6 +5,7 @@ ghost use Rattle.std.specs.Option.{ForSome};
 ghost use Rattle.std.specs.declared.option.Option.{Option};
 ghost use Rattle.mesh_values.specs.Bag.{IsSameBag};
 ghost use Rattle.mesh_values.specs.declared.kinds.Kind.TheVariants as kind;
+ghost use Rattle.mesh_values.specs.declared.values.Cell.{Cell};
 ghost use Rattle.mesh_values.specs.declared.values.Column.{Column};
 ghost use Rattle.mesh_values.specs.declared.values.Name.{Name};
 ghost use Rattle.mesh_values.specs.declared.values.Pair.{Pair};
@@ -15,6 +16,7 @@ ghost use Rattle.mesh_base.specs.declared.forgets.Forget.TheVariants.{Marks, Ran
 ghost use Rattle.mesh_base.specs.declared.snapshots.Env.{Env};
 ghost use Rattle.mesh_base.specs.declared.snapshots.Ref.{Ref};
 ghost use Rattle.mesh_base.specs.declared.snapshots.Snapshot.{Snapshot};
+ghost use Rattle.mesh_time.specs.Ranges.{Has, IsWithin};
 ghost use Rattle.mesh_rules.specs.Proper.{is_plain_schema};
 ghost use Rattle.mesh_book.specs.WellFormed.{snapshot_at};
 ghost use Rattle.mesh_book.specs.declared.versions.Version.{Version};
@@ -22,7 +24,7 @@ ghost use Rattle.mesh_scratch.specs.Horizons.{Clock, Shows, schedule};
 ghost use Rattle.mesh_scratch.specs.Scratch.{defn_rows, from_scratch, is_of_unit, no_bounds, piece};
 ghost use Rattle.mesh_listed.specs.Closing.{closing, IsSnapshot};
 ghost use Rattle.mesh_listed.specs.Listed.{is_list_fit};
-ghost use Rattle.mesh_house.specs.declared.world.Change.TheVariants.{DeleteEnv, DropObject, DropView, Expire, Finalize, ForgetUnits, ForgetVersion, MakeTable, MakeView, RecordMarks, RecordRange, SetPending};
+ghost use Rattle.mesh_house.specs.declared.world.Change.TheVariants.{DeleteEnv, DropObject, DropView, Expire, Finalize, ForgetUnits, ForgetVersion, MakeTable, MakeView, RecordMarks, RecordRange, ReplaceRows, SetPending, WriteRange};
 ghost use Rattle.mesh_house.specs.declared.world.World.{World};
 ghost use Rattle.mesh_house.specs.Step.{step};
 ghost use Rattle.mesh_house.specs.World.{object_at, version_of, view};
@@ -124,4 +126,26 @@ pub fn making_a_view_keeps_the_world_sound()
     ensures { (x : Parts) (w : World) → Sound x w → (object : Name) (columns : List Column) (v : Version) → version_of w.book object ≡ Some v → (own : Own) (targets : List Pair) →
         ((s : Snapshot) → IsSnapshot w.book.snapshots s → s.object ≡ object → (s.own.kind ≡ kind.View) × (own ≡ s.own) × (columns ≡ columns_of s.own) × (targets ≡ parent_objects w.book.snapshots s.parents)) →
         All (λ (t : Pair). IsSome (object_at w t.second)) targets → Sound x (step w (MakeView object columns own targets)) }
+{}
+
+/// The rows of a table that isn't incremental may be replaced: of a FULL table while it is in doubt or its recorded marks
+/// aren't its model's, and of a seed's while it has no marks.
+pub fn replacing_rows_keeps_the_world_sound()
+    ensures { (x : Parts) (w : World) → Sound x w → (object : Name) (rows : List (List Cell)) →
+        ((s : Snapshot) → IsSnapshot w.book.snapshots s → s.object ≡ object → (time : List ℕ) (lookback : ℕ) → ¬ (s.own.kind ≡ kind.Incremental time lookback)) →
+        ((s : Snapshot) → IsSnapshot w.book.snapshots s → s.object ≡ object → s.own.kind ≡ kind.Full → (v : Version) → version_of w.book object ≡ Some v → x (Marks object) ≡ false → (clock : Clock) → Shows clock w.book.moment →
+        ¬ (v.marks ≡ Some (marks clock (closing w.book.snapshots s)))) →
+        ((s : Snapshot) → IsSnapshot w.book.snapshots s → s.object ≡ object → s.own.kind ≡ kind.Seed → (v : Version) → version_of w.book object ≡ Some v → v.marks ≡ None) →
+        Sound x (step w (ReplaceRows object rows)) }
+{}
+
+/// Rows that lie in a unit of the schedule may be written into an incremental table of which no second of the unit is
+/// recorded.
+pub fn writing_a_unit_keeps_the_world_sound()
+    ensures { (x : Parts) (w : World) → Sound x w → (object : Name) (time : List ℕ) (start end : ℤ) (rows : List (List Cell)) →
+        ((s : Snapshot) → IsSnapshot w.book.snapshots s → s.object ≡ object → (lookback : ℕ) × (s.own.kind ≡ kind.Incremental time lookback)) →
+        ((s : Snapshot) → IsSnapshot w.book.snapshots s → s.object ≡ object → (clock : Clock) → Shows clock w.book.moment → Contains (schedule clock (closing w.book.snapshots s)) (record { start = start; end = end })) →
+        ((s : Snapshot) → IsSnapshot w.book.snapshots s → s.object ≡ object → (row : List Cell) → Contains rows row → is_of_unit s.own (record { start = start; end = end }) row ≡ true) →
+        ((v : Version) → version_of w.book object ≡ Some v → (t : ℤ) → IsWithin start end t → ¬ (Has v.ranges t)) →
+        Sound x (step w (WriteRange object time start end rows)) }
 {}
