@@ -68,8 +68,8 @@ module _ (x : Parts) (w : World) (sound : Sound x w) where
         let v = sound.views in
         env_put x w sound expired (instead expired) (instead_rise expired refl own_of_old) (instead_keep expired refl own_of_old) (instead_found expired refl own_of_old)
         (λ name target at i same.
-          let is = is_old i.env i.known same in
-          (i.entry, i.snapshot, subst (λ (e : Env). IsEntry e i.entry) is i.of, i.is, i.view ∙ ap (λ (e : Env). view_in e.name i.entry.name) is, i.object))
+        let is = is_old i.env i.known same in
+        (i.entry, i.snapshot, subst (λ (e : Env). IsEntry e i.entry) is i.of, i.is, i.view ∙ ap (λ (e : Env). view_in e.name i.entry.name) is, i.object))
         (v.entries old known) (v.parents old known) (v.previous old known) (v.final old known)
 
     -- finalized, where it has the views of its list and no others

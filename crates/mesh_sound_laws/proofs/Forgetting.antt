@@ -146,12 +146,14 @@ module _ (x y : Parts) (w : World) (sound : Sound x w) where
           let c = closing w.book.snapshots s in
           let listed : Contains (schedule clock c) u = whole s known same time lookback is clock shows in
           let still : (d : Bounds) → Contains (schedule clock c) d → is_held v.ranges d.start d.end ≡ true → (t : ℤ) → IsWithin d.start d.end t → ((t <ℤ start) ⊎ (end ≤ℤ t)) → is_held new.ranges d.start d.end ≡ true
-              = λ d kd held t within off. held_if_has new.ranges d.start d.end apart_new
-                (λ r a b. (has_new r).1 (has_if_held v.ranges d.start d.end held r a b,
-                  decide u r (λ inside. let equal : d ≡ u = scheduled_once clock c d u kd listed r (a, b) inside in
-                  outside u t off (subst (λ (e : Bounds). IsWithin e.start e.end t) equal within)))) in
+          = λ d kd held t within off. held_if_has new.ranges d.start d.end apart_new
+          (λ r a b. (has_new r).1 (
+            has_if_held v.ranges d.start d.end held r a b,
+            decide u r (λ inside. let equal : d ≡ u = scheduled_once clock c d u kd listed r (a, b) inside in
+                outside u t off (subst (λ (e : Bounds). IsWithin e.start e.end t) equal within)),
+          )) in
           let before : (d : Bounds) → is_held new.ranges d.start d.end ≡ true → is_held v.ranges d.start d.end ≡ true
-              = λ d held. held_if_has v.ranges d.start d.end apart (λ r a b. ((has_new r).0 (has_if_held new.ranges d.start d.end held r a b)).0) in
+          = λ d held. held_if_has v.ranges d.start d.end apart (λ r a b. ((has_new r).0 (has_if_held new.ranges d.start d.end held r a b)).0) in
           record {
             units = λ t has. let after = (has_new t).0 has in let (d, kd, held, within) = was.units t after.0 in (d, kd, still d kd held t within after.1, within);
             within = was.within;
@@ -267,7 +269,7 @@ parts_forgotten (q ∷ qs) x y w sound takes whole =
 -- the parts are in doubt no longer
 pub units_forgotten : (x : Parts) (w : World) → Sound x w → (list : List Forget)
     → ((object : Name) (start end : ℤ) → Contains list (Range object start end) → (s : Snapshot) → IsSnapshot w.book.snapshots s → s.object ≡ object → (time : List ℕ) (lookback : ℕ) → s.own.kind ≡ Incremental time lookback
-      → (clock : Clock) → Shows clock w.book.moment → Contains (schedule clock (closing w.book.snapshots s)) (record { start = start; end = end }))
+    → (clock : Clock) → Shows clock w.book.moment → Contains (schedule clock (closing w.book.snapshots s)) (record { start = start; end = end }))
     → Sound (left (ForgetUnits list ∷ []) x) (step w (ForgetUnits list))
 units_forgotten x w sound list whole = parts_forgotten list x (left (ForgetUnits list ∷ []) x) w sound takes its
   where

@@ -26,3 +26,5 @@ pub mod Making
 pub mod Replacing
 -- Writing: the rows of a unit are written.
 pub mod Writing
+-- SnapshotGone: a snapshot goes.
+pub mod SnapshotGone

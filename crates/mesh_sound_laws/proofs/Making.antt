@@ -1,12 +1,10 @@
 -- A world stays well kept where a table or a view is made, and where the rows of a table are replaced.
-use Rattle.std.proofs.Common.{◌≡◌, ℕ, ℤ, Bool, true, false, cond, not, ◌&&◌, ◌||◌, List, [], ◌∷◌, Some, None, refl, sym, ◌∙◌, ap, subst, arith, IsSome}
+use Rattle.std.proofs.Common.{◌≡◌, Bool, true, false, cond, not, ◌&&◌, ◌||◌, List, [], ◌∷◌, Some, None, refl, sym, ◌∙◌, ap, subst, arith, IsSome}
 use Rattle.std.specs.declared.option.Option.{Option}
 use Rattle.std.specs.List.{All, slice_index_or}
-use Rattle.std.specs.Option.{is_some}
-use Rattle.std.specs.Ordering.{is_eq}
 use Rattle.std.proofs.lemmas.Int.{ints}
 use Rattle.std.proofs.lemmas.List.Elements.{All-nil}
-use Rattle.mesh_list.specs.Keyed.{found, placed}
+use Rattle.mesh_list.specs.Keyed.{placed}
 use Rattle.mesh_list.proofs.Ascends.{and_left, and_right, ascends-placed}
 use Rattle.mesh_values.specs.Names.{has_two_underscores, name_cmp}
 use Rattle.mesh_values.specs.NameOrder.{names_exact, names_total}
@@ -19,7 +17,6 @@ use Rattle.mesh_values.specs.declared.values.Pair.{Pair}
 use Rattle.mesh_base.specs.Keys.{ref_cmp, snapshot_ref}
 use Rattle.mesh_base.specs.Outputs.{columns_of}
 use Rattle.mesh_base.specs.declared.definitions.Own.{Own}
-use Rattle.mesh_base.specs.declared.forgets.Forget.TheVariants.{Marks}
 use Rattle.mesh_base.specs.declared.snapshots.Snapshot.{Snapshot}
 use Rattle.mesh_time.proofs.Held.{has_if_held}
 use Rattle.mesh_book.specs.Changes.{as_table, as_view, at_version, make_table as table_made, make_view as view_made, version_object}
@@ -27,13 +24,12 @@ use Rattle.mesh_book.specs.WellFormed.{all_fit, is_above, is_moment, is_snapshot
 use Rattle.mesh_book.specs.declared.versions.Version.{Version}
 use Rattle.mesh_book.proofs.Exchanged.{found_key}
 use Rattle.mesh_scratch.specs.Horizons.{Clock, Shows, schedule}
-use Rattle.mesh_house.specs.declared.objects.Body.{Body}
 use Rattle.mesh_house.specs.declared.objects.Body.TheVariants.{Rows, Stored}
 use Rattle.mesh_house.specs.declared.objects.Object.{Object}
 use Rattle.mesh_house.specs.declared.world.World.{World}
-use Rattle.mesh_house.specs.declared.world.Change.TheVariants.{MakeTable, MakeView, ReplaceRows}
+use Rattle.mesh_house.specs.declared.world.Change.TheVariants.{MakeTable, MakeView}
 use Rattle.mesh_house.specs.Objects.{is_physical, object_name}
-use Rattle.mesh_house.specs.Step.{filled, filled_at, step, with_book, with_object}
+use Rattle.mesh_house.specs.Step.{step, with_book, with_object}
 use Rattle.mesh_house.specs.World.{body_of, object_at, rows_of, version_of}
 use Rattle.mesh_house.proofs.After.{object_at-with_object}
 use Rattle.mesh_house.proofs.Tested.{all-placed}
@@ -45,7 +41,7 @@ use Rattle.mesh_sound.specs.Sound.{Sound, Uses, IsBodyOf, IsTableSound, lies_amo
 use Rattle.mesh_sound.proofs.Fits.{fit_found}
 use Rattle.mesh_sound.proofs.Seconds.{scheduled_proper}
 use Rattle.mesh_sound_laws.proofs.ObjectGone.{table_unmade}
-use Rattle.mesh_sound_laws.proofs.ObjectPut.{object_put, some_after}
+use Rattle.mesh_sound_laws.proofs.ObjectPut.{object_put}
 use Rattle.mesh_sound_laws.proofs.Recorded.{Spares, other_object, recorded_sound, same_object}
 
 -- an object that a snapshot uses has a name that an object may have
@@ -113,8 +109,8 @@ module _ (x : Parts) (w : World) (sound : Sound x w) where
       there =
           one_put empty used (λ s known same. table_body s s.own.kind (tabular s known same).0 []) (λ s known same u at m. (tabular s known same).1)
           (λ clock shows s known same u at.
-            let no_ : u.made ≡ false = ap (λ (z : Version). z.made) (is_v s same u at) ∙ unmade in
-            table_unmade clock x w (with_object w empty) s u refl refl no_ (sound.book.marks s.object u at no_) s.own.kind (sound.tables clock shows s known u at))
+          let no_ : u.made ≡ false = ap (λ (z : Version). z.made) (is_v s same u at) ∙ unmade in
+          table_unmade clock x w (with_object w empty) s u refl refl no_ (sound.book.marks s.object u at no_) s.own.kind (sound.tables clock shows s known u at))
 
       rows_there : (s : Snapshot) → s.object ≡ object → table_rows (with_object w empty) s.object ≡ Some []
       rows_there s same = ap (table_rows (with_object w empty)) same ∙ ap (λ (o : Option Object). rows_of (body_of o)) (stands_there empty may_be)

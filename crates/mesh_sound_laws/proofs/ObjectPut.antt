@@ -1,5 +1,5 @@
 -- A world stays well kept where an object is put, if what is recorded of it is so of the new one.
-use Rattle.std.proofs.Common.{◌≡◌, Bool, true, false, cond, List, Some, None, refl, sym, ◌∙◌, ap, subst, IsTrue, IsSome}
+use Rattle.std.proofs.Common.{◌≡◌, Bool, true, false, cond, List, Some, refl, sym, ◌∙◌, ap, subst, IsTrue, IsSome}
 use Rattle.std.specs.declared.option.Option.{Option}
 use Rattle.std.specs.List.{All, slice_index_or}
 use Rattle.std.specs.Ordering.{is_eq}

@@ -195,9 +195,14 @@ module _ (x : Parts) (w : World) (sound : Sound x w) where
         env_put x w sound e (exchanged text_cmp env_name e w.book.environments)
         (instead_rise x w sound old known e (sym named) fits_own) (instead_keep x w sound old known e (sym named) fits_own) (instead_found x w sound old known e (sym named) fits_own)
         (λ n target at i same.
-          let is = is_old x w sound old known i.env i.known (same ∙ sym named) in
-          (i.entry, i.snapshot, inr (behind.all_of i.entry (subst (λ (f : Env). IsEntry f i.entry) is i.of)), i.is,
-            i.view ∙ ap (λ (f : Env). view_in f.name i.entry.name) is ∙ ap (λ (m : List ℕ). view_in m i.entry.name) named, i.object))
+        let is = is_old x w sound old known i.env i.known (same ∙ sym named) in (
+          i.entry,
+          i.snapshot,
+          inr (behind.all_of i.entry (subst (λ (f : Env). IsEntry f i.entry) is i.of)),
+          i.is,
+          i.view ∙ ap (λ (f : Env). view_in f.name i.entry.name) is ∙ ap (λ (m : List ℕ). view_in m i.entry.name) named,
+          i.object,
+        ))
         entries behind.parents (λ f. absurd (let clash : true ≡ false = f in cc)) (λ f. absurd (let clash : true ≡ false = f in cc))
       where
         named : old.name ≡ name

@@ -1,5 +1,5 @@
 -- A world stays well kept where marks or a unit are recorded of a table that has these rows.
-use Rattle.std.proofs.Common.{◌≡◌, ◌↔◌, ℕ, ◌⊎◌, inl, inr, ℤ, ◌<ℤ◌, ◌≤ℤ◌, Bool, true, false, cond, ◌&&◌, List, [], ◌∷◌, Some, refl, sym, ◌∙◌, ap, subst, arith, IsTrue}
+use Rattle.std.proofs.Common.{◌≡◌, ◌↔◌, ℕ, ◌⊎◌, inl, inr, ℤ, ◌<ℤ◌, ◌≤ℤ◌, Bool, true, false, cond, List, [], ◌∷◌, Some, refl, sym, ◌∙◌, ap, subst, arith, IsTrue}
 use Rattle.std.specs.declared.option.Option.{Option}
 use Rattle.std.specs.Option.{ForSome}
 use Rattle.std.proofs.lemmas.Int.{ints}
@@ -7,7 +7,7 @@ use Rattle.std.proofs.lemmas.Cmp.{tied_itself, int_cmp_total}
 use Rattle.std.specs.Cmp.{Equal-is}
 use Rattle.std.specs.List.{AllZip, Contains, filter}
 use Rattle.std.specs.Ordering.{int_cmp, is_eq}
-use Rattle.mesh_list.specs.Keyed.{exchanged, found}
+use Rattle.mesh_list.specs.Keyed.{found}
 use Rattle.mesh_list.proofs.Ascends.{and_both}
 use Rattle.mesh_values.specs.Bag.{IsSameBag}
 use Rattle.mesh_values.specs.NameOrder.{names_exact}
@@ -15,7 +15,6 @@ use Rattle.mesh_values.specs.Names.{name_cmp}
 use Rattle.mesh_values.specs.declared.kinds.Kind.{Kind}
 use Rattle.mesh_values.specs.declared.kinds.Kind.TheVariants.{Full, View, Seed, Incremental}
 use Rattle.mesh_values.specs.declared.times.Bounds.{Bounds}
-use Rattle.mesh_values.specs.declared.values.Cell.{Cell}
 use Rattle.mesh_values.specs.declared.values.Name.{Name}
 use Rattle.mesh_base.specs.declared.forgets.Forget.{Forget}
 use Rattle.mesh_base.specs.declared.forgets.Forget.TheVariants.{Marks, Range}
@@ -36,7 +35,7 @@ use Rattle.mesh_house.specs.Step.{step, with_book}
 use Rattle.mesh_house.specs.World.{version_of}
 use Rattle.mesh_listed.specs.Closing.{closing, IsSnapshot}
 use Rattle.mesh_due.specs.Marks.{marks}
-use Rattle.mesh_due.specs.Parts.{Parts, object_of, same_part, unit_of}
+use Rattle.mesh_due.specs.Parts.{Parts, same_part, unit_of}
 use Rattle.mesh_sound.specs.Histories.{taken_by}
 use Rattle.mesh_sound.specs.Sound.{Sound, IsTableSound, table_rows}
 use Rattle.mesh_sound.proofs.Seconds.{scheduled_once}
@@ -55,7 +54,7 @@ module _ (x y : Parts) (w : World) (sound : Sound x w) (object : Name) (v : Vers
 
   module _ (ms : List ℤ) (takes : (q : Forget) → taken_by (RecordMarks object ms) q ≡ false → y q ≡ false → x q ≡ false)
       (full : (s : Snapshot) → IsSnapshot w.book.snapshots s → s.object ≡ object → s.own.kind ≡ Full → (clock : Clock) → Shows clock w.book.moment
-        → (ms ≡ marks clock (closing w.book.snapshots s)) × (y (Marks object) ≡ false → ForSome (table_rows w object) (λ rows. IsSameBag rows (from_scratch w.sources clock (closing w.book.snapshots s)))))
+      → (ms ≡ marks clock (closing w.book.snapshots s)) × (y (Marks object) ≡ false → ForSome (table_rows w object) (λ rows. IsSameBag rows (from_scratch w.sources clock (closing w.book.snapshots s)))))
       (seed : (s : Snapshot) → IsSnapshot w.book.snapshots s → s.object ≡ object → s.own.kind ≡ Seed → ForSome (table_rows w object) (λ rows. IsSameBag rows (defn_rows s.own.defn [] no_bounds))) where
     no_later_itself : (xs : List ℤ) → AllZip (λ m n. m ≤ℤ n) xs xs
     no_later_itself [] = tt
@@ -83,8 +82,8 @@ module _ (x y : Parts) (w : World) (sound : Sound x w) (object : Name) (v : Vers
 
   module _ (start end : ℤ) (proper : start <ℤ end) (takes : (q : Forget) → taken_by (RecordRange object start end) q ≡ false → y q ≡ false → x q ≡ false)
       (unit : (s : Snapshot) → IsSnapshot w.book.snapshots s → s.object ≡ object → (time : List ℕ) (lookback : ℕ) → s.own.kind ≡ Incremental time lookback → (clock : Clock) → Shows clock w.book.moment
-        → Contains (schedule clock (closing w.book.snapshots s)) (record { start = start; end = end })
-        × (y (Range object start end) ≡ false → ForSome (table_rows w object) (λ rows. IsSameBag (filter (is_of_unit s.own (record { start = start; end = end })) rows) (piece w.sources clock (closing w.book.snapshots s) (record { start = start; end = end }))))) where
+      → Contains (schedule clock (closing w.book.snapshots s)) (record { start = start; end = end })
+      × (y (Range object start end) ≡ false → ForSome (table_rows w object) (λ rows. IsSameBag (filter (is_of_unit s.own (record { start = start; end = end })) rows) (piece w.sources clock (closing w.book.snapshots s) (record { start = start; end = end }))))) where
     abbrev u : Bounds
     u = record { start = start; end = end }
 

@@ -1,64 +1,32 @@
 -- A world stays well kept where the rows of a table are replaced that aren't recorded.
-use Rattle.std.proofs.Common.{◌≡◌, ℕ, suc, ℤ, Bool, true, false, cond, not, List, [], ◌∷◌, ◌++◌, Some, None, refl, sym, ◌∙◌, ap, subst, arith}
+use Rattle.std.proofs.Common.{◌≡◌, ℕ, true, false, List, Some, None, refl, sym, ◌∙◌, ap, subst}
 use Rattle.std.specs.declared.option.Option.{Option}
-use Rattle.std.specs.List.{All, Contains, filter}
 use Rattle.std.specs.Option.{is_some}
-use Rattle.std.specs.Ordering.{is_eq}
-use Rattle.std.proofs.lemmas.List.{append-nil}
-use Rattle.std.proofs.lemmas.List.Elements.{All-append, All-head, All-tail, All-nil, All-cons, filter-append}
-use Rattle.mesh_list.specs.Keyed.{exchanged, found}
-use Rattle.mesh_list.proofs.Standing.{ascends-exchanged}
-use Rattle.mesh_values.specs.Bag.{IsSameBag}
-use Rattle.mesh_values.specs.Kinds.{time_column}
-use Rattle.mesh_values.specs.Names.{name_cmp}
-use Rattle.mesh_values.specs.NameOrder.{names_exact, names_total}
-use Rattle.mesh_values.specs.Picked.{cell_of}
 use Rattle.mesh_values.specs.declared.kinds.Kind.{Kind}
 use Rattle.mesh_values.specs.declared.kinds.Kind.TheVariants.{Full, View, Seed, Incremental}
-use Rattle.mesh_values.specs.declared.times.Bounds.{Bounds}
 use Rattle.mesh_values.specs.declared.values.Cell.{Cell}
-use Rattle.mesh_values.specs.declared.values.Column.{Column}
 use Rattle.mesh_values.specs.declared.values.Name.{Name}
-use Rattle.mesh_base.specs.Outputs.{columns_of}
-use Rattle.mesh_base.specs.declared.definitions.Own.{Own}
 use Rattle.mesh_base.specs.declared.forgets.Forget.TheVariants.{Marks}
 use Rattle.mesh_base.specs.declared.snapshots.Snapshot.{Snapshot}
-use Rattle.mesh_time.specs.Ranges.{Has, IsWithin, is_held}
-use Rattle.mesh_time.proofs.Held.{has_if_held}
 use Rattle.mesh_book.specs.declared.versions.Version.{Version}
-use Rattle.mesh_book.proofs.Exchanged.{found_key}
-use Rattle.mesh_seconds.specs.Times.{lies_in}
-use Rattle.mesh_scratch.specs.Closures.{Closure}
-use Rattle.mesh_scratch.specs.Horizons.{Clock, Shows, schedule}
-use Rattle.mesh_scratch.specs.Scratch.{is_of_unit, lies_by, piece}
-use Rattle.mesh_scratch.proofs.Cut.{by_second}
+use Rattle.mesh_scratch.specs.Horizons.{Clock, Shows}
 use Rattle.mesh_house.specs.declared.objects.Body.{Body}
 use Rattle.mesh_house.specs.declared.objects.Body.TheVariants.{Rows, Stored}
 use Rattle.mesh_house.specs.declared.objects.Object.{Object}
 use Rattle.mesh_house.specs.declared.world.World.{World}
-use Rattle.mesh_house.specs.declared.world.Change.TheVariants.{ReplaceRows, WriteRange}
-use Rattle.mesh_house.specs.Objects.{is_physical, object_name}
-use Rattle.mesh_house.specs.Step.{filled, filled_at, step, with_object, written_at, written_body, written_object}
-use Rattle.mesh_house.specs.Times.{rewritten}
-use Rattle.mesh_house.specs.World.{body_of, object_at, rows_of, version_of}
-use Rattle.mesh_house.proofs.Tested.{all-exchanged}
+use Rattle.mesh_house.specs.declared.world.Change.TheVariants.{ReplaceRows}
+use Rattle.mesh_house.specs.Step.{filled, filled_at, step, with_object}
+use Rattle.mesh_house.specs.World.{object_at, version_of}
 use Rattle.mesh_listed.specs.Closing.{closing, IsSnapshot}
 use Rattle.mesh_due.specs.Marks.{marks}
 use Rattle.mesh_due.specs.Parts.{Parts}
-use Rattle.mesh_sound.specs.Sound.{Sound, IsBodyOf, IsMade, IsTableSound, lies_among, table_rows}
-use Rattle.mesh_sound.proofs.Joined.{passed}
-use Rattle.mesh_sound.proofs.Found.{found-exchanged}
-use Rattle.mesh_sound.proofs.Seconds.{any_of}
-use Rattle.mesh_sound.proofs.Views.{tabular}
-use Rattle.mesh_sound_laws.proofs.Making.{one_put, used_physical}
-use Rattle.mesh_sound_laws.proofs.ObjectGone.{table_unmade}
-use Rattle.mesh_sound_laws.proofs.ObjectPut.{object_put}
-use Rattle.mesh_sound_laws.proofs.Recorded.{object_is, same_object}
+use Rattle.mesh_sound.specs.Sound.{Sound, IsBodyOf, IsTableSound}
+use Rattle.mesh_sound_laws.proofs.Making.{one_put}
 
 module _ (x : Parts) (w : World) (sound : Sound x w) (object : Name) (rows : List (List Cell))
     (timeless : (s : Snapshot) → IsSnapshot w.book.snapshots s → s.object ≡ object → (time : List ℕ) (lookback : ℕ) → s.own.kind ≡ Incremental time lookback → ⊥)
     (full : (s : Snapshot) → IsSnapshot w.book.snapshots s → s.object ≡ object → s.own.kind ≡ Full → (v : Version) → version_of w.book object ≡ Some v → x (Marks object) ≡ false → (clock : Clock) → Shows clock w.book.moment
-      → v.marks ≡ Some (marks clock (closing w.book.snapshots s)) → ⊥)
+    → v.marks ≡ Some (marks clock (closing w.book.snapshots s)) → ⊥)
     (seed : (s : Snapshot) → IsSnapshot w.book.snapshots s → s.object ≡ object → s.own.kind ≡ Seed → (v : Version) → version_of w.book object ≡ Some v → v.marks ≡ None) where
   still_table : (s : Snapshot) (kind : Kind) (old : List (List Cell)) → IsBodyOf w.book.snapshots s kind (Rows old) → IsBodyOf w.book.snapshots s kind (Rows rows)
   still_table s View old h = h
@@ -84,8 +52,8 @@ module _ (x : Parts) (w : World) (sound : Sound x w) (object : Name) (rows : Lis
         one_put x w sound new (sound.objects.named object o here)
         (λ s known same. still_table s s.own.kind old (subst (IsBodyOf w.book.snapshots s s.own.kind) was (sound.objects.bodies s known o (ap (object_at w) same ∙ here))))
         (λ s known same v at m. let i = sound.objects.made s known v at m in
-          let one : o ≡ i.object = let both : Some o ≡ Some i.object = sym here ∙ ap (object_at w) (sym same) ∙ i.stands in cc in
-          ap (λ (p : Object). p.columns) one ∙ i.columns)
+        let one : o ≡ i.object = let both : Some o ≡ Some i.object = sym here ∙ ap (object_at w) (sym same) ∙ i.stands in cc in
+        ap (λ (p : Object). p.columns) one ∙ i.columns)
         (λ clock shows s known same v at. table clock shows s known same v at s.own.kind refl (sound.tables clock shows s known v at))
 
   by_body : (o : Object) → object_at w object ≡ Some o → (b : Body) → o.body ≡ b → Sound x (filled b o.columns w object rows)
@@ -98,4 +66,3 @@ module _ (x : Parts) (w : World) (sound : Sound x w) (object : Name) (rows : Lis
 
   pub rows_replaced : Sound x (step w (ReplaceRows object rows))
   rows_replaced = by_object (object_at w object) refl
-

@@ -34,8 +34,7 @@ module _ {A K : Type 0} (R : K → K → Ordering) (key : A → K) (own : A → 
   parts b [] h = (none_on b, refl, refl)
   parts b (x ∷ xs) h =
       let first : (is_above R key b x && own x) ≡ true = sym (splits b x) ∙ and_left (rule b x) (all_fit rule (Some x) xs) h in
-      let more = parts (Some x) xs (and_right (rule b x) (all_fit rule (Some x) xs) h) in
-      (
+      let more = parts (Some x) xs (and_right (rule b x) (all_fit rule (Some x) xs) h) in (
         first_on b x xs (and_left (is_above R key b x) (own x) first),
         and_both _ _ more.0 more.1,
         and_both _ _ (and_right (is_above R key b x) (own x) first) more.2,

@@ -2,7 +2,6 @@
 use Rattle.std.proofs.Common.{◌≡◌, ℕ, suc, ℤ, Bool, true, false, cond, not, List, [], ◌∷◌, ◌++◌, Some, None, refl, sym, ◌∙◌, ap, subst, arith}
 use Rattle.std.specs.declared.option.Option.{Option}
 use Rattle.std.specs.List.{All, Contains, filter}
-use Rattle.std.specs.Option.{is_some}
 use Rattle.std.specs.Ordering.{is_eq}
 use Rattle.std.proofs.lemmas.List.{append-nil}
 use Rattle.std.proofs.lemmas.List.Elements.{All-append, All-head, All-tail, All-nil, All-cons, filter-append}
@@ -12,16 +11,13 @@ use Rattle.mesh_values.specs.Bag.{IsSameBag}
 use Rattle.mesh_values.specs.Kinds.{time_column}
 use Rattle.mesh_values.specs.Names.{name_cmp}
 use Rattle.mesh_values.specs.NameOrder.{names_exact, names_total}
-use Rattle.mesh_values.specs.Picked.{cell_of}
 use Rattle.mesh_values.specs.declared.kinds.Kind.{Kind}
-use Rattle.mesh_values.specs.declared.kinds.Kind.TheVariants.{Full, View, Seed, Incremental}
+use Rattle.mesh_values.specs.declared.kinds.Kind.TheVariants.{Incremental}
 use Rattle.mesh_values.specs.declared.times.Bounds.{Bounds}
 use Rattle.mesh_values.specs.declared.values.Cell.{Cell}
 use Rattle.mesh_values.specs.declared.values.Column.{Column}
 use Rattle.mesh_values.specs.declared.values.Name.{Name}
 use Rattle.mesh_base.specs.Outputs.{columns_of}
-use Rattle.mesh_base.specs.declared.definitions.Own.{Own}
-use Rattle.mesh_base.specs.declared.forgets.Forget.TheVariants.{Marks}
 use Rattle.mesh_base.specs.declared.snapshots.Snapshot.{Snapshot}
 use Rattle.mesh_time.specs.Ranges.{Has, IsWithin, is_held}
 use Rattle.mesh_time.proofs.Held.{has_if_held}
@@ -33,24 +29,23 @@ use Rattle.mesh_scratch.specs.Horizons.{Clock, Shows, schedule}
 use Rattle.mesh_scratch.specs.Scratch.{is_of_unit, lies_by, piece}
 use Rattle.mesh_scratch.proofs.Cut.{by_second}
 use Rattle.mesh_house.specs.declared.objects.Body.{Body}
-use Rattle.mesh_house.specs.declared.objects.Body.TheVariants.{Rows, Stored}
+use Rattle.mesh_house.specs.declared.objects.Body.TheVariants.{Rows}
 use Rattle.mesh_house.specs.declared.objects.Object.{Object}
 use Rattle.mesh_house.specs.declared.world.World.{World}
-use Rattle.mesh_house.specs.declared.world.Change.TheVariants.{ReplaceRows, WriteRange}
+use Rattle.mesh_house.specs.declared.world.Change.TheVariants.{WriteRange}
 use Rattle.mesh_house.specs.Objects.{is_physical, object_name}
-use Rattle.mesh_house.specs.Step.{filled, filled_at, step, with_object, written_at, written_body, written_object}
+use Rattle.mesh_house.specs.Step.{step, written_at, written_body, written_object}
 use Rattle.mesh_house.specs.Times.{rewritten}
 use Rattle.mesh_house.specs.World.{body_of, object_at, rows_of, version_of}
 use Rattle.mesh_house.proofs.Tested.{all-exchanged}
 use Rattle.mesh_listed.specs.Closing.{closing, IsSnapshot}
-use Rattle.mesh_due.specs.Marks.{marks}
 use Rattle.mesh_due.specs.Parts.{Parts}
-use Rattle.mesh_sound.specs.Sound.{Sound, IsBodyOf, IsMade, IsTableSound, lies_among, table_rows}
+use Rattle.mesh_sound.specs.Sound.{Sound, IsBodyOf, IsTableSound, lies_among, table_rows}
 use Rattle.mesh_sound.proofs.Joined.{passed}
 use Rattle.mesh_sound.proofs.Found.{found-exchanged}
 use Rattle.mesh_sound.proofs.Seconds.{any_of}
 use Rattle.mesh_sound.proofs.Views.{tabular}
-use Rattle.mesh_sound_laws.proofs.Making.{one_put, used_physical}
+use Rattle.mesh_sound_laws.proofs.Making.{used_physical}
 use Rattle.mesh_sound_laws.proofs.ObjectGone.{table_unmade}
 use Rattle.mesh_sound_laws.proofs.ObjectPut.{object_put}
 use Rattle.mesh_sound_laws.proofs.Recorded.{object_is, same_object}
@@ -200,7 +195,7 @@ module _ (x : Parts) (w : World) (sound : Sound x w) (object : Name) (time : Lis
             ap (filter (is_of_unit s.own d)) now_is
             ∙ filter-append (is_of_unit s.own d) (filter (λ row. not (is_of_unit s.own u row)) before) rows
             ∙ (λ i. passed {U = Bounds} (is_of_unit s.own) (is_of_unit s.own d) (is_of_unit s.own u) (apart d held) before i
-              ++ none_pass (is_of_unit s.own d) rows (λ row k. elsewhere row (lie s known its row k)) i)
+            ++ none_pass (is_of_unit s.own d) rows (λ row k. elsewhere row (lie s known its row k)) i)
             ∙ append-nil (filter (is_of_unit s.own d) before)
           where
             elsewhere : (row : List Cell) → is_of_unit s.own u row ≡ true → is_of_unit s.own d row ≡ false

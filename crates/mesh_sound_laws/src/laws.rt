@@ -1,5 +1,5 @@
 // What the definitions give.
-ghost use Rattle.std.specs.Prelude.{◌≡◌, ◌<ℤ◌, IsSome, ℕ, ℤ, List, [], ◌∷◌, Some, None, true, false};
+ghost use Rattle.std.specs.Prelude.{◌≡◌, ◌⊎◌, ◌<ℤ◌, IsSome, ℕ, ℤ, List, [], ◌∷◌, Some, None, true, false};
 ghost use Rattle.std.specs.List.{All, Contains, filter};
 ghost use Rattle.std.specs.Option.{ForSome};
 ghost use Rattle.std.specs.declared.option.Option.{Option};
@@ -9,6 +9,7 @@ ghost use Rattle.mesh_values.specs.declared.values.Cell.{Cell};
 ghost use Rattle.mesh_values.specs.declared.values.Column.{Column};
 ghost use Rattle.mesh_values.specs.declared.values.Name.{Name};
 ghost use Rattle.mesh_values.specs.declared.values.Pair.{Pair};
+ghost use Rattle.mesh_base.specs.Keys.{snapshot_ref};
 ghost use Rattle.mesh_base.specs.Outputs.{columns_of};
 ghost use Rattle.mesh_base.specs.declared.definitions.Own.{Own};
 ghost use Rattle.mesh_base.specs.declared.forgets.Forget.{Forget};
@@ -24,7 +25,7 @@ ghost use Rattle.mesh_scratch.specs.Horizons.{Clock, Shows, schedule};
 ghost use Rattle.mesh_scratch.specs.Scratch.{defn_rows, from_scratch, is_of_unit, no_bounds, piece};
 ghost use Rattle.mesh_listed.specs.Closing.{closing, IsSnapshot};
 ghost use Rattle.mesh_listed.specs.Listed.{is_list_fit};
-ghost use Rattle.mesh_house.specs.declared.world.Change.TheVariants.{DeleteEnv, DropObject, DropView, Expire, Finalize, ForgetUnits, ForgetVersion, MakeTable, MakeView, RecordMarks, RecordRange, ReplaceRows, SetPending, WriteRange};
+ghost use Rattle.mesh_house.specs.declared.world.Change.TheVariants.{DeleteEnv, DeleteSnapshot, DropObject, DropView, Expire, Finalize, ForgetUnits, ForgetVersion, MakeTable, MakeView, RecordMarks, RecordRange, ReplaceRows, SetPending, WriteRange};
 ghost use Rattle.mesh_house.specs.declared.world.World.{World};
 ghost use Rattle.mesh_house.specs.Step.{step};
 ghost use Rattle.mesh_house.specs.World.{object_at, version_of, view};
@@ -148,4 +149,16 @@ pub fn writing_a_unit_keeps_the_world_sound()
         ((s : Snapshot) → IsSnapshot w.book.snapshots s → s.object ≡ object → (row : List Cell) → Contains rows row → is_of_unit s.own (record { start = start; end = end }) row ≡ true) →
         ((v : Version) → version_of w.book object ≡ Some v → (t : ℤ) → IsWithin start end t → ¬ (Has v.ranges t)) →
         Sound x (step w (WriteRange object time start end rows)) }
+{}
+
+/// A snapshot may be deleted that is no entry of an environment and no parent of a snapshot, and whose object is another
+/// snapshot's too, or has neither a version nor stands.
+pub fn deleting_a_snapshot_keeps_the_world_sound()
+    ensures { (x : Parts) (w : World) → Sound x w → (name : Name) (fingerprint : List ℕ) →
+        ((e : Env) → IsEnv w.book e → (q : Ref) → IsEntry e q → ¬ (q ≡ record { name = name; fingerprint = fingerprint })) →
+        ((p : Snapshot) → IsSnapshot w.book.snapshots p → (q : Ref) → Contains p.parents q → ¬ (q ≡ record { name = name; fingerprint = fingerprint })) →
+        ((s : Snapshot) → snapshot_at w.book.snapshots (record { name = name; fingerprint = fingerprint }) ≡ Some s →
+        ((version_of w.book s.object ≡ None) × (object_at w s.object ≡ None))
+        ⊎ ((other : Snapshot) × IsSnapshot w.book.snapshots other × (other.object ≡ s.object) × ¬ (snapshot_ref other ≡ record { name = name; fingerprint = fingerprint }))) →
+        Sound x (step w (DeleteSnapshot name fingerprint)) }
 {}
