@@ -28,3 +28,9 @@ pub mod Replacing
 pub mod Writing
 -- SnapshotGone: a snapshot goes.
 pub mod SnapshotGone
+-- VersionNew: the object of a snapshot gets a version.
+pub mod VersionNew
+-- SnapshotPut: a snapshot joins the book, or is put again.
+pub mod SnapshotPut
+-- Putting: a command puts a snapshot.
+pub mod Putting

@@ -41,25 +41,25 @@ use Rattle.mesh_sound.specs.Sound.{Sound, HasEachOnce, Uses, IsBodyOf, IsBookSou
 use Rattle.mesh_sound_laws.proofs.Envs.{env_own, envs_rise, envs_keep}
 use Rattle.mesh_sound_laws.proofs.Rising.{all_keep, all_pass, each_keeps, found-without, found_passes, item_passes, rises}
 
-by_recursion : {A : Type 0} (P : A → Type 0) (xs : List A) (x : A) → AllByRecursion P xs → Contains xs x → P x
+pub by_recursion : {A : Type 0} (P : A → Type 0) (xs : List A) (x : A) → AllByRecursion P xs → Contains xs x → P x
 by_recursion P [] x h (k, l, e) = absurd (omega (arith, l))
 by_recursion P (y ∷ ys) x h (zero, l, e) = subst P e h.0
 by_recursion P (y ∷ ys) x h (suc k, l, e) = by_recursion P ys x h.1 (k, omega (arith, l), e)
 
-same_all : {A : Type 0} (p q : A → Bool) (xs : List A) → ((x : A) → Contains xs x → p x ≡ q x) → list_all p xs ≡ list_all q xs
+pub same_all : {A : Type 0} (p q : A → Bool) (xs : List A) → ((x : A) → Contains xs x → p x ≡ q x) → list_all p xs ≡ list_all q xs
 same_all p q [] h = refl
 same_all p q (x ∷ xs) h = λ i. h x (0, omega arith, refl) i && same_all p q xs (λ y k. h y (suc k.0, omega (arith, k.1), k.2)) i
 
-same_map : {A B : Type 0} (f g : A → B) (xs : List A) → ((x : A) → Contains xs x → f x ≡ g x) → map f xs ≡ map g xs
+pub same_map : {A B : Type 0} (f g : A → B) (xs : List A) → ((x : A) → Contains xs x → f x ≡ g x) → map f xs ≡ map g xs
 same_map f g [] h = refl
 same_map f g (x ∷ xs) h = λ i. h x (0, omega arith, refl) i ∷ same_map f g xs (λ y k. h y (suc k.0, omega (arith, k.1), k.2)) i
 
-same_flat : {A B : Type 0} (f g : A → List B) (xs : List A) → ((x : A) → Contains xs x → f x ≡ g x) → flat_map f xs ≡ flat_map g xs
+pub same_flat : {A B : Type 0} (f g : A → List B) (xs : List A) → ((x : A) → Contains xs x → f x ≡ g x) → flat_map f xs ≡ flat_map g xs
 same_flat f g [] h = refl
 same_flat f g (x ∷ xs) h = λ i. h x (0, omega arith, refl) i ++ same_flat f g xs (λ y k. h y (suc k.0, omega (arith, k.1), k.2)) i
 
 -- what a snapshot keeps by itself
-abbrev snapshot_own : ℕ → List Snapshot → Snapshot → Bool
+abbrev pub snapshot_own : ℕ → List Snapshot → Snapshot → Bool
 snapshot_own version all s =
     has_two_underscores s.object.schema && (is_eq (name_cmp s.own.name s.name) && (suits version s.own.kind && (are_kept all s.parents && (nat_le s.rank 4095 && stands_on (parents_of all s.parents) s.rank s.own))))
 

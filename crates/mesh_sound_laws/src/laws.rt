@@ -19,13 +19,15 @@ ghost use Rattle.mesh_base.specs.declared.snapshots.Ref.{Ref};
 ghost use Rattle.mesh_base.specs.declared.snapshots.Snapshot.{Snapshot};
 ghost use Rattle.mesh_time.specs.Ranges.{Has, IsWithin};
 ghost use Rattle.mesh_rules.specs.Proper.{is_plain_schema};
-ghost use Rattle.mesh_book.specs.WellFormed.{snapshot_at};
+ghost use Rattle.mesh_book.specs.Changes.{put_snapshot};
+ghost use Rattle.mesh_book.specs.WellFormed.{is_snapshot_fit, snapshot_at};
 ghost use Rattle.mesh_book.specs.declared.versions.Version.{Version};
 ghost use Rattle.mesh_scratch.specs.Horizons.{Clock, Shows, schedule};
 ghost use Rattle.mesh_scratch.specs.Scratch.{defn_rows, from_scratch, is_of_unit, no_bounds, piece};
 ghost use Rattle.mesh_listed.specs.Closing.{closing, IsSnapshot};
 ghost use Rattle.mesh_listed.specs.Listed.{is_list_fit};
-ghost use Rattle.mesh_house.specs.declared.world.Change.TheVariants.{DeleteEnv, DeleteSnapshot, DropObject, DropView, Expire, Finalize, ForgetUnits, ForgetVersion, MakeTable, MakeView, RecordMarks, RecordRange, ReplaceRows, SetPending, WriteRange};
+ghost use Rattle.mesh_reuse.specs.Cores.{IsTwin};
+ghost use Rattle.mesh_house.specs.declared.world.Change.TheVariants.{DeleteEnv, DeleteSnapshot, DropObject, DropView, Expire, Finalize, ForgetUnits, ForgetVersion, MakeTable, MakeView, RecordMarks, RecordRange, ReplaceRows, SetPending, WriteRange, PutSnapshot};
 ghost use Rattle.mesh_house.specs.declared.world.World.{World};
 ghost use Rattle.mesh_house.specs.Step.{step};
 ghost use Rattle.mesh_house.specs.World.{object_at, version_of, view};
@@ -33,7 +35,7 @@ ghost use Rattle.mesh_changes.specs.Environments.{IsEnv, view_in};
 ghost use Rattle.mesh_due.specs.Marks.{marks};
 ghost use Rattle.mesh_due.specs.Parts.{Parts};
 ghost use Rattle.mesh_sound.specs.Histories.{left, taken_by};
-ghost use Rattle.mesh_sound.specs.Sound.{IsEntry, IsObjectMade, Sound, parent_objects, table_rows};
+ghost use Rattle.mesh_sound.specs.Sound.{IsEntry, IsObjectMade, Sound, parent_objects, table_rows, HasEachOnce, IsTableSound};
 
 /// An environment may expire.
 pub fn expiring_an_environment_keeps_the_world_sound()
@@ -161,4 +163,17 @@ pub fn deleting_a_snapshot_keeps_the_world_sound()
         ((version_of w.book s.object ≡ None) × (object_at w s.object ≡ None))
         ⊎ ((other : Snapshot) × IsSnapshot w.book.snapshots other × (other.object ≡ s.object) × ¬ (snapshot_ref other ≡ record { name = name; fingerprint = fingerprint }))) →
         Sound x (step w (DeleteSnapshot name fingerprint)) }
+{}
+
+/// A snapshot that fits the book may be put. Where the book has it, it is the same but for the time that it stays. Where it is
+/// new, it and all that it stands on have distinct names, and what uses its object is of its model, is a twin of it and is no
+/// view, and what is recorded of the table is so for the snapshot too.
+pub fn putting_a_snapshot_keeps_the_world_sound()
+    ensures { (x : Parts) (w : World) → Sound x w → (s : Snapshot) → is_snapshot_fit w.book.version w.book.snapshots None s ≡ true →
+        ((old : Snapshot) → snapshot_at w.book.snapshots (snapshot_ref s) ≡ Some old → (s.own ≡ old.own) × (s.parents ≡ old.parents) × (s.rank ≡ old.rank) × (s.object ≡ old.object)) →
+        (snapshot_at w.book.snapshots (snapshot_ref s) ≡ None → HasEachOnce (closing (put_snapshot w.book s).snapshots s)) →
+        (snapshot_at w.book.snapshots (snapshot_ref s) ≡ None → (t : Snapshot) → IsSnapshot w.book.snapshots t → t.object ≡ s.object →
+        (t.name ≡ s.name) × IsTwin (closing w.book.snapshots t) (closing (put_snapshot w.book s).snapshots s) × ¬ (t.own.kind ≡ kind.View)) →
+        (snapshot_at w.book.snapshots (snapshot_ref s) ≡ None → (clock : Clock) → Shows clock w.book.moment → (v : Version) → version_of w.book s.object ≡ Some v → IsTableSound clock x (step w (PutSnapshot s)) s v s.own.kind) →
+        Sound x (step w (PutSnapshot s)) }
 {}
