@@ -34,3 +34,5 @@ pub mod VersionNew
 pub mod SnapshotPut
 -- Putting: a command puts a snapshot.
 pub mod Putting
+-- Lefts: what is left in doubt after some changes, and then more.
+pub mod Lefts

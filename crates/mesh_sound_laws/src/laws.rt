@@ -1,5 +1,5 @@
 // What the definitions give.
-ghost use Rattle.std.specs.Prelude.{◌≡◌, ◌⊎◌, ◌<ℤ◌, IsSome, ℕ, ℤ, List, [], ◌∷◌, Some, None, true, false};
+ghost use Rattle.std.specs.Prelude.{◌++◌, ◌≡◌, ◌⊎◌, ◌<ℤ◌, IsSome, ℕ, ℤ, List, [], ◌∷◌, Some, None, true, false};
 ghost use Rattle.std.specs.List.{All, Contains, filter};
 ghost use Rattle.std.specs.Option.{ForSome};
 ghost use Rattle.std.specs.declared.option.Option.{Option};
@@ -27,6 +27,7 @@ ghost use Rattle.mesh_scratch.specs.Scratch.{defn_rows, from_scratch, is_of_unit
 ghost use Rattle.mesh_listed.specs.Closing.{closing, IsSnapshot};
 ghost use Rattle.mesh_listed.specs.Listed.{is_list_fit};
 ghost use Rattle.mesh_reuse.specs.Cores.{IsTwin};
+ghost use Rattle.mesh_house.specs.declared.world.Change.{Change};
 ghost use Rattle.mesh_house.specs.declared.world.Change.TheVariants.{DeleteEnv, DeleteSnapshot, DropObject, DropView, Expire, Finalize, ForgetUnits, ForgetVersion, MakeTable, MakeView, RecordMarks, RecordRange, ReplaceRows, SetPending, WriteRange, PutSnapshot};
 ghost use Rattle.mesh_house.specs.declared.world.World.{World};
 ghost use Rattle.mesh_house.specs.Step.{step};
@@ -176,4 +177,9 @@ pub fn putting_a_snapshot_keeps_the_world_sound()
         (t.name ≡ s.name) × IsTwin (closing w.book.snapshots t) (closing (put_snapshot w.book s).snapshots s) × ¬ (t.own.kind ≡ kind.View)) →
         (snapshot_at w.book.snapshots (snapshot_ref s) ≡ None → (clock : Clock) → Shows clock w.book.moment → (v : Version) → version_of w.book s.object ≡ Some v → IsTableSound clock x (step w (PutSnapshot s)) s v s.own.kind) →
         Sound x (step w (PutSnapshot s)) }
+{}
+
+/// What is still in doubt after some changes and then more is what the later ones leave of what the earlier ones leave.
+pub fn doubt_is_left_step_by_step()
+    ensures { (made more : List Change) (x : Parts) (q : Forget) → left (made ++ more) x q ≡ left more (left made x) q }
 {}
