@@ -36,3 +36,5 @@ pub mod SnapshotPut
 pub mod Putting
 -- Lefts: what is left in doubt after some changes, and then more.
 pub mod Lefts
+-- Migrating: the book is moved to other fingerprints.
+pub mod Migrating

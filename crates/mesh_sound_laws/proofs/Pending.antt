@@ -36,14 +36,14 @@ same_ref : (r : Ref) → is_eq (ref_cmp r r) ≡ true
 same_ref r = (Equal-is (ref_cmp r r)).1 (tied_itself refs_total r)
 
 -- what is listed stands in the list
-listed_contained : (list : List Ref) (r : Ref) → is_listed list r ≡ true → Contains list r
+pub listed_contained : (list : List Ref) (r : Ref) → is_listed list r ≡ true → Contains list r
 listed_contained list r h = go (found ref_cmp ref_itself r list) refl h
   where
     go : (o : Option Ref) → found ref_cmp ref_itself r list ≡ o → is_some o ≡ true → Contains list r
     go None f k = absurd (let g : false ≡ true = k in cc)
     go (Some t) f k = subst (Contains list) (found_key ref_cmp ref_itself refs_exact r t list f) (found_contained ref_cmp ref_itself r t list f)
 
-contained_listed : (list : List Ref) (r : Ref) → Contains list r → is_listed list r ≡ true
+pub contained_listed : (list : List Ref) (r : Ref) → Contains list r → is_listed list r ≡ true
 contained_listed [] r (k, l, e) = absurd (omega (arith, l))
 contained_listed (q ∷ qs) r (zero, l, e) = ap (λ (b : Bool). is_some (cond b (Some q) (found ref_cmp ref_itself r qs))) (ap (λ (t : Ref). is_eq (ref_cmp t r)) e ∙ same_ref r)
 contained_listed (q ∷ qs) r (suc k, l, e) = go (is_eq (ref_cmp q r)) (contained_listed qs r (k, omega (arith, l), e))

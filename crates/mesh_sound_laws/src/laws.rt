@@ -14,6 +14,7 @@ ghost use Rattle.mesh_base.specs.Outputs.{columns_of};
 ghost use Rattle.mesh_base.specs.declared.definitions.Own.{Own};
 ghost use Rattle.mesh_base.specs.declared.forgets.Forget.{Forget};
 ghost use Rattle.mesh_base.specs.declared.forgets.Forget.TheVariants.{Marks, Range};
+ghost use Rattle.mesh_base.specs.declared.forgets.Rename.{Rename};
 ghost use Rattle.mesh_base.specs.declared.snapshots.Env.{Env};
 ghost use Rattle.mesh_base.specs.declared.snapshots.Ref.{Ref};
 ghost use Rattle.mesh_base.specs.declared.snapshots.Snapshot.{Snapshot};
@@ -28,7 +29,7 @@ ghost use Rattle.mesh_listed.specs.Closing.{closing, IsSnapshot};
 ghost use Rattle.mesh_listed.specs.Listed.{is_list_fit};
 ghost use Rattle.mesh_reuse.specs.Cores.{IsTwin};
 ghost use Rattle.mesh_house.specs.declared.world.Change.{Change};
-ghost use Rattle.mesh_house.specs.declared.world.Change.TheVariants.{DeleteEnv, DeleteSnapshot, DropObject, DropView, Expire, Finalize, ForgetUnits, ForgetVersion, MakeTable, MakeView, RecordMarks, RecordRange, ReplaceRows, SetPending, WriteRange, PutSnapshot};
+ghost use Rattle.mesh_house.specs.declared.world.Change.TheVariants.{DeleteEnv, DeleteSnapshot, DropObject, DropView, Expire, Finalize, ForgetUnits, ForgetVersion, MakeTable, MakeView, RecordMarks, RecordRange, ReplaceRows, SetPending, WriteRange, PutSnapshot, Migrate};
 ghost use Rattle.mesh_house.specs.declared.world.World.{World};
 ghost use Rattle.mesh_house.specs.Step.{step};
 ghost use Rattle.mesh_house.specs.World.{object_at, version_of, view};
@@ -182,4 +183,9 @@ pub fn putting_a_snapshot_keeps_the_world_sound()
 /// What is still in doubt after some changes and then more is what the later ones leave of what the earlier ones leave.
 pub fn doubt_is_left_step_by_step()
     ensures { (made more : List Change) (x : Parts) (q : Forget) → left (made ++ more) x q ≡ left more (left made x) q }
+{}
+
+/// The book may be moved to other fingerprints, by any map.
+pub fn migrating_keeps_the_world_sound()
+    ensures { (x : Parts) (w : World) → Sound x w → (renames : List Rename) → Sound x (step w (Migrate renames)) }
 {}
