@@ -1,17 +1,23 @@
 #!/usr/bin/env python3
 """Times `mesh_cases_plans` on projects of many incremental models, each over all of the rank below it, joined and bound to the unit:
 the categories of all, where each gains a column; what all models read; and which aren't steady. Each also with half of the
-ranks. Prints seconds of processor and growth.
+ranks. Then `mesh_rows` on plans: of a project that is unchanged, over a book of four times as many snapshots; and of one model
+with many hours, none of which or all but some are recorded. A plan's seconds are those of the command without those of one
+at an earlier moment, which loads the project, reads the book and refuses. Prints seconds of processor and growth.
 
-Usage: bench/plan.py [PROGRAM], where PROGRAM is crates/mesh_cases_plans/out/mesh_cases_plans if left out (`rt run` makes it)."""
+Usage: bench/plan.py [lattice] [plans] for one of the two parts; the programs are crates/mesh_cases_plans/out/mesh_cases_plans and
+crates/mesh_rows/out/mesh_rows (`rt run` makes them)."""
 import os
 import subprocess
 import sys
 import tempfile
 
+import played
 from measured import TOP
 
 TIMES = 20
+REFUSED = 7
+HOURS = {200_000: "2023-10-26T08:00", 100_000: "2012-05-29T16:00"}
 
 
 def seconds(program, lines):
@@ -19,7 +25,7 @@ def seconds(program, lines):
         with open(f"{folder}/cases.txt", "w") as file:
             file.write("\n".join(lines) + "\n")
         best = None
-        for _ in range(3):
+        for _ in range(2):
             child = subprocess.Popen([program], stdout=subprocess.DEVNULL, cwd=folder)
             _, status, used = os.wait4(child.pid, 0)
             assert status == 0, status
@@ -28,17 +34,56 @@ def seconds(program, lines):
     return best
 
 
-def asked(program, width, height, word):
-    """The seconds of one question to a project, without those that making the project takes."""
+def asked(program, width, height, words):
+    """The seconds of one question of each kind to a project, without those that making the project takes."""
     front = [f"lattice {width} {height}", "project", f"wider {width} {height}"]
-    return (seconds(program, front + [f"{word} {1 + TIMES}"]) - seconds(program, front + [f"{word} 1"])) / TIMES
+    none = seconds(program, front + [f"{words[0]} 1"])
+    return [(seconds(program, front + [f"{words[0]} 1", f"{word} {TIMES}"]) - none) / TIMES for word in words]
+
+
+def lattices():
+    program = f"{TOP}/crates/mesh_cases_plans/out/mesh_cases_plans"
+    words = ("count", "readings", "unsteady")
+    halves, fulls = asked(program, 64, 32, words), asked(program, 64, 64, words)
+    for name, half, full in zip(("categorize", "reads", "unsteady"), halves, fulls):
+        print(f"{name}: 2,048 models {half:.4f} s, 4,096 models {full:.4f} s, growth {full / max(half, 1e-9):.2f}")
+
+
+def planned(files, front, moment):
+    """The seconds of planning behind these steps, which end at a moment."""
+    plan = played.each(played.PROGRAM, files, front, [f"mesh plan --execution-time {moment}"] * TIMES)
+    refused = played.each(played.PROGRAM, files, front, ["mesh plan --execution-time 2000-01-01"] * TIMES, REFUSED)
+    return plan - refused
+
+
+def unchanged(count):
+    """The seconds of a plan that has nothing to do, over a book with four versions of each model."""
+    return planned(played.star(count), played.applied(4), "2024-01-03T00:30")
+
+
+def hours(count, holes):
+    """The seconds of a plan of one model with so many hours, of which none is recorded or all but some."""
+    text = "MODEL (name s.m, kind INCREMENTAL_BY_TIME_RANGE (time_column t), start '2001-01-01', cron '@hourly'); SELECT 1 AS t\n"
+    moment = HOURS[count]
+    front = [f"mesh apply --execution-time {moment}", f"holes {holes}"] if holes else [f"mesh janitor --execution-time {moment}"]
+    return planned({"project/models/m.sql": text}, front, moment)
+
+
+def plans():
+    for half, full in ((500, 1000), (2048, 4096)):
+        once, twice = unchanged(half), unchanged(full)
+        print(f"unchanged plan, {full:,} models, {4 * full:,} snapshots: {twice:.4f} s, growth {twice / once:.2f}")
+    for holes in (0, 10_000):
+        once, twice = hours(100_000, holes // 2), hours(200_000, holes)
+        print(f"plan of 200,000 hours, {f'{holes:,} of them' if holes else 'all'} due: {twice:.4f} s, growth {twice / once:.2f}")
 
 
 def main():
-    program = os.path.abspath(sys.argv[1]) if len(sys.argv) > 1 else f"{TOP}/crates/mesh_cases_plans/out/mesh_cases_plans"
-    for name, word in (("categorize", "count"), ("reads", "readings"), ("unsteady", "unsteady")):
-        half, full = asked(program, 64, 32, word), asked(program, 64, 64, word)
-        print(f"{name}: 2,048 models {half:.4f} s, 4,096 models {full:.4f} s, growth {full / max(half, 1e-9):.2f}")
+    asked_for = sys.argv[1:] or ["lattice", "plans"]
+    if "lattice" in asked_for:
+        lattices()
+    if "plans" in asked_for:
+        plans()
 
 
 if __name__ == "__main__":
