@@ -1,0 +1,2 @@
+-- Swept: what a sweep leaves of a world.
+pub mod Swept
