@@ -1,9 +1,9 @@
 -- What a promotion does to the views, once and again.
-use Rattle.std.proofs.Common.{◌≡◌, ℕ, ℤ, zero, suc, Bool, true, false, cond, not, ◌⊎◌, inl, inr, List, [], ◌∷◌, ◌++◌, map, Some, None, refl, sym, ap, ◌∙◌, subst}
+use Rattle.std.proofs.Common.{◌≡◌, ℕ, zero, suc, Bool, true, false, cond, not, ◌⊎◌, inl, inr, List, [], ◌∷◌, ◌++◌, map, Some, None, refl, sym, ap, ◌∙◌, subst}
 use Rattle.std.specs.Prelude.{◌||◌}
 use Rattle.std.specs.Cmp.{Equal-is, IsTotalOrder}
 use Rattle.std.specs.List.{filter, list_any}
-use Rattle.std.specs.Option.{option_and_then, option_map}
+use Rattle.std.specs.Option.{option_and_then}
 use Rattle.std.specs.Ordering.{is_eq}
 use Rattle.std.specs.declared.cmp.Ordering.{Ordering}
 use Rattle.std.specs.declared.option.Option.{Option}
@@ -25,16 +25,14 @@ use Rattle.mesh_book.specs.Changes.{as_final, at_env, finalize, previous_of, put
 use Rattle.mesh_book.specs.declared.book.Book.{Book}
 use Rattle.mesh_laws.proofs.Has.{Has, Has_filter_from, Has_map, Has_map_from}
 use Rattle.mesh_listed.proofs.Lists.{placed_from}
-use Rattle.mesh_moves.proofs.Changed.{found_exchanged}
 use Rattle.mesh_due.specs.Plans.{Planned}
 use Rattle.mesh_due.specs.Parts.{same_name}
 use Rattle.mesh_house.specs.Step.{run, step}
-use Rattle.mesh_house.specs.World.{body_of, object_at, target_of, view, view_name}
+use Rattle.mesh_house.specs.World.{body_of, object_at, target_of, view_name}
 use Rattle.mesh_base.specs.declared.jobs.Input.{Input}
 use Rattle.mesh_house.specs.declared.objects.Body.{Body}
 use Rattle.mesh_house.specs.declared.objects.Body.TheVariants.{Rows, Stored}
 use Rattle.mesh_house.specs.declared.objects.Object.{Object}
-use Rattle.mesh_house.specs.declared.world.Change.{Change}
 use Rattle.mesh_house.specs.declared.world.Change.TheVariants.{Finalize}
 use Rattle.mesh_house.specs.declared.world.ViewOf.{ViewOf}
 use Rattle.mesh_house.specs.declared.world.World.{World}
@@ -155,17 +153,17 @@ pub record Set (env : List ℕ) (os : List Pair) (k : Name) : Type 0 where
   pub named : is_eq (name_cmp (view_in env pair.first) k) ≡ true
   pub always : (o : Option ViewOf) → looked env os k o ≡ Some its
 
-Kept : List ℕ → List Pair → Name → Type 0
+abbrev Kept : List ℕ → List Pair → Name → Type 0
 Kept env os k = (o : Option ViewOf) → looked env os k o ≡ o
 
 set_or_kept : (env : List ℕ) (os : List Pair) (k : Name) → Set env os k ⊎ Kept env os k
 set_or_kept env [] k = inr (λ o. refl)
 set_or_kept env (p ∷ ps) k = go (set_or_kept env ps k)
   where
-    abbrev its : ViewOf
+    its : ViewOf
     its = record { view = view_in env p.first; target = p.second }
 
-    abbrev Answer : Type 0
+    Answer : Type 0
     Answer = Set env (p ∷ ps) k ⊎ Kept env (p ∷ ps) k
 
     by_name : Kept env ps k → (c : Bool) → is_eq (name_cmp (view_in env p.first) k) ≡ c → Answer
@@ -294,10 +292,10 @@ module _ (sources : List Input) (objects : List Object) (views others : List Vie
 pub shown_again : (w : World) (plan : Plan) → IsTyped w → (k : Name) → view_rows (run (run w (promotes w.book plan)) (promotes (run w (promotes w.book plan)).book plan)) k ≡ view_rows (run w (promotes w.book plan)) k
 shown_again w plan typed k = subst (λ (x : World). view_rows (run x (promotes x.book plan)) k ≡ view_rows x k) (sym (promoting w.book plan w)) there
   where
-    abbrev first : World
+    first : World
     first = promoted w.book plan w
 
-    abbrev second : World
+    second : World
     second = promoted first.book plan first
 
     there : view_rows (run first (promotes first.book plan)) k ≡ view_rows first k

@@ -1,5 +1,5 @@
 -- What stays in a book that was swept: all of it.
-use Rattle.std.proofs.Common.{◌≡◌, ℕ, ℤ, zero, suc, Bool, true, false, cond, not, ◌⊎◌, inl, inr, List, [], ◌∷◌, ◌++◌, map, Some, None, refl, sym, ap, ◌∙◌, subst}
+use Rattle.std.proofs.Common.{◌≡◌, ℕ, ℤ, zero, suc, Bool, true, false, cond, not, ◌⊎◌, inl, inr, List, [], ◌∷◌, ◌++◌, map, Some, refl, sym, ap, ◌∙◌, subst}
 use Rattle.std.specs.Prelude.{int_lt, ◌||◌}
 use Rattle.std.specs.Int.{int_max}
 use Rattle.std.specs.Int.Signed.{le_z}
@@ -10,7 +10,6 @@ use Rattle.std.specs.Ordering.{is_eq}
 use Rattle.std.specs.declared.cmp.Ordering.{Ordering}
 use Rattle.std.specs.declared.option.Option.{Option}
 use Rattle.std.proofs.lemmas.Cmp.{tied_itself}
-use Rattle.mesh_list.specs.Keyed.{found}
 use Rattle.mesh_values.specs.NameOrder.{names_total}
 use Rattle.mesh_values.specs.declared.values.Name.{Name}
 use Rattle.mesh_base.specs.Keys.{ref_cmp, refs_exact, refs_total, snapshot_ref}
@@ -24,7 +23,6 @@ use Rattle.mesh_laws.proofs.Has.{Has, Has_cases, Has_filter, Has_filter_from, Ha
 use Rattle.mesh_listed.specs.Listed.{named}
 use Rattle.mesh_due.specs.Parts.{same_name}
 use Rattle.mesh_house.specs.Step.{run}
-use Rattle.mesh_house.specs.declared.world.Change.{Change}
 use Rattle.mesh_house.specs.declared.world.Change.TheVariants.{DeleteSnapshot, DropObject, ForgetVersion, Moment}
 use Rattle.mesh_house.specs.declared.world.World.{World}
 use Rattle.mesh_changes.specs.Environments.{is_over}

@@ -1,7 +1,6 @@
 -- What the changes of a sweep do to a world.
-use Rattle.std.proofs.Common.{◌≡◌, ℕ, ℤ, Bool, true, false, cond, not, List, [], ◌∷◌, ◌++◌, map, refl, sym, ap, ◌∙◌}
+use Rattle.std.proofs.Common.{◌≡◌, ℕ, ℤ, Bool, true, false, not, List, [], ◌∷◌, ◌++◌, map, refl, sym, ap, ◌∙◌}
 use Rattle.std.specs.Prelude.{◌||◌, ◌&&◌}
-use Rattle.std.specs.Cmp.{IsTotalOrder}
 use Rattle.std.specs.List.{filter, flat_map, list_any}
 use Rattle.std.specs.Ordering.{is_eq, ordering_reverse}
 use Rattle.std.specs.declared.cmp.Ordering.{Ordering}
@@ -16,10 +15,9 @@ use Rattle.mesh_values.specs.NameOrder.{names_exact, names_total, texts_total}
 use Rattle.mesh_values.specs.declared.values.Name.{Name}
 use Rattle.mesh_base.specs.Keys.{env_name, ref_cmp, ref_name, refs_exact, refs_total, snapshot_ref}
 use Rattle.mesh_base.specs.declared.snapshots.Env.{Env}
-use Rattle.mesh_base.specs.declared.snapshots.Ref.{Ref}
 use Rattle.mesh_base.specs.declared.snapshots.Snapshot.{Snapshot}
 use Rattle.mesh_rules.specs.Proper.{is_among}
-use Rattle.mesh_book.specs.Changes.{previous_of, put, raise_moment, version_object}
+use Rattle.mesh_book.specs.Changes.{previous_of, raise_moment, version_object}
 use Rattle.mesh_book.specs.WellFormed.{all_fit, is_above, is_env_fit, is_moment, is_snapshot_fit, is_version, is_well_formed_book}
 use Rattle.mesh_book.specs.declared.book.Book.{Book}
 use Rattle.mesh_book.specs.declared.versions.Version.{Version}

@@ -1,5 +1,5 @@
 -- What a sweep leaves of a world.
-use Rattle.std.specs.Prelude.{ℤ, Bool, not, List, map}
+use Rattle.std.specs.Prelude.{ℤ, not, List, map}
 use Rattle.std.specs.List.{filter, flat_map}
 use Rattle.std.specs.Int.{int_max}
 use Rattle.mesh_values.specs.declared.values.Name.{Name}

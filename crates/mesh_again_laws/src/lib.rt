@@ -6,4 +6,6 @@
 
 mod laws;
 
-pub use laws::{promoting_again_shows_the_same, sweeping_again_changes_nothing, sweeping_leaves_what_stays};
+pub use laws::{
+    promoting_again_shows_the_same, sweeping_again_changes_nothing, sweeping_leaves_what_stays,
+};
