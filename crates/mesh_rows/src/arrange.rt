@@ -1,11 +1,12 @@
 // The steps that change what the next commands run on.
+use crate::report::put_name;
 use crate::stage::{Call, Stage};
 use crate::trouble::Trouble;
 use mesh_base::{Forget, Ref};
 use mesh_days::moment_of;
 use mesh_house::{Change, MemHouse, Warehouse, World};
 use mesh_list::{Duplicate, Register, Seq};
-use mesh_values::{Str, Unit, same_text};
+use mesh_values::{Name, Str, Unit, same_text};
 use std::alloc::Global;
 
 /// The seconds of an hour.
@@ -210,6 +211,26 @@ fn forget_hours(stage: &mut Stage, number: u64) -> Result<(), Trouble> {
     done.map_err(|_| Trouble::Outside)
 }
 
+/// What the view of this name points at.
+fn target_of(stage: &Stage, name: &Str) -> Result<Name, Trouble> {
+    for view in stage.house.world().views.as_slice() {
+        let mut text = Vec::new(stage.alloc);
+        put_name(&mut text, &view.view)?;
+        if is(name, text.as_slice()) {
+            return Ok(view.target.copy()?);
+        }
+    }
+    Err(Trouble::Script)
+}
+
+/// The object that a view points at goes.
+fn lose_object(stage: &mut Stage, view: &Str) -> Result<(), Trouble> {
+    let object = target_of(stage, view)?;
+    let drop = Change::DropObject { object };
+    let done = stage.house.change(stage.alloc, &drop);
+    done.map_err(|_| Trouble::Outside)
+}
+
 /// The only word behind a step's kind.
 fn only(words: &[Str]) -> Result<&Str, Trouble> {
     match words {
@@ -286,6 +307,9 @@ pub fn arrange(stage: &mut Stage, kind: &Str, words: &[Str]) -> Result<(), Troub
     }
     if is(kind, b"book") {
         return change_book(stage, only(words)?);
+    }
+    if is(kind, b"lose") {
+        return lose_object(stage, only(words)?);
     }
     if is(kind, b"holes") {
         return forget_hours(stage, number_of(only(words)?)?);
