@@ -1,0 +1,2 @@
+MODEL (name shop.extra, kind FULL);
+SELECT 1 AS one

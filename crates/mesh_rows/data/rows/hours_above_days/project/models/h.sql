@@ -1,0 +1,2 @@
+MODEL (name a.h, kind INCREMENTAL_BY_TIME_RANGE (time_column at), start '2024-01-01', cron '@hourly');
+SELECT at FROM a.d WHERE at BETWEEN @start_epoch AND @end_epoch

@@ -1,0 +1,2 @@
+MODEL (name shop.often, kind FULL, cron '@hourly');
+SELECT COUNT(*) AS n FROM shop.totals

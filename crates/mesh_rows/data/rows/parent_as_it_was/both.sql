@@ -1,0 +1,1 @@
+MODEL (name a.p, kind FULL); SELECT x, 1 AS one FROM a.t

@@ -1,0 +1,1 @@
+MODEL (name a.c, kind FULL); SELECT x FROM a.p

@@ -1,0 +1,2 @@
+MODEL (name shop.fixed, kind FULL);
+SELECT 1 AS one

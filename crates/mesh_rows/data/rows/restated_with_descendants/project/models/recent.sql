@@ -1,0 +1,2 @@
+MODEL (name shop.recent);
+SELECT day, qty FROM shop.daily

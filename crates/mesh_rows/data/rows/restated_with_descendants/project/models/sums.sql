@@ -1,0 +1,2 @@
+MODEL (name shop.sums, kind FULL);
+SELECT SUM(qty) AS s FROM shop.recent

@@ -1,0 +1,2 @@
+MODEL (name a.h, kind INCREMENTAL_BY_TIME_RANGE (time_column d), start '2001-03-12', cron '@hourly');
+SELECT DATE '2001-03-12' AS d
