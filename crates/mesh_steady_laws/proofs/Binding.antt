@@ -1,10 +1,9 @@
 -- Where a condition that binds a column to a unit is true, the column's time lies in the unit, or on its day before it.
-use Rattle.std.proofs.Common.{◌≡◌, ℕ, Bool, true, false, ◌&&◌, ◌||◌, List, ⊎_elim, refl, sym, ap, ◌∙◌, subst, inl, inr, ◌⊎◌}
+use Rattle.std.proofs.Common.{◌≡◌, ℕ, Bool, true, false, ◌||◌, List, refl, sym, ap, ◌∙◌, subst}
 use Rattle.std.specs.Prelude.{nat_eq}
 use Rattle.std.proofs.lemmas.Bool.{and_parts, eqb-true}
 use Rattle.mesh_values.specs.Picked.{same_text}
 use Rattle.mesh_values.specs.declared.times.Bounds.{Bounds}
-use Rattle.mesh_values.specs.declared.values.Cell.{Cell}
 use Rattle.mesh_base.specs.declared.expressions.Expr.{Expr, roll-Expr, out-Expr, out-roll-Expr, map-Expr, ind-Expr, para-roll-Expr}
 use Rattle.mesh_base.specs.declared.expressions.Expr.TheOpen.{Expr-F, Literal, Col, Macro, Binary, Neg, Not, IsNull, Between, OneOf, Cast, Call, Case, CountAll, Agg}
 use Rattle.mesh_base.specs.declared.expressions.Op.{Op}
@@ -14,7 +13,6 @@ use Rattle.mesh_base.specs.declared.expressions.When.{When, para-When}
 use Rattle.mesh_seconds.specs.Times.{is_within, time_of}
 use Rattle.mesh_meaning.specs.Cells.{between, is_true}
 use Rattle.mesh_meaning.specs.Ev.{Ev, Seen, at_row, node_value, valued}
-use Rattle.mesh_meaning.specs.Macros.{macro_value}
 use Rattle.mesh_meaning.proofs.Nodes.{Ev_out}
 use Rattle.mesh_laws.proofs.ReadColumns.{text_is}
 use Rattle.mesh_steady.specs.Steady.{are_ends, are_ends_by, are_ends_here, bounds, bounds_here, is_and, is_column, is_column_here, is_end_of, when_bounds}

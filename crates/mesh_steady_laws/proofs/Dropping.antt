@@ -1,10 +1,10 @@
 -- The rows of a FROM over tables without the rows that no condition lets through.
-use Rattle.std.proofs.Common.{◌≡◌, ℕ, zero, suc, ◌+◌, Bool, true, false, cond, ◌||◌, List, [], ◌∷◌, ◌++◌, map, length, get_or, refl, sym, ap, ◌∙◌, subst, arith}
+use Rattle.std.proofs.Common.{◌≡◌, ℕ, suc, Bool, true, false, cond, ◌||◌, List, [], ◌∷◌, ◌++◌, length, refl, sym, ap, ◌∙◌, subst}
 use Rattle.std.specs.Prelude.{slice_index_or}
-use Rattle.std.specs.List.{filter, flat_map, fold, slice_get}
+use Rattle.std.specs.List.{filter, flat_map, fold}
 use Rattle.std.specs.declared.option.Option.{Option}
 use Rattle.std.specs.declared.option.Option.TheVariants.{None, Some}
-use Rattle.std.proofs.lemmas.List.{append_assoc, append-nil, length-append}
+use Rattle.std.proofs.lemmas.List.{append_assoc, append-nil}
 use Rattle.mesh_values.specs.declared.times.Bounds.{Bounds}
 use Rattle.mesh_values.specs.declared.values.Cell.{Cell}
 use Rattle.mesh_values.specs.declared.values.Column.{Column}
@@ -19,8 +19,8 @@ use Rattle.mesh_seconds.specs.Times.{is_within, lies_in, time_of}
 use Rattle.mesh_meaning.specs.Cells.{is_true}
 use Rattle.mesh_meaning.specs.Ev.{Ev, at_row, seen}
 use Rattle.mesh_meaning.specs.Tables.{columns_in, relation, rows_in}
-use Rattle.mesh_meaning.specs.Sel.{Joined, from_columns, from_rows, holds, join_item, kept, partners, row_holds}
-use Rattle.mesh_steady.specs.Steady.{bounds, bounds_by, bounds_in, is_bound}
+use Rattle.mesh_meaning.specs.Sel.{Joined, from_rows, join_item, kept, partners, row_holds}
+use Rattle.mesh_steady.specs.Steady.{bounds_by, bounds_in, is_bound}
 use Rattle.mesh_steady.specs.Arrives.{from_its_day}
 use Rattle.mesh_steady_laws.specs.Days.{IsOfDay}
 use Rattle.mesh_steady_laws.proofs.Binding.{bound}

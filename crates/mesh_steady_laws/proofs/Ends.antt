@@ -1,5 +1,5 @@
 -- What lies between the ends of a unit has a time in the unit, or on its day before it.
-use Rattle.std.proofs.Common.{◌≡◌, ℕ, Bool, true, false, ◌&&◌, cond, List, ℤ, pos, negsuc, ◌+ℤ◌, ◌*ℤ◌, ◌<ℤ◌, ◌≤ℤ◌, refl, sym, ap, ◌∙◌, subst, arith}
+use Rattle.std.proofs.Common.{◌≡◌, Bool, true, false, ◌&&◌, cond, ℤ, pos, negsuc, ◌*ℤ◌, ◌<ℤ◌, ◌≤ℤ◌, refl, sym, ap, ◌∙◌, subst, arith}
 use Rattle.std.specs.Int.{int_div_euclid}
 use Rattle.std.specs.Int.Signed.{le_z, lt_z}
 use Rattle.std.specs.Ordering.{int_cmp, is_ge, is_le, nat_cmp}
@@ -8,14 +8,13 @@ use Rattle.std.specs.Option.{option_map}
 use Rattle.std.specs.declared.cmp.Ordering.{Ordering}
 use Rattle.std.specs.declared.cmp.Ordering.TheVariants.{Less, Equal, Greater}
 use Rattle.std.specs.declared.option.Option.{Option}
-use Rattle.std.specs.declared.option.Option.TheVariants.{None, Some}
+use Rattle.std.specs.declared.option.Option.TheVariants.{Some}
 use Rattle.std.proofs.lemmas.Bool.{and_parts}
 use Rattle.std.proofs.lemmas.Cmp.{int_ranked}
 use Rattle.std.proofs.lemmas.Int.{ints}
 use Rattle.std.proofs.lemmas.Map.Lookups.{exact_bytes}
 use Rattle.jiff_core.proofs.SignedLemmas.{signed_arith, int_div_euclid-parts}
 use Rattle.mesh_values.specs.declared.times.Bounds.{Bounds}
-use Rattle.mesh_values.specs.declared.times.Unit.TheVariants.{Day}
 use Rattle.mesh_values.specs.declared.values.Cell.{Cell}
 use Rattle.mesh_values.specs.declared.values.Cell.TheVariants.{Null, Int, Text, Date, Bool as Truth}
 use Rattle.mesh_base.specs.declared.expressions.Var.{Var}
@@ -25,9 +24,8 @@ use Rattle.mesh_time.proofs.Apart.{and_true, le_says, le_true, lt_true}
 use Rattle.mesh_seconds.specs.Times.{first_second, is_within, time_of}
 use Rattle.mesh_casts.specs.Casts.{cast_to_text}
 use Rattle.mesh_casts.specs.Dates.{day_named, day_text, is_day_number}
-use Rattle.mesh_meaning.specs.Cells.{answer, between, both, comparison, compared, day, fits, is_true, number}
-use Rattle.mesh_meaning.specs.Macros.{day_of_second, last_second, macro_value}
-use Rattle.mesh_scratch.specs.Horizons.{floored}
+use Rattle.mesh_meaning.specs.Cells.{between, both, compared, day, fits, is_true}
+use Rattle.mesh_meaning.specs.Macros.{last_second, macro_value}
 use Rattle.mesh_steady.specs.Steady.{are_ends_by}
 use Rattle.mesh_steady.specs.Arrives.{from_its_day}
 use Rattle.mesh_steady_laws.specs.Days.{IsOfDay}

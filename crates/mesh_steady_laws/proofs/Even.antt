@@ -1,6 +1,6 @@
 -- What stands below an even model is even; so laws of models may ask it of the model alone.
-use Rattle.std.proofs.Common.{◌≡◌, Bool, true, false, not, ◌&&◌, ◌||◌, List, [], ◌∷◌, ◌++◌, refl, sym, ap, ◌∙◌, subst}
-use Rattle.std.specs.List.{All, Contains, list_any}
+use Rattle.std.proofs.Common.{◌≡◌, Bool, true, false, not, ◌&&◌, ◌||◌, List, [], ◌∷◌, refl, sym, ap, ◌∙◌}
+use Rattle.std.specs.List.{Contains, list_any}
 use Rattle.mesh_values.specs.Bag.{IsSameBag}
 use Rattle.mesh_values.specs.Kinds.{is_incremental}
 use Rattle.mesh_values.specs.declared.kinds.Kind.TheVariants.{Full}

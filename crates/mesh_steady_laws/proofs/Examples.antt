@@ -1,8 +1,7 @@
 -- A shop, worked out by hand: a model by days over a timed source, and a FULL model over it. An order of the third day comes
 -- late, and what was computed stays.
-use Rattle.std.proofs.Common.{◌≡◌, ℕ, ◌+◌, ◌*◌, ℤ, pos, ◌≤ℤ◌, Bool, true, false, ◌&&◌, inl, inr, List, [], ◌∷◌, ◌++◌, length, refl, sym, ap, ap₂, ◌∙◌, subst, arith}
+use Rattle.std.proofs.Common.{◌≡◌, ℕ, ◌+◌, ◌*◌, pos, ◌≤ℤ◌, Bool, true, false, ◌&&◌, inl, inr, List, [], ◌∷◌, length, refl, sym, ap, ap₂, ◌∙◌, subst}
 use Rattle.std.specs.Prelude.{codes}
-use Rattle.std.specs.List.{All, Contains}
 use Rattle.std.specs.Ordering.{is_eq}
 use Rattle.std.specs.declared.option.Option.TheVariants.{None, Some}
 use Rattle.std.proofs.lemmas.List.Elements.{All-nil, All-cons}
@@ -25,20 +24,16 @@ use Rattle.mesh_base.specs.declared.expressions.Expr as expr
 use Rattle.mesh_base.specs.declared.expressions.Expr.TheOpen.{Between, Col, Macro}
 use Rattle.mesh_base.specs.declared.expressions.Var.TheVariants as var
 use Rattle.mesh_base.specs.declared.jobs.Input.{Input}
-use Rattle.mesh_base.specs.declared.queries.FromItem.{FromItem}
 use Rattle.mesh_base.specs.declared.queries.Item.{Item}
 use Rattle.mesh_base.specs.declared.queries.Join.TheVariants as join
 use Rattle.mesh_base.specs.declared.queries.Rel.TheVariants as rel
-use Rattle.mesh_base.specs.declared.queries.Select.{Select}
 use Rattle.mesh_time.proofs.Apart.{le_says}
 use Rattle.mesh_scratch.specs.Closures.{Closure, Model, Alone, With, own_of, standing}
 use Rattle.mesh_scratch.specs.Horizons.{Clock, horizon, schedule}
 use Rattle.mesh_scratch.specs.Scratch.{from_scratch, piece}
 use Rattle.mesh_laws.proofs.Has.{Has, Has_from, Has_to}
-use Rattle.mesh_due.specs.Marks.{marks, same_marks}
 use Rattle.mesh_sound.specs.Sound.{HasEachOnce}
 use Rattle.mesh_steady.specs.Arrives.{HasSameRows, KeepsUnits, StaysStatic}
-use Rattle.mesh_steady.specs.Even.{is_even}
 use Rattle.mesh_steady.specs.Steady.{are_ends, are_ends_here, bounds, bounds_here, is_column, is_column_here, when_bounds}
 use Rattle.mesh_steady_laws.specs.Kept.{AreKept, IsKept}
 use Rattle.mesh_steady_laws.proofs.Both.{all_of}

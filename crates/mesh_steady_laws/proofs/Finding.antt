@@ -19,10 +19,9 @@ use Rattle.mesh_base.specs.declared.jobs.Input.{Input}
 use Rattle.mesh_base.specs.declared.queries.FromItem.{FromItem}
 use Rattle.mesh_base.specs.declared.queries.Select.{Select}
 use Rattle.mesh_meaning.specs.Tables.{columns_in, rows_in}
-use Rattle.mesh_scratch.specs.Closures.{Closure, Closures, Alone, With, each_of, own_of}
+use Rattle.mesh_scratch.specs.Closures.{Closure, Closures, Alone, With, own_of}
 use Rattle.mesh_scratch.specs.Horizons.{Clock}
 use Rattle.mesh_scratch.specs.Scratch.{defn_rows, from_scratch, is_of_unit, piece_over, table_of, tables}
-use Rattle.mesh_scratch.specs.Sources.{declared}
 use Rattle.mesh_laws.specs.Alike.{named}
 use Rattle.mesh_steady.specs.Steady.{is_defn_bound, is_found_parent_bound, is_parent_bound, is_relation_bound, is_source_bound, parent_named, source_declared}
 use Rattle.mesh_steady_laws.specs.Days.{IsOfDay}

@@ -1,6 +1,6 @@
 -- Where a model's marks are the same, so are the horizons of all tables that it stands on.
-use Rattle.std.proofs.Common.{◌≡◌, ℤ, Bool, true, false, ◌&&◌, cond, inl, inr, List, [], ◌∷◌, map, refl, sym, ap, ◌∙◌, subst}
-use Rattle.std.specs.List.{Contains, filter}
+use Rattle.std.proofs.Common.{◌≡◌, ℤ, Bool, true, false, cond, inl, inr, List, [], ◌∷◌, map, refl, sym, ap, ◌∙◌, subst}
+use Rattle.std.specs.List.{filter}
 use Rattle.std.specs.Ordering.{int_cmp, is_eq}
 use Rattle.std.specs.Cmp.{Equal-is}
 use Rattle.std.specs.declared.cmp.Ordering.{Ordering}
@@ -22,7 +22,7 @@ use Rattle.mesh_scratch.specs.Closures.{Closure, Closures, Model, ancestors, own
 use Rattle.mesh_scratch.specs.Horizons.{Clock, horizon}
 use Rattle.mesh_laws.proofs.Has.{Has, Has_filter, Has_filter_from, Has_to}
 use Rattle.mesh_laws.proofs.Lists.{Each}
-use Rattle.mesh_due.specs.Marks.{Mark, by_name, is_computed, mark_name, mark_of, marked, marks, same_marks}
+use Rattle.mesh_due.specs.Marks.{Mark, by_name, is_computed, mark_name, mark_of, marks, same_marks}
 use Rattle.mesh_due.specs.Parts.{same_second}
 use Rattle.mesh_sound.specs.Sound.{HasEachOnce}
 

@@ -1,9 +1,9 @@
 -- A query whose FROM items are bound to a unit has the same rows over tables without the rows that aren't near.
-use Rattle.std.proofs.Common.{◌≡◌, ℕ, suc, Bool, true, false, ◌&&◌, cond, List, [], ◌∷◌, ◌++◌, map, length, refl, sym, ap, ◌∙◌, subst}
+use Rattle.std.proofs.Common.{◌≡◌, ℕ, suc, true, cond, List, [], ◌∷◌, ◌++◌, length, refl, ap, ◌∙◌, subst}
 use Rattle.std.specs.Prelude.{slice_index_or}
-use Rattle.std.specs.List.{filter, flat_map, fold, list_all}
+use Rattle.std.specs.List.{filter, fold, list_all}
 use Rattle.std.proofs.lemmas.Bool.{and_parts}
-use Rattle.std.proofs.lemmas.List.{append_assoc, length-append}
+use Rattle.std.proofs.lemmas.List.{append_assoc}
 use Rattle.mesh_values.specs.declared.times.Bounds.{Bounds}
 use Rattle.mesh_values.specs.declared.values.Cell.{Cell}
 use Rattle.mesh_values.specs.declared.values.Column.{Column}

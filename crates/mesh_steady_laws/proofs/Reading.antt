@@ -1,6 +1,6 @@
 -- A steady incremental model needs no rows but those near its unit, and the tables that a model reads are its sources' and its
 -- parents'.
-use Rattle.std.proofs.Common.{◌≡◌, true, List, ◌++◌, map, refl, ap}
+use Rattle.std.proofs.Common.{◌≡◌, true, List, ap}
 use Rattle.mesh_values.specs.Kinds.{is_incremental}
 use Rattle.mesh_values.specs.declared.times.Bounds.{Bounds}
 use Rattle.mesh_values.specs.declared.values.Cell.{Cell}

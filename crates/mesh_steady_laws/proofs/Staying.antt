@@ -1,17 +1,15 @@
 -- The units of a steady model keep their rows.
-use Rattle.std.proofs.Common.{◌≡◌, ℕ, zero, suc, ◌+◌, ◌<◌, ◌≤◌, ℤ, pos, ◌*ℤ◌, ◌≤ℤ◌, Bool, true, false, not, ◌&&◌, ◌||◌, cond, ◌⊎◌, inl, inr, List, [], ◌∷◌, ◌++◌, map, refl, sym, ap, ◌∙◌, subst, arith}
-use Rattle.std.specs.List.{All, Contains, filter, find, flat_map, list_all, list_any, range_with_len}
+use Rattle.std.proofs.Common.{◌≡◌, ℕ, zero, suc, ◌+◌, ◌<◌, ◌≤◌, ℤ, pos, ◌*ℤ◌, ◌≤ℤ◌, Bool, true, false, not, ◌&&◌, cond, inl, inr, List, [], ◌∷◌, ◌++◌, map, refl, sym, ap, ◌∙◌, subst, arith}
+use Rattle.std.specs.List.{Contains, filter, find, flat_map, list_all, list_any, range_with_len}
 use Rattle.std.specs.Int.Signed.{le_z, lt_z}
-use Rattle.std.specs.Ordering.{is_eq}
 use Rattle.std.specs.Option.{is_some}
 use Rattle.std.specs.declared.option.Option.{Option}
 use Rattle.std.specs.declared.option.Option.TheVariants.{None, Some}
-use Rattle.std.proofs.lemmas.Bool.{and_parts, eqb-true}
+use Rattle.std.proofs.lemmas.Bool.{and_parts}
 use Rattle.std.proofs.lemmas.Int.{ints}
-use Rattle.std.proofs.lemmas.List.Elements.{All-nil, All-cons, filter-append}
+use Rattle.std.proofs.lemmas.List.Elements.{filter-append}
 use Rattle.mesh_values.specs.Bag.{IsSameBag, times}
 use Rattle.mesh_values.specs.Kinds.{is_incremental, time_column}
-use Rattle.mesh_values.specs.Names.{name_cmp}
 use Rattle.mesh_values.specs.declared.kinds.Kind.{Kind}
 use Rattle.mesh_values.specs.declared.kinds.Kind.TheVariants.{Full, View, Seed, Incremental}
 use Rattle.mesh_values.specs.declared.times.Bounds.{Bounds}
@@ -28,15 +26,15 @@ use Rattle.mesh_base.specs.declared.definitions.Own.{Own}
 use Rattle.mesh_base.specs.declared.jobs.Input.{Input}
 use Rattle.mesh_rules.specs.Proper.{defn_names, is_body_of}
 use Rattle.mesh_time.specs.Ranges.{unit_at, unit_count, units}
-use Rattle.mesh_time.proofs.Apart.{le_says, lt_false, lt_says}
+use Rattle.mesh_time.proofs.Apart.{le_says, lt_false}
 use Rattle.mesh_time.proofs.Units.{unit_listed}
 use Rattle.mesh_seconds.specs.Times.{is_within, lies_in, time_of}
 use Rattle.mesh_values.specs.Picked.{cell_of}
 use Rattle.mesh_scratch.specs.Closures.{Closure, Closures, Model, Alone, With, ancestors, each_of, own_of, standing}
 use Rattle.mesh_scratch.specs.Horizons.{Clock, horizon, schedule, units_from}
-use Rattle.mesh_scratch.specs.Scratch.{defn_rows, from_scratch, inputs_of, is_of_unit, lies_by, no_bounds, piece, piece_over, rows_over, table_of, tables}
-use Rattle.mesh_scratch.specs.Sources.{declared, declared_rows, inputs, source_named}
-use Rattle.mesh_laws.specs.Alike.{AreSameTables, IsSameTable, named}
+use Rattle.mesh_scratch.specs.Scratch.{defn_rows, from_scratch, inputs_of, lies_by, no_bounds, piece, piece_over, rows_over, table_of, tables}
+use Rattle.mesh_scratch.specs.Sources.{declared, declared_rows, inputs}
+use Rattle.mesh_laws.specs.Alike.{IsSameTable, named}
 use Rattle.mesh_laws.proofs.Bags.{bag_is_perm, counts_same}
 use Rattle.mesh_laws.proofs.Has.{Has, Has_map, Has_to}
 use Rattle.mesh_laws.proofs.Lists.{Each, Each_left, Each_right, each}
@@ -44,10 +42,10 @@ use Rattle.mesh_laws.proofs.Models.{piece_bag}
 use Rattle.mesh_laws.proofs.Perm.{Perm, appended, filtered, is, nil, trans}
 use Rattle.mesh_steady.specs.Arrives.{KeepsUnits, StaysStatic, from_its_day}
 use Rattle.mesh_steady.specs.Even.{is_even}
-use Rattle.mesh_steady.specs.Steady.{has_timed_source, is_defn_bound, is_steady, is_steady_as, is_timed_source, is_timeless, parent_named, source_declared}
+use Rattle.mesh_steady.specs.Steady.{has_timed_source, is_defn_bound, is_steady_as, is_timed_source, is_timeless, parent_named, source_declared}
 use Rattle.mesh_steady_laws.specs.Days.{IsOfDay}
 use Rattle.mesh_steady_laws.specs.Kept.{IsKept}
-use Rattle.mesh_steady_laws.specs.Near.{inputs_with, near, near_model, near_source, parents_with, source_of}
+use Rattle.mesh_steady_laws.specs.Near.{inputs_with, near, near_model, near_source}
 use Rattle.mesh_steady_laws.proofs.Both.{all_of}
 use Rattle.mesh_steady_laws.proofs.Dates.{by_lt}
 use Rattle.mesh_steady_laws.proofs.Finding.{finds, found_with, near_piece, tables_are}

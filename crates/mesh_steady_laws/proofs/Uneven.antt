@@ -1,9 +1,9 @@
 -- Three models of which one by hours stands on one by days, and that on one by hours. Each is steady, there are no sources,
 -- and yet an hour of the last gets other rows as time goes on: its day isn't computed yet while the first model's horizon
 -- is within the day, but the horizon of the last model is there too. So evenness is asked.
-use Rattle.std.proofs.Common.{◌≡◌, ℕ, ◌*◌, ◌^◌, ℤ, pos, ◌≤ℤ◌, Bool, true, false, cond, not, ◌&&◌, nat_eq, inl, List, [], ◌∷◌, ◌++◌, map, refl, sym, ap, ap₂, ◌∙◌, subst, arith}
+use Rattle.std.proofs.Common.{◌≡◌, ℕ, pos, ◌≤ℤ◌, Bool, true, false, cond, ◌&&◌, nat_eq, inl, List, [], ◌∷◌, ◌++◌, map, refl, sym, ap, ap₂, ◌∙◌, arith}
 use Rattle.std.specs.Prelude.{codes}
-use Rattle.std.specs.List.{All, Contains, filter, flat_map}
+use Rattle.std.specs.List.{Contains, filter, flat_map}
 use Rattle.std.specs.declared.option.Option.{Option}
 use Rattle.std.specs.declared.option.Option.TheVariants.{None, Some}
 use Rattle.std.specs.Int.Signed.{le_z}
@@ -20,7 +20,6 @@ use Rattle.mesh_values.specs.declared.values.Cell.TheVariants as cell
 use Rattle.mesh_values.specs.declared.values.ColType.TheVariants as type
 use Rattle.mesh_values.specs.declared.values.Column.{Column}
 use Rattle.mesh_values.specs.declared.values.Name.{Name}
-use Rattle.mesh_base.specs.declared.definitions.Decl.{Decl}
 use Rattle.mesh_base.specs.declared.definitions.Defn.TheVariants as defn
 use Rattle.mesh_base.specs.declared.definitions.Own.{Own}
 use Rattle.mesh_base.specs.declared.expressions.Expr.{Expr, map-Expr, out-roll-Expr, para-roll-Expr, roll-Expr}
@@ -38,15 +37,15 @@ use Rattle.mesh_time.proofs.Apart.{le_says}
 use Rattle.mesh_meaning.specs.Cells.{between, is_true}
 use Rattle.mesh_meaning.specs.Ev.{Ev, Seen, at_row, node_value, seen, valued}
 use Rattle.mesh_meaning.specs.Macros.{macro_value}
-use Rattle.mesh_meaning.specs.Sel.{Joined, item_row, partners, plain_rows, row_holds}
+use Rattle.mesh_meaning.specs.Sel.{partners, plain_rows, row_holds}
 use Rattle.mesh_meaning.proofs.Nodes.{Ev_out}
 use Rattle.mesh_scratch.specs.Closures.{Closure, Model, Alone, With, own_of, standing}
 use Rattle.mesh_scratch.specs.Horizons.{Clock, horizon, schedule}
-use Rattle.mesh_scratch.specs.Scratch.{from_scratch, is_of_unit, piece, piece_over, table_of}
+use Rattle.mesh_scratch.specs.Scratch.{is_of_unit, piece, piece_over, table_of}
 use Rattle.mesh_laws.proofs.Has.{Has_to}
 use Rattle.mesh_steady.specs.Arrives.{KeepsUnits, StaysStatic}
 use Rattle.mesh_steady.specs.Even.{is_even}
-use Rattle.mesh_steady.specs.Steady.{are_ends, are_ends_here, bounds, bounds_here, is_column, is_column_here, is_steady, when_bounds}
+use Rattle.mesh_steady.specs.Steady.{are_ends, are_ends_here, bounds, bounds_here, is_column, is_column_here, when_bounds}
 use Rattle.mesh_steady_laws.specs.Kept.{AreKept, IsKept}
 use Rattle.mesh_steady_laws.proofs.Both.{all_of}
 

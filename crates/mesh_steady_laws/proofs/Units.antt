@@ -1,5 +1,5 @@
 -- The units of a model, and of the models that it stands on.
-use Rattle.std.proofs.Common.{◌≡◌, ℕ, zero, suc, ◌+◌, ◌*◌, ◌<◌, ◌≤◌, ℤ, pos, negsuc, ◌+ℤ◌, ◌*ℤ◌, ◌<ℤ◌, ◌≤ℤ◌, Bool, true, false, not, ◌&&◌, ◌||◌, cond, ◌⊎◌, inl, inr, List, [], ◌∷◌, ◌++◌, map, refl, sym, ap, ◌∙◌, subst, arith}
+use Rattle.std.proofs.Common.{◌≡◌, ℕ, zero, suc, ◌+◌, ◌*◌, ◌<◌, ◌≤◌, ℤ, pos, ◌+ℤ◌, ◌*ℤ◌, ◌<ℤ◌, ◌≤ℤ◌, Bool, true, false, not, ◌&&◌, ◌||◌, cond, inl, inr, List, [], ◌∷◌, ◌++◌, refl, sym, subst, arith}
 use Rattle.std.specs.Prelude.{int_lt}
 use Rattle.std.specs.Int.{int_div_euclid, int_min}
 use Rattle.std.specs.List.{Contains, list_any, range_with_len}
@@ -13,7 +13,7 @@ use Rattle.mesh_values.specs.declared.times.Schedule.{Schedule}
 use Rattle.mesh_values.specs.declared.times.Unit.{Unit as TimeUnit}
 use Rattle.mesh_values.specs.declared.times.Unit.TheVariants.{Hour, Day}
 use Rattle.mesh_base.specs.declared.definitions.Own.{Own}
-use Rattle.mesh_time.specs.Ranges.{unit_at, unit_count, unit_size, units}
+use Rattle.mesh_time.specs.Ranges.{unit_at, unit_count, units}
 use Rattle.mesh_time.proofs.Units.{unit_listed}
 use Rattle.mesh_scratch.specs.Closures.{Closure, Closures, Model, Alone, With, ancestors, each_of, own_of, parents_of, standing}
 use Rattle.mesh_scratch.specs.Horizons.{Clock, floored, horizon, horizon_under, horizons_from, horizons_of, last_tick, least_of, schedule, units_from, with_horizon}

@@ -1,16 +1,13 @@
 -- A steady FULL model keeps its rows while the horizons that it stands on stay.
-use Rattle.std.proofs.Common.{◌≡◌, ◌≤ℤ◌, ℤ, Bool, true, false, not, ◌&&◌, ◌||◌, cond, ◌⊎◌, inl, inr, List, [], ◌∷◌, ◌++◌, map, refl, sym, ap, ◌∙◌, subst}
-use Rattle.std.specs.List.{All, Contains, find, flat_map, list_any}
+use Rattle.std.proofs.Common.{◌≡◌, Bool, true, false, not, ◌&&◌, ◌||◌, cond, inl, inr, List, [], ◌∷◌, refl, sym, ap, ◌∙◌}
+use Rattle.std.specs.List.{flat_map, list_any}
 use Rattle.std.specs.Ordering.{is_eq}
 use Rattle.std.specs.declared.option.Option.TheVariants.{Some}
 use Rattle.mesh_values.specs.Bag.{IsSameBag, times}
 use Rattle.mesh_values.specs.Kinds.{is_incremental}
 use Rattle.mesh_values.specs.Names.{name_cmp}
-use Rattle.mesh_values.specs.declared.times.Bounds.{Bounds}
-use Rattle.mesh_values.specs.declared.values.Cell.{Cell}
 use Rattle.mesh_values.specs.declared.values.Name.{Name}
 use Rattle.mesh_base.specs.declared.definitions.Decl.{Decl}
-use Rattle.mesh_base.specs.declared.definitions.Own.{Own}
 use Rattle.mesh_base.specs.declared.jobs.Input.{Input}
 use Rattle.mesh_rules.specs.Proper.{defn_names}
 use Rattle.mesh_scratch.specs.Closures.{Closure, Closures, Model, Alone, With, ancestors, own_of, standing}
@@ -18,7 +15,6 @@ use Rattle.mesh_scratch.specs.Horizons.{Clock, horizon, schedule, units_from}
 use Rattle.mesh_scratch.specs.Scratch.{from_scratch, piece, rows_over, table_of, tables}
 use Rattle.mesh_scratch.specs.Sources.{declared, inputs}
 use Rattle.mesh_laws.specs.Alike.{IsSameTable, named}
-use Rattle.mesh_laws.specs.Loads.{HasSameSources}
 use Rattle.mesh_laws.proofs.Bags.{bag_is_perm, counts_same}
 use Rattle.mesh_laws.proofs.Has.{Has, Has_to}
 use Rattle.mesh_laws.proofs.Lists.{Each, Each_left, Each_right, each}

@@ -1,12 +1,12 @@
 -- In a sound world of steady and even models nothing moves where sources change in such rows alone as arrive.
-use Rattle.std.proofs.Common.{◌≡◌, ℕ, zero, suc, ◌<◌, ℤ, ◌≤ℤ◌, Bool, true, false, not, ◌&&◌, ◌||◌, cond, nat_eq, inl, inr, List, [], ◌∷◌, ◌++◌, refl, sym, ap, ◌∙◌, subst, arith, IsTrue}
-use Rattle.std.specs.List.{All, AllByRecursion, Contains, list_all, list_any}
+use Rattle.std.proofs.Common.{◌≡◌, ℕ, zero, suc, ◌<◌, ℤ, ◌≤ℤ◌, Bool, true, false, not, ◌&&◌, ◌||◌, nat_eq, inl, inr, List, [], ◌∷◌, ◌++◌, refl, sym, ap, ◌∙◌, subst, arith}
+use Rattle.std.specs.List.{All, AllByRecursion, list_all, list_any}
 use Rattle.std.specs.Option.{option_map}
 use Rattle.std.specs.declared.option.Option.{Option}
 use Rattle.std.specs.declared.option.Option.TheVariants.{None, Some}
 use Rattle.std.proofs.lemmas.Bool.{and_parts}
 use Rattle.std.proofs.lemmas.Bool.Decides.{nat_tests}
-use Rattle.mesh_list.specs.Keyed.{ascends, below_first, found}
+use Rattle.mesh_list.specs.Keyed.{ascends, below_first}
 use Rattle.mesh_list.proofs.Ascends.{and_left, and_right, and_both}
 use Rattle.mesh_list.proofs.Each.{each_found}
 use Rattle.mesh_values.specs.Bag.{IsSameBag, times}
@@ -24,13 +24,13 @@ use Rattle.mesh_base.specs.declared.snapshots.Ref.{Ref}
 use Rattle.mesh_base.specs.declared.snapshots.Snapshot.{Snapshot}
 use Rattle.mesh_rules.specs.Proper.{is_body_of}
 use Rattle.mesh_book.specs.declared.book.Book.{Book}
-use Rattle.mesh_book.specs.WellFormed.{all_fit, is_above, is_moment, is_snapshot_fit, is_version, is_well_formed_book, snapshot_at}
+use Rattle.mesh_book.specs.WellFormed.{all_fit, is_above, is_moment, is_snapshot_fit, is_version, is_well_formed_book}
 use Rattle.mesh_house.specs.declared.world.World.{World}
 use Rattle.mesh_house.specs.World.{version_of}
-use Rattle.mesh_scratch.specs.Closures.{Closure, Closures, Model, Alone, With, ancestors, own_of, standing, with_parent}
-use Rattle.mesh_scratch.specs.Horizons.{Clock, Shows, horizon, schedule}
+use Rattle.mesh_scratch.specs.Closures.{Closure, Model, ancestors, own_of, standing, with_parent}
+use Rattle.mesh_scratch.specs.Horizons.{Clock, Shows, schedule}
 use Rattle.mesh_scratch.specs.Scratch.{from_scratch, piece}
-use Rattle.mesh_laws.proofs.Has.{Has, Has_from, Has_to}
+use Rattle.mesh_laws.proofs.Has.{Has, Has_to}
 use Rattle.mesh_laws.proofs.Lists.{Each}
 use Rattle.mesh_listed.specs.Closing.{IsSnapshot, closed, closing, parents_by}
 use Rattle.mesh_listed.proofs.Books.{IsParent, fits, is_its_own}
@@ -44,7 +44,6 @@ use Rattle.mesh_sound.specs.Moved.{is_unit_of, moved, same_bag, unit_moves, whol
 use Rattle.mesh_sound.proofs.Crons.{closed_crons}
 use Rattle.mesh_sound.proofs.Fits.{its_body}
 use Rattle.mesh_steady.specs.Arrives.{Arrives, KeepsUnits, StaysStatic}
-use Rattle.mesh_steady.specs.Even.{is_even}
 use Rattle.mesh_steady.specs.Steady.{is_steady, is_steady_as, reaches_timed}
 use Rattle.mesh_steady_laws.specs.Projects.{IsSteadyBook}
 use Rattle.mesh_steady_laws.proofs.Marks.{same_horizons, second_is}

@@ -13,9 +13,7 @@ use Rattle.mesh_base.specs.declared.definitions.Own.{Own}
 use Rattle.mesh_base.specs.declared.jobs.Input.{Input}
 use Rattle.mesh_seconds.specs.Times.{lies_in}
 use Rattle.mesh_scratch.specs.Closures.{Closure, Closures, Alone, With, own_of}
-use Rattle.mesh_scratch.specs.Horizons.{Clock}
-use Rattle.mesh_scratch.specs.Scratch.{from_scratch, table_of}
-use Rattle.mesh_scratch.specs.Sources.{declared}
+use Rattle.mesh_scratch.specs.Scratch.{table_of}
 use Rattle.mesh_steady.specs.Arrives.{from_its_day}
 
 -- rows whose time lies in the unit, or on its day before it; all rows where there is no time column
