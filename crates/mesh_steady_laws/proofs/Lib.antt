@@ -28,6 +28,8 @@ pub mod Marks
 pub mod Even
 -- Worlds: nothing moves in a sound world of steady and even models.
 pub mod Worlds
+-- Ticks: last ticks of some crons, worked out by hand.
+pub mod Ticks
 -- Uneven: three models whose units aren't even, and move.
 pub mod Uneven
 -- Examples: a shop whose computed rows stay, worked out by hand.

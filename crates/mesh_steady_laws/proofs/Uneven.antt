@@ -1,7 +1,7 @@
 -- Three models of which one by hours stands on one by days, and that on one by hours. Each is steady, there are no sources,
 -- and yet an hour of the last gets other rows as time goes on: its day isn't computed yet while the first model's horizon
 -- is within the day, but the horizon of the last model is there too. So evenness is asked.
-use Rattle.std.proofs.Common.{◌≡◌, ℕ, pos, ◌≤ℤ◌, Bool, true, false, cond, ◌&&◌, nat_eq, inl, List, [], ◌∷◌, ◌++◌, map, refl, sym, ap, ap₂, ◌∙◌, arith}
+use Rattle.std.proofs.Common.{◌≡◌, ℕ, ℤ, pos, ◌≤ℤ◌, Bool, true, false, cond, ◌&&◌, nat_eq, inl, List, [], ◌∷◌, ◌++◌, map, refl, sym, ap, ap₂, ◌∙◌, subst, arith}
 use Rattle.std.specs.Prelude.{codes}
 use Rattle.std.specs.List.{Contains, filter, flat_map}
 use Rattle.std.specs.declared.option.Option.{Option}
@@ -40,18 +40,17 @@ use Rattle.mesh_meaning.specs.Macros.{macro_value}
 use Rattle.mesh_meaning.specs.Sel.{partners, plain_rows, row_holds}
 use Rattle.mesh_meaning.proofs.Nodes.{Ev_out}
 use Rattle.mesh_scratch.specs.Closures.{Closure, Model, Alone, With, own_of, standing}
-use Rattle.mesh_scratch.specs.Horizons.{Clock, horizon, schedule}
+use Rattle.mesh_scratch.specs.Horizons.{Clock, Shows, horizon, schedule}
 use Rattle.mesh_scratch.specs.Scratch.{is_of_unit, piece, piece_over, table_of}
+use Rattle.mesh_scratch.proofs.Clocks.{shown}
+use Rattle.mesh_scratch.proofs.Moments.{one_floor}
 use Rattle.mesh_laws.proofs.Has.{Has_to}
 use Rattle.mesh_steady.specs.Arrives.{KeepsUnits, StaysStatic}
 use Rattle.mesh_steady.specs.Even.{is_even}
 use Rattle.mesh_steady.specs.Steady.{are_ends, are_ends_here, bounds, bounds_here, is_column, is_column_here, when_bounds}
 use Rattle.mesh_steady_laws.specs.Kept.{AreKept, IsKept}
 use Rattle.mesh_steady_laws.proofs.Both.{all_of}
-
--- minute 0 of these hours of each day
-abbrev at_hours : ℕ → CronSets
-at_hours hours = record { minute = 1; hour = hours; dom = 0xffff_fffe; month = 0x1ffe; dow = 0x7f; dom_star = true; dow_star = true }
+use Rattle.mesh_steady_laws.proofs.Ticks.{at_midnight, at_six, each_hour, hour_is_read, hour_later, hour_then, is_later, is_then, midnight_is_read, midnight_later, midnight_then, six_before, six_is_read, six_later}
 
 abbrev name : List ℕ → Name
 name model = record { schema = codes "s"; model = model }
@@ -89,17 +88,17 @@ within = expr.Between (expr.Col 0 t) (expr.Macro var.StartEpoch) (expr.Macro var
 
 -- SELECT @start_epoch AS t, at 06:00 of each day
 abbrev first : Own
-first = model (codes "a") (at_hours 64) unit.Hour (select start_epoch [] None)
+first = model (codes "a") at_six unit.Hour (select start_epoch [] None)
 
 -- SELECT t FROM .. WHERE t BETWEEN @start_epoch AND @end_epoch
 abbrev picking : List ℕ → Select
 picking from = select column_t (record { join = join.First; rel = rel.Named (name from); on = None } ∷ []) (Some within)
 
 abbrev second : Own
-second = model (codes "b") (at_hours 1) unit.Day (picking (codes "a"))
+second = model (codes "b") at_midnight unit.Day (picking (codes "a"))
 
 abbrev third : Own
-third = model (codes "c") (at_hours 0xff_ffff) unit.Hour (picking (codes "b"))
+third = model (codes "c") each_hour unit.Hour (picking (codes "b"))
 
 abbrev hours : Closure
 hours = Model first Alone
@@ -110,13 +109,17 @@ days = Model second (With hours Alone)
 abbrev hours_again : Closure
 hours_again = Model third (With days Alone)
 
--- on 1970-01-02 at 05:00 the last ticks are those of 06:00 the day before, of midnight, and of 05:00
-abbrev at_five : Clock
-at_five cron = pos (cond (nat_eq cron.hour 64) 21_600 (cond (nat_eq cron.hour 1) 86_400 104_400))
+-- a clock of these last ticks: at 06:00, at midnight, and each hour
+abbrev of_ticks : ℤ → ℤ → ℤ → Clock
+of_ticks six midnight hour cron = cond (nat_eq cron.hour 64) six (cond (nat_eq cron.hour 1) midnight hour)
 
--- and two hours later those of 06:00, of midnight, and of 07:00
-abbrev at_seven : Clock
-at_seven cron = pos (cond (nat_eq cron.hour 64) 108_000 (cond (nat_eq cron.hour 1) 86_400 111_600))
+-- on 1970-01-02 at midnight they are those of 06:00 the day before, and of midnight; six hours later those of 06:00, of
+-- midnight, and of 06:00
+abbrev then_ : Clock
+then_ = of_ticks (pos 21_600) (pos 86_400) (pos 86_400)
+
+abbrev now : Clock
+now = of_ticks (pos 108_000) (pos 86_400) (pos 108_000)
 
 -- the first hour of 1970-01-01
 abbrev hour : Bounds
@@ -206,51 +209,116 @@ second_rows : (rows : Rows) (us : List Bounds) → flat_map (piece_over second (
 second_rows rows [] = refl
 second_rows rows (u ∷ us) = λ i. second_piece rows u i ++ second_rows rows us i
 
--- at five there is no day yet, and the hour has no row
-before_noon : piece [] at_five hours_again hour ≡ []
+-- at midnight the day isn't computed yet, and the hour has no row
+before_noon : piece [] then_ hours_again hour ≡ []
 before_noon = refl
 
--- at seven there is one
-later_on : piece [] at_seven hours_again hour ≡ (cell.Int (pos 0) ∷ []) ∷ []
+-- at six there is one
+later_on : piece [] now hours_again hour ≡ (cell.Int (pos 0) ∷ []) ∷ []
 later_on =
-    ap (λ rows. piece_over third (table_of second (flat_map (piece_over second (table_of first rows ∷ [])) (schedule at_seven days)) ∷ []) hour) (first_rows [] (schedule at_seven hours))
-    ∙ ap (λ rows. piece_over third (table_of second rows ∷ []) hour) (second_rows (flat_map started (schedule at_seven hours)) (schedule at_seven days))
-    ∙ third_piece (flat_map (λ u. filter (is_of_unit second u) (picked u (flat_map started (schedule at_seven hours)) ++ [])) (schedule at_seven days)) hour
-    ∙ refl
+    ap (λ rows. piece_over third (table_of second (flat_map (piece_over second (table_of first rows ∷ [])) (schedule now days)) ∷ []) hour) (first_rows [] (schedule now hours))
+    ∙ ap (λ rows. piece_over third (table_of second rows ∷ []) hour) (second_rows (flat_map started (schedule now hours)) (schedule now days))
+    ∙ third_piece (flat_map (λ u. filter (is_of_unit second u) (picked u (flat_map started (schedule now hours)) ++ [])) (schedule now days)) hour
 
-it_moves : ¬ IsSameBag (piece [] at_five hours_again hour) (piece [] at_seven hours_again hour)
-it_moves same =
-    let none : times (cell.Int (pos 0) ∷ []) [] ≡ times (cell.Int (pos 0) ∷ []) ((cell.Int (pos 0) ∷ []) ∷ []) =
-    sym (ap (times (cell.Int (pos 0) ∷ [])) before_noon) ∙ same (cell.Int (pos 0) ∷ []) ∙ ap (times (cell.Int (pos 0) ∷ [])) later_on in
-    let clash : 0 ≡ 1 = none in absurd (omega (arith, clash))
-
--- but for evenness all is as it should be
-not_even : is_even hours_again ≡ false
-not_even = refl
-
--- the second and the third model are steady as their conjunct binds t
+-- the second and the third model are steady as their conjunct binds t, but the third isn't even
 bound_by : (b : Bool) → b ≡ true → ((b && true) && true) ≡ true
 bound_by b e = ap (λ c. (c && true) && true) e
 
-grows : (c : Closure) → le_z (horizon at_five c) (horizon at_seven c) ≡ true → horizon at_five c ≤ℤ horizon at_seven c
-grows c h = le_says (horizon at_five c) (horizon at_seven c) h
+not_even : is_even hours_again ≡ false
+not_even = refl
 
-lowest : IsKept [] [] at_five at_seven hours
-lowest = record { body = refl; steady = refl; static = All-nil (StaysStatic [] []); timed = λ timed. All-nil (KeepsUnits [] [] (schedule at_five hours)); no_earlier = grows hours refl }
+-- the last ticks of a clock that shows one of these moments
+record HasTicks (clock : Clock) (six midnight hour : ℤ) : Type 0 where
+  six_is : clock at_six ≡ six
+  midnight_is : clock at_midnight ≡ midnight
+  hour_is : clock each_hour ≡ hour
 
-middle : IsKept [] [] at_five at_seven days
-middle = record { body = refl; steady = bound_by (bounds 0 t within) it_binds; static = All-nil (StaysStatic [] []); timed = λ timed. All-nil (KeepsUnits [] [] (schedule at_five days)); no_earlier = grows days refl }
+module _ (clock : Clock) (x y z : ℤ) (ticks : HasTicks clock x y z) where
+  -- what is made of a clock by way of the three models
+  by_ticks : {R : Type 0} (f : ℤ → ℤ → ℤ → R) → f (clock at_six) (clock at_midnight) (clock each_hour) ≡ f x y z
+  by_ticks f = λ i. f (ticks.six_is i) (ticks.midnight_is i) (ticks.hour_is i)
 
-last : IsKept [] [] at_five at_seven hours_again
-last = record { body = refl; steady = bound_by (bounds 0 t within) it_binds; static = All-nil (StaysStatic [] []); timed = λ timed. All-nil (KeepsUnits [] [] (schedule at_five hours_again)); no_earlier = grows hours_again refl }
+  piece_is : piece [] clock hours_again hour ≡ piece [] (of_ticks x y z) hours_again hour
+  piece_is = by_ticks (λ a b c. piece [] (of_ticks a b c) hours_again hour)
+
+  units_are : schedule clock hours_again ≡ schedule (of_ticks x y z) hours_again
+  units_are = by_ticks (λ a b c. schedule (of_ticks a b c) hours_again)
+
+  hours_go : horizon clock hours ≡ horizon (of_ticks x y z) hours
+  hours_go = by_ticks (λ a b c. horizon (of_ticks a b c) hours)
+
+  days_go : horizon clock days ≡ horizon (of_ticks x y z) days
+  days_go = by_ticks (λ a b c. horizon (of_ticks a b c) days)
+
+  hours_again_go : horizon clock hours_again ≡ horizon (of_ticks x y z) hours_again
+  hours_again_go = by_ticks (λ a b c. horizon (of_ticks a b c) hours_again)
+
+grows : (a b : ℤ) {s t : ℤ} → a ≡ s → b ≡ t → le_z s t ≡ true → a ≤ℤ b
+grows a b {s} {t} e f h = le_says a b (ap₂ le_z e f ∙ h)
+
+module _ (clock later : Clock) (at_then : HasTicks clock (pos 21_600) (pos 86_400) (pos 86_400)) (at_now : HasTicks later (pos 108_000) (pos 86_400) (pos 108_000)) where
+  lowest : IsKept [] [] clock later hours
+  lowest = record {
+    body = refl;
+    steady = refl;
+    static = All-nil (StaysStatic [] []);
+    timed = λ timed. All-nil (KeepsUnits [] [] (schedule clock hours));
+    no_earlier = grows (horizon clock hours) (horizon later hours) (hours_go clock (pos 21_600) (pos 86_400) (pos 86_400) at_then) (hours_go later (pos 108_000) (pos 86_400) (pos 108_000) at_now) refl;
+  }
+
+  middle : IsKept [] [] clock later days
+  middle = record {
+    body = refl;
+    steady = bound_by (bounds 0 t within) it_binds;
+    static = All-nil (StaysStatic [] []);
+    timed = λ timed. All-nil (KeepsUnits [] [] (schedule clock days));
+    no_earlier = grows (horizon clock days) (horizon later days) (days_go clock (pos 21_600) (pos 86_400) (pos 86_400) at_then) (days_go later (pos 108_000) (pos 86_400) (pos 108_000) at_now) refl;
+  }
+
+  highest : IsKept [] [] clock later hours_again
+  highest = record {
+    body = refl;
+    steady = bound_by (bounds 0 t within) it_binds;
+    static = All-nil (StaysStatic [] []);
+    timed = λ timed. All-nil (KeepsUnits [] [] (schedule clock hours_again));
+    no_earlier = grows (horizon clock hours_again) (horizon later hours_again) (hours_again_go clock (pos 21_600) (pos 86_400) (pos 86_400) at_then) (hours_again_go later (pos 108_000) (pos 86_400) (pos 108_000) at_now) refl;
+  }
+
+  all_kept : AreKept [] [] clock later hours_again
+  all_kept = all_of (IsKept [] [] clock later) (standing hours_again) (highest, (middle, (lowest, tt)))
+
+  first_hour : Contains (schedule clock hours_again) hour
+  first_hour = subst (λ us. Contains us hour) (sym (units_are clock (pos 21_600) (pos 86_400) (pos 86_400) at_then)) (Has_to (schedule then_ hours_again) hour (inl refl))
+
+  it_moves : ¬ IsSameBag (piece [] clock hours_again hour) (piece [] later hours_again hour)
+  it_moves same =
+      let row : List Cell = cell.Int (pos 0) ∷ [] in
+      let was : piece [] clock hours_again hour ≡ [] = piece_is clock (pos 21_600) (pos 86_400) (pos 86_400) at_then ∙ before_noon in
+      let is : piece [] later hours_again hour ≡ row ∷ [] = piece_is later (pos 108_000) (pos 86_400) (pos 108_000) at_now ∙ later_on in
+      let clash : 0 ≡ 1 = sym (ap (times row) was) ∙ same row ∙ ap (times row) is in
+      absurd (omega (arith, clash))
+
+ticks_then : (clock : Clock) → Shows clock (pos 86_400) → HasTicks clock (pos 21_600) (pos 86_400) (pos 86_400)
+ticks_then clock shows = record {
+  six_is = one_floor at_six (pos 86_400) (clock at_six) (pos 21_600) (shows at_six six_is_read) six_before;
+  midnight_is = one_floor at_midnight (pos 86_400) (clock at_midnight) (pos 86_400) (shows at_midnight midnight_is_read) midnight_then;
+  hour_is = one_floor each_hour (pos 86_400) (clock each_hour) (pos 86_400) (shows each_hour hour_is_read) hour_then;
+}
+
+ticks_now : (clock : Clock) → Shows clock (pos 108_000) → HasTicks clock (pos 108_000) (pos 86_400) (pos 108_000)
+ticks_now clock shows = record {
+  six_is = one_floor at_six (pos 108_000) (clock at_six) (pos 108_000) (shows at_six six_is_read) six_later;
+  midnight_is = one_floor at_midnight (pos 108_000) (clock at_midnight) (pos 86_400) (shows at_midnight midnight_is_read) midnight_later;
+  hour_is = one_floor each_hour (pos 108_000) (clock each_hour) (pos 108_000) (shows each_hour hour_is_read) hour_later;
+}
 
 pub hours_over_days_over_hours_move :
-    ¬ ((before after : List Input) (clock later : Clock) (c : Closure) → AreKept before after clock later c → is_incremental (own_of c).kind ≡ true → (u : Bounds) → Contains (schedule clock c) u
-    → IsSameBag (piece before clock c u) (piece after later c u))
-hours_over_days_over_hours_move law = it_moves (law [] [] at_five at_seven hours_again all_kept refl hour first_hour)
-  where
-    first_hour : Contains (schedule at_five hours_again) hour
-    first_hour = Has_to (schedule at_five hours_again) hour (inl refl)
-
-    all_kept : AreKept [] [] at_five at_seven hours_again
-    all_kept = all_of (IsKept [] [] at_five at_seven) (standing hours_again) (last, (middle, (lowest, tt)))
+    ¬ ((before after : List Input) (t u : ℤ) → t ≤ℤ u → (clock later : Clock) → Shows clock t → Shows later u → (c : Closure) → AreKept before after clock later c → is_incremental (own_of c).kind ≡ true
+    → (v : Bounds) → Contains (schedule clock c) v → IsSameBag (piece before clock c v) (piece after later c v))
+hours_over_days_over_hours_move law =
+    let clock = shown (pos 86_400) is_then in
+    let later = shown (pos 108_000) is_later in
+    let at_then = ticks_then clock.0 clock.1 in
+    let at_now = ticks_now later.0 later.1 in
+    it_moves clock.0 later.0 at_then at_now
+    (law [] [] (pos 86_400) (pos 108_000) (le_says (pos 86_400) (pos 108_000) refl) clock.0 later.0 clock.1 later.1 hours_again (all_kept clock.0 later.0 at_then at_now) refl hour (first_hour clock.0 later.0 at_then at_now))

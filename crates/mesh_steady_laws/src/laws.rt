@@ -64,6 +64,6 @@ pub fn nothing_moves_in_steady_projects()
 /// last gets a row once its day is computed.
 #[tactic(auto, using(crate::proofs::Uneven::hours_over_days_over_hours_move))]
 pub fn uneven_units_may_move()
-    ensures { ¬ ((before after : List Input) (clock later : Clock) (c : Closure) → AreKept before after clock later c → is_incremental (own_of c).kind ≡ true →
-        (u : Bounds) → Contains (schedule clock c) u → IsSameBag (piece before clock c u) (piece after later c u)) }
+    ensures { ¬ ((before after : List Input) (t u : ℤ) → t ≤ℤ u → (clock later : Clock) → Shows clock t → Shows later u → (c : Closure) → AreKept before after clock later c →
+        is_incremental (own_of c).kind ≡ true → (v : Bounds) → Contains (schedule clock c) v → IsSameBag (piece before clock c v) (piece after later c v)) }
 {}
