@@ -105,9 +105,10 @@ module _ (own : Own) (parents : Closures) (u : Bounds) (of : IsOfDay u) (sources
   name_fits : (name : Name) → NameFits own parents u of a b name
   name_fits name =
       let l : whole (source_declared own name) (parent_named parents name) ≡ named a name = sym (finds sources models name own parents) in
-      let r : cut (source_declared own name) (parent_named parents name) ≡ named b name = sym (finds (near_source u sources) (near_model u models) name own parents) in
-      (sym (ap columns_in l) ∙ found_columns (source_declared own name) (parent_named parents name) ∙ ap columns_in r,
-      λ q k f h. subst (λ (p : Option Input × Option Input). Fits u q k f (columns_in p.0) (rows_in p.0) (rows_in p.1)) (λ i. (l i, r i)) (found_fits q k f name (source_declared own name) (parent_named parents name) refl h))
+      let r : cut (source_declared own name) (parent_named parents name) ≡ named b name = sym (finds (near_source u sources) (near_model u models) name own parents) in (
+        sym (ap columns_in l) ∙ found_columns (source_declared own name) (parent_named parents name) ∙ ap columns_in r,
+        λ q k f h. subst (λ (p : Option Input × Option Input). Fits u q k f (columns_in p.0) (rows_in p.0) (rows_in p.1)) (λ i. (l i, r i)) (found_fits q k f name (source_declared own name) (parent_named parents name) refl h),
+      )
 
   -- the rows for a unit hang on near rows alone
   pub near_rows_do : is_defn_bound own parents own.defn ≡ true → defn_rows own.defn a u ≡ defn_rows own.defn b u

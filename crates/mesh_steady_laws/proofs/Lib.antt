@@ -34,3 +34,5 @@ pub mod Ticks
 pub mod Uneven
 -- Examples: a shop whose computed rows stay, worked out by hand.
 pub mod Examples
+-- Shop: a warehouse of the shop, in which nothing moves.
+pub mod Shop

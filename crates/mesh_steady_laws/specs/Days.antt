@@ -7,4 +7,3 @@ use Rattle.mesh_values.specs.declared.times.Bounds.{Bounds}
 pub record IsOfDay (u : Bounds) : Type 0 where
   pub below : u.start <ℤ u.end
   pub ends : u.end ≤ℤ (int_div_euclid u.start (pos 86_400) *ℤ pos 86_400 +ℤ pos 86_400)
-
