@@ -53,8 +53,9 @@ pub fn steady_full_models_keep_their_rows()
         same_marks (marks clock c) (marks later c) ≡ true → IsSameBag (from_scratch before clock c) (from_scratch after later c) }
 {}
 
-/// Where each incremental and each FULL snapshot of a sound world's book is steady, each snapshot's closure is even, the
-/// moment isn't below the book's and what changes in the sources is what may arrive, nothing moves.
+/// So in a sound world, whatever parts are in doubt, nothing moves where each incremental and each FULL snapshot of the book
+/// is steady, each snapshot's closure is even, the moment isn't below the book's, and what changes in the sources is what may
+/// arrive.
 pub fn nothing_moves_in_steady_projects()
     ensures { (x : Parts) (w : World) → Sound x w → IsSteadyBook w.book → (t : ℤ) → w.book.moment ≤ℤ t → (clock later : Clock) → Shows clock w.book.moment → Shows later t →
         (after : List Input) → Arrives w after → (p : Forget) → moved w clock later after p ≡ false }
