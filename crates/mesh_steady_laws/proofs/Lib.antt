@@ -32,6 +32,8 @@ pub mod Worlds
 pub mod Ticks
 -- Uneven: three models whose units aren't even, and move.
 pub mod Uneven
+-- UnevenWorld: a warehouse of them.
+pub mod UnevenWorld
 -- Examples: a shop whose computed rows stay, worked out by hand.
 pub mod Examples
 -- Shop: a warehouse of the shop, in which nothing moves.

@@ -52,10 +52,10 @@ use Rattle.mesh_steady_laws.specs.Kept.{AreKept, IsKept}
 use Rattle.mesh_steady_laws.proofs.Both.{all_of}
 use Rattle.mesh_steady_laws.proofs.Ticks.{at_midnight, at_six, each_hour, hour_is_read, hour_later, hour_then, is_later, is_then, midnight_is_read, midnight_later, midnight_then, six_before, six_is_read, six_later}
 
-abbrev name : List ℕ → Name
+abbrev pub name : List ℕ → Name
 name model = record { schema = codes "s"; model = model }
 
-abbrev t : List ℕ
+abbrev pub t : List ℕ
 t = codes "t"
 
 abbrev t_alone : List Column
@@ -77,36 +77,36 @@ model its_name cron size select = record {
   defn = defn.Sql (record { ctes = []; selects = select ∷ [] });
 }
 
-start_epoch : Expr
+unfoldable pub start_epoch : Expr
 start_epoch = expr.Macro var.StartEpoch
 
-column_t : Expr
+unfoldable pub column_t : Expr
 column_t = expr.Col 0 t
 
-within : Expr
+unfoldable pub within : Expr
 within = expr.Between (expr.Col 0 t) (expr.Macro var.StartEpoch) (expr.Macro var.EndEpoch)
 
 -- SELECT @start_epoch AS t, at 06:00 of each day
-abbrev first : Own
+abbrev pub first : Own
 first = model (codes "a") at_six unit.Hour (select start_epoch [] None)
 
 -- SELECT t FROM .. WHERE t BETWEEN @start_epoch AND @end_epoch
 abbrev picking : List ℕ → Select
 picking from = select column_t (record { join = join.First; rel = rel.Named (name from); on = None } ∷ []) (Some within)
 
-abbrev second : Own
+abbrev pub second : Own
 second = model (codes "b") at_midnight unit.Day (picking (codes "a"))
 
-abbrev third : Own
+abbrev pub third : Own
 third = model (codes "c") each_hour unit.Hour (picking (codes "b"))
 
-abbrev hours : Closure
+abbrev pub hours : Closure
 hours = Model first Alone
 
-abbrev days : Closure
+abbrev pub days : Closure
 days = Model second (With hours Alone)
 
-abbrev hours_again : Closure
+abbrev pub hours_again : Closure
 hours_again = Model third (With days Alone)
 
 -- a clock of these last ticks: at 06:00, at midnight, and each hour
@@ -122,7 +122,7 @@ abbrev now : Clock
 now = of_ticks (pos 108_000) (pos 86_400) (pos 108_000)
 
 -- the first hour of 1970-01-01
-abbrev hour : Bounds
+abbrev pub hour : Bounds
 hour = record { start = pos 0; end = pos 3600 }
 
 -- the values of the expressions
@@ -158,7 +158,7 @@ are_its_ends : are_ends (expr.Macro var.StartEpoch) (expr.Macro var.EndEpoch) �
 unfolding roll-Expr denote.Hole.Carrier.roll
 are_its_ends = ap₂ are_ends_here (out-roll-Expr (Macro var.StartEpoch)) (out-roll-Expr (Macro var.EndEpoch))
 
-it_binds : bounds 0 t within ≡ true
+pub it_binds : bounds 0 t within ≡ true
 unfolding within roll-Expr denote.Hole.Carrier.roll
 it_binds = para-roll-Expr Bool Bool (bounds_here 0 t) when_bounds (Between (expr.Col 0 t) (expr.Macro var.StartEpoch) (expr.Macro var.EndEpoch)) ∙ ap₂ (λ a b. a && b) is_t are_its_ends
 
@@ -221,17 +221,17 @@ later_on =
     ∙ third_piece (flat_map (λ u. filter (is_of_unit second u) (picked u (flat_map started (schedule now hours)) ++ [])) (schedule now days)) hour
 
 -- the second and the third model are steady as their conjunct binds t, but the third isn't even
-bound_by : (b : Bool) → b ≡ true → ((b && true) && true) ≡ true
+pub bound_by : (b : Bool) → b ≡ true → ((b && true) && true) ≡ true
 bound_by b e = ap (λ c. (c && true) && true) e
 
 not_even : is_even hours_again ≡ false
 not_even = refl
 
 -- the last ticks of a clock that shows one of these moments
-record HasTicks (clock : Clock) (six midnight hour : ℤ) : Type 0 where
-  six_is : clock at_six ≡ six
-  midnight_is : clock at_midnight ≡ midnight
-  hour_is : clock each_hour ≡ hour
+pub record HasTicks (clock : Clock) (six midnight hour : ℤ) : Type 0 where
+  pub six_is : clock at_six ≡ six
+  pub midnight_is : clock at_midnight ≡ midnight
+  pub hour_is : clock each_hour ≡ hour
 
 module _ (clock : Clock) (x y z : ℤ) (ticks : HasTicks clock x y z) where
   -- what is made of a clock by way of the three models
@@ -287,10 +287,10 @@ module _ (clock later : Clock) (at_then : HasTicks clock (pos 21_600) (pos 86_40
   all_kept : AreKept [] [] clock later hours_again
   all_kept = all_of (IsKept [] [] clock later) (standing hours_again) (highest, (middle, (lowest, tt)))
 
-  first_hour : Contains (schedule clock hours_again) hour
+  pub first_hour : Contains (schedule clock hours_again) hour
   first_hour = subst (λ us. Contains us hour) (sym (units_are clock (pos 21_600) (pos 86_400) (pos 86_400) at_then)) (Has_to (schedule then_ hours_again) hour (inl refl))
 
-  it_moves : ¬ IsSameBag (piece [] clock hours_again hour) (piece [] later hours_again hour)
+  pub it_moves : ¬ IsSameBag (piece [] clock hours_again hour) (piece [] later hours_again hour)
   it_moves same =
       let row : List Cell = cell.Int (pos 0) ∷ [] in
       let was : piece [] clock hours_again hour ≡ [] = piece_is clock (pos 21_600) (pos 86_400) (pos 86_400) at_then ∙ before_noon in
@@ -298,14 +298,14 @@ module _ (clock later : Clock) (at_then : HasTicks clock (pos 21_600) (pos 86_40
       let clash : 0 ≡ 1 = sym (ap (times row) was) ∙ same row ∙ ap (times row) is in
       absurd (omega (arith, clash))
 
-ticks_then : (clock : Clock) → Shows clock (pos 86_400) → HasTicks clock (pos 21_600) (pos 86_400) (pos 86_400)
+pub ticks_then : (clock : Clock) → Shows clock (pos 86_400) → HasTicks clock (pos 21_600) (pos 86_400) (pos 86_400)
 ticks_then clock shows = record {
   six_is = one_floor at_six (pos 86_400) (clock at_six) (pos 21_600) (shows at_six six_is_read) six_before;
   midnight_is = one_floor at_midnight (pos 86_400) (clock at_midnight) (pos 86_400) (shows at_midnight midnight_is_read) midnight_then;
   hour_is = one_floor each_hour (pos 86_400) (clock each_hour) (pos 86_400) (shows each_hour hour_is_read) hour_then;
 }
 
-ticks_now : (clock : Clock) → Shows clock (pos 108_000) → HasTicks clock (pos 108_000) (pos 86_400) (pos 108_000)
+pub ticks_now : (clock : Clock) → Shows clock (pos 108_000) → HasTicks clock (pos 108_000) (pos 86_400) (pos 108_000)
 ticks_now clock shows = record {
   six_is = one_floor at_six (pos 108_000) (clock at_six) (pos 108_000) (shows at_six six_is_read) six_later;
   midnight_is = one_floor at_midnight (pos 108_000) (clock at_midnight) (pos 86_400) (shows at_midnight midnight_is_read) midnight_later;

@@ -10,6 +10,8 @@ ghost use Rattle.mesh_base.specs.declared.definitions.Decl.{Decl};
 ghost use Rattle.mesh_base.specs.declared.definitions.Own.{Own};
 ghost use Rattle.mesh_base.specs.declared.forgets.Forget.{Forget};
 ghost use Rattle.mesh_base.specs.declared.jobs.Input.{Input};
+ghost use Rattle.mesh_base.specs.declared.snapshots.Snapshot.{Snapshot};
+ghost use Rattle.mesh_listed.specs.Closing.{IsSnapshot, closing};
 ghost use Rattle.mesh_house.specs.declared.world.World.{World};
 ghost use Rattle.mesh_scratch.specs.Closures.{Closure, Closures, Model, own_of};
 ghost use Rattle.mesh_scratch.specs.Horizons.{Clock, Shows, schedule};
@@ -62,9 +64,11 @@ pub fn nothing_moves_in_steady_projects()
 {}
 
 /// Without evenness units may move: of three models by hours, by days and by hours, each over the one before, an hour of the
-/// last gets a row once its day is computed.
-#[tactic(auto, using(crate::proofs::Uneven::hours_over_days_over_hours_move))]
+/// last gets a row once its day is computed. So the law of worlds fails too.
+#[tactic(auto, using(crate::proofs::Uneven::hours_over_days_over_hours_move, crate::proofs::UnevenWorld::hours_over_days_over_hours_move_a_world))]
 pub fn uneven_units_may_move()
-    ensures { ¬ ((before after : List Input) (t u : ℤ) → t ≤ℤ u → (clock later : Clock) → Shows clock t → Shows later u → (c : Closure) → AreKept before after clock later c →
+    ensures units { ¬ ((before after : List Input) (t u : ℤ) → t ≤ℤ u → (clock later : Clock) → Shows clock t → Shows later u → (c : Closure) → AreKept before after clock later c →
         is_incremental (own_of c).kind ≡ true → (v : Bounds) → Contains (schedule clock c) v → IsSameBag (piece before clock c v) (piece after later c v)) }
+    ensures world { ¬ ((x : Parts) (w : World) → Sound x w → ((s : Snapshot) → IsSnapshot w.book.snapshots s → is_steady (closing w.book.snapshots s) ≡ true) → (t : ℤ) → w.book.moment ≤ℤ t →
+        (clock later : Clock) → Shows clock w.book.moment → Shows later t → (after : List Input) → Arrives w after → (p : Forget) → moved w clock later after p ≡ false) }
 {}
