@@ -1,0 +1,12 @@
+pub mod Refused
+pub mod Inside
+pub mod Each
+pub mod Again
+pub mod Digits
+pub mod Seconds
+pub mod Either
+pub mod Heads
+pub mod Tells
+pub mod Things
+pub mod Words
+pub mod Bodies
