@@ -20,7 +20,7 @@ use Rattle.mesh_exec.specs.Executed.{executes, filled, fills, part_fills, part_f
 use Rattle.mesh_exec.specs.Plain.{making, model_of}
 use Rattle.mesh_exec.specs.Works.{Part, are_fit, is_fit}
 use Rattle.mesh_exec.proofs.Books.{ends}
-use Rattle.mesh_exec.proofs.Filling.{is_both}
+use Rattle.mesh_exec.proofs.Running.{is_both}
 use Rattle.mesh_exec.proofs.Stepping.{each_many, written_many}
 
 -- what comes behind a list that is there, in the world that it leaves

@@ -12,7 +12,7 @@ use Rattle.mesh_rules.specs.Proper.{is_body_of, is_fit as is_node_fit, have_dist
 use Rattle.mesh_exec.specs.Dues.{behind, leading}
 use Rattle.mesh_exec.specs.Executable.{is_due_in, is_due_of, place_of}
 use Rattle.mesh_exec.specs.Works.{are_fit, is_fit, parts_from}
-use Rattle.mesh_exec.proofs.Filling.{both_are, is_both}
+use Rattle.mesh_exec.proofs.Running.{both_are, is_both}
 
 same_place : (a b : ℕ) → nat_eq a b ≡ true → a ≡ b
 same_place a b h = eqb-true a b h

@@ -2,6 +2,10 @@
 pub mod Places
 -- Parents: the tables that models read, parent by parent.
 pub mod Parents
+-- Running: the due parts of a model stand in runs.
+pub mod Running
+-- Cutting: the rows of a run, cut to its due parts, are the rows of these.
+pub mod Cutting
 -- Filling: the due parts of a model are filled from the rows of their jobs.
 pub mod Filling
 -- Stepping: lists of changes that are made one after another, world by world.

@@ -36,7 +36,7 @@ use Rattle.mesh_exec.specs.Steps.{IsPartMade, MakesPart, MakesParts, Tries, or_n
 use Rattle.mesh_exec.specs.Tables.{part_tables, tables_if}
 use Rattle.mesh_exec.specs.Works.{Part, are_fit, is_fit, part_of}
 use Rattle.mesh_exec.specs.declared.works.Work.{Work}
-use Rattle.mesh_exec.proofs.Filling.{is_both}
+use Rattle.mesh_exec.proofs.Running.{is_both}
 use Rattle.mesh_exec.proofs.Stepping.{each_many, each_sources, making_sources, none_made, prefix_more, prefix_then, run_then, whole_prefix, written_many, written_sources}
 
 -- the tables that a part finds are those that its fills are over

@@ -14,7 +14,11 @@ pub mod Sources
 pub mod Lost
 -- Tables: the tables that are read for the parts of a plan.
 pub mod Tables
--- Jobs: the queries by which the rows of due parts are computed.
+-- Runs: the due parts of a model that one query computes.
+pub mod Runs
+-- Cuts: the rows of a run, cut to its due parts.
+pub mod Cuts
+-- Jobs: the queries by which the rows of runs are computed.
 pub mod Jobs
 -- Answers: what a call that makes a plan leaves of a house.
 pub mod Answers

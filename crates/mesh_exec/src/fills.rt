@@ -1,18 +1,22 @@
 // The due parts of a model are filled.
-ghost use Rattle.std.specs.Prelude.{◌≡◌, ◌++◌, ◌+◌, ◌≤◌, [], OnOk, IfOk, length, true, map, take, drop};
+ghost use Rattle.std.specs.Prelude.{◌≡◌, ◌++◌, ◌+◌, ◌≤◌, [], List, OnOk, IfOk, length, true, false, map};
 ghost use Rattle.mesh_list.specs.Counts.{risen};
 ghost use Rattle.mesh_changes.specs.Changes.{ascending};
+ghost use Rattle.mesh_base.specs.declared.jobs.Input.{Input};
 ghost use Rattle.mesh_base.specs.declared.plans.Entry.{Entry};
 ghost use Rattle.mesh_due.specs.Marks.{is_computed};
 ghost use Rattle.mesh_house.specs.Runs.{Makes};
-ghost use Rattle.mesh_exec.specs.Executed.{part_rows};
-ghost use Rattle.mesh_exec.specs.Fills.{each_with, fillings, first_pool, zipped};
-ghost use Rattle.mesh_exec.specs.Jobs.{jobs_of};
+ghost use Rattle.mesh_rules.specs.Proper.{is_body_of};
+ghost use Rattle.mesh_exec.specs.Cuts.{cut_fills, run_fills};
+ghost use Rattle.mesh_exec.specs.Fills.{each_with, fillings, first_pool, run_fillings, run_rows, zipped};
 ghost use Rattle.mesh_exec.specs.Plain.{model_of};
+ghost use Rattle.mesh_exec.specs.Runs.{are_fit_runs};
 ghost use Rattle.mesh_exec.specs.Works.{is_fit, seed_rows};
 
 use crate::changes::push_written;
+use crate::cuts::{cut_to, seconds_of};
 use crate::jobs::jobs_of;
+use crate::runs::{Run, runs_from, runs_of};
 use mesh_base::{Defn, Due, Entry, Node, Pools};
 use mesh_house::{Changes, Warehouse, WhFail};
 use mesh_list::{Duplicate, Memory, Seq};
@@ -22,24 +26,68 @@ use mesh_wave::{Gate, wave};
 use std::alloc::Global;
 use std::thread::Threads;
 
-/// How many units a wave may have.
-const MOST_UNITS: usize = 256;
-
-/// Each due part with the rows at its place.
-fn push_zipped(
+/// Each due part with its own of the rows of a run.
+fn push_cut(
+    alloc: Global,
     changes: &mut Changes,
     node: &Node,
     entry: &Entry,
     dues: &[Due],
+    rows: &Rows,
+    seconds: &[Option<i64>],
+) -> Result<(), Memory>
+    ensures { OnOk result (changes.new ≡ changes.old ++ cut_fills (model_of node.now entry.now) dues.now rows.now seconds.now) }
+{
+    for due in dues {
+        push_written(
+            changes,
+            node,
+            entry,
+            due,
+            cut_to(alloc, due, rows, seconds)?,
+        )?;
+    }
+    Ok(())
+}
+
+fn push_run(
+    alloc: Global,
+    changes: &mut Changes,
+    node: &Node,
+    entry: &Entry,
+    run: &Run,
+    rows: &Rows,
+) -> Result<(), Memory>
+    ensures { OnOk result (changes.new ≡ changes.old ++ run_fills (model_of node.now entry.now) run.now.dues.now rows.now) }
+{
+    let seconds = seconds_of(alloc, &node.own, rows.as_slice())?;
+    push_cut(
+        alloc,
+        changes,
+        node,
+        entry,
+        run.dues,
+        rows,
+        seconds.as_slice(),
+    )
+}
+
+/// Each run with the rows at its place.
+fn push_zipped(
+    alloc: Global,
+    changes: &mut Changes,
+    node: &Node,
+    entry: &Entry,
+    runs: &[Run],
     made: &[Rows],
 ) -> Result<(), Memory>
-    ensures { OnOk result (changes.new ≡ changes.old ++ zipped (model_of node.now entry.now) dues.now made.now) }
+    ensures { OnOk result (changes.new ≡ changes.old ++ zipped (model_of node.now entry.now) runs.now made.now) }
 {
-    for (i, due) in dues.iter().enumerate() {
+    for (i, run) in runs.iter().enumerate() {
         let Some(rows) = made.get(i) else {
             return Ok(());
         };
-        push_written(changes, node, entry, due, rows.copy()?)?;
+        push_run(alloc, changes, node, entry, run, rows)?;
     }
     Ok(())
 }
@@ -77,24 +125,25 @@ fn seed_rows(alloc: Global, defn: &Defn) -> Result<Rows, Memory>
     }
 }
 
-/// The rows of each due part, computed side by side.
+/// The rows of each run, computed side by side.
 fn computed<R: Threads + Sync, G: Gate>(
     rt: &R,
     alloc: Global,
     node: &Node,
     pools: &Pools,
-    dues: &[Due],
+    runs: &[Run],
     workers: u32,
     gate: &G,
 ) -> Result<RowsList, Memory>
     requires workers { (1 ≤ workers) × (workers ≤ 64) }
-    requires few { length dues.now ≤ 256 }
+    requires few { length runs.now ≤ 256 }
     requires there { 1 ≤ length pools.now }
-    requires fit { is_fit node.now dues.now ≡ true }
+    requires fit { are_fit_runs node.now runs.now ≡ true }
     requires kind { is_computed node.now.own.kind ≡ true }
-    ensures { IfOk result (λ made. (entry : Entry) → made ≡ map (λ d. ascending (part_rows (model_of node.now entry) (first_pool pools.now) d)) dues.now) }
+    requires body { is_body_of node.now.own.kind node.now.own.defn ≡ true }
+    ensures { IfOk result (λ made. (entry : Entry) → made ≡ map (run_rows (model_of node.now entry) (first_pool pools.now)) runs.now) }
 {
-    let jobs = jobs_of(alloc, node, dues)?;
+    let jobs = jobs_of(alloc, node, runs)?;
     wave(rt, alloc, pools, &jobs, workers, gate)
 }
 
@@ -117,56 +166,32 @@ fn seeded(alloc: Global, node: &Node, entry: &Entry, dues: &[Due]) -> Result<Cha
     Ok(changes)
 }
 
-/// What fills the due parts of a model whose rows are computed.
+/// What fills some runs of a model whose rows are computed, over the tables of the first pool.
 fn waved<R: Threads + Sync, G: Gate>(
     rt: &R,
     alloc: Global,
     node: &Node,
     entry: &Entry,
     pools: &Pools,
-    dues: &[Due],
+    runs: &[Run],
     workers: u32,
     gate: &G,
 ) -> Result<Changes, Memory>
     requires workers { (1 ≤ workers) × (workers ≤ 64) }
-    requires few { length dues.now ≤ 256 }
+    requires few { length runs.now ≤ 256 }
     requires there { 1 ≤ length pools.now }
-    requires fit { is_fit node.now dues.now ≡ true }
+    requires fit { are_fit_runs node.now runs.now ≡ true }
     requires kind { is_computed node.now.own.kind ≡ true }
-    ensures { IfOk result (λ changes. changes ≡ fillings (model_of node.now entry.now) (first_pool pools.now) dues.now) }
+    requires body { is_body_of node.now.own.kind node.now.own.defn ≡ true }
+    ensures { IfOk result (λ changes. changes ≡ run_fillings (model_of node.now entry.now) (first_pool pools.now) runs.now) }
 {
-    let made = computed(rt, alloc, node, pools, dues, workers, gate)?;
+    let made = computed(rt, alloc, node, pools, runs, workers, gate)?;
     let mut changes = Seq::new(alloc);
-    push_zipped(&mut changes, node, entry, dues, made.as_slice())?;
+    push_zipped(alloc, &mut changes, node, entry, runs, made.as_slice())?;
     Ok(changes)
 }
 
-/// What fills some due parts over the tables of the first pool.
-fn changes_of<R: Threads + Sync, G: Gate>(
-    rt: &R,
-    alloc: Global,
-    node: &Node,
-    entry: &Entry,
-    pools: &Pools,
-    dues: &[Due],
-    workers: u32,
-    gate: &G,
-) -> Result<Changes, Memory>
-    requires workers { (1 ≤ workers) × (workers ≤ 64) }
-    requires few { length dues.now ≤ 256 }
-    requires there { 1 ≤ length pools.now }
-    requires fit { is_fit node.now dues.now ≡ true }
-    ensures { IfOk result (λ changes. changes ≡ fillings (model_of node.now entry.now) (first_pool pools.now) dues.now) }
-{
-    match &node.own.kind {
-        Kind::View => viewed(alloc, node, entry, dues),
-        Kind::Seed => seeded(alloc, node, entry, dues),
-        Kind::Full => waved(rt, alloc, node, entry, pools, dues, workers, gate),
-        Kind::Incremental { .. } => waved(rt, alloc, node, entry, pools, dues, workers, gate),
-    }
-}
-
-/// Fills some due parts, at most as many as a wave may have.
+/// Fills some runs, at most as many as a wave may have.
 fn fill_some<R: Threads + Sync, W: Warehouse, G: Gate>(
     rt: &R,
     alloc: Global,
@@ -174,19 +199,21 @@ fn fill_some<R: Threads + Sync, W: Warehouse, G: Gate>(
     node: &Node,
     entry: &Entry,
     pools: &Pools,
-    dues: &[Due],
+    runs: &[Run],
     workers: u32,
     gate: &G,
 ) -> Result<u64, WhFail>
     requires workers { (1 ≤ workers) × (workers ≤ 64) }
-    requires few { length dues.now ≤ 256 }
+    requires few { length runs.now ≤ 256 }
     requires there { 1 ≤ length pools.now }
-    requires fit { is_fit node.now dues.now ≡ true }
-    ensures makes { Makes (λ w. fillings (model_of node.now entry.now) (first_pool pools.now) dues.now) (W.told house.old) (W.told house.new) result }
-    ensures number { IfOk result (λ made. made ≡ length (fillings (model_of node.now entry.now) (first_pool pools.now) dues.now)) }
+    requires fit { are_fit_runs node.now runs.now ≡ true }
+    requires kind { is_computed node.now.own.kind ≡ true }
+    requires body { is_body_of node.now.own.kind node.now.own.defn ≡ true }
+    ensures makes { Makes (λ w. run_fillings (model_of node.now entry.now) (first_pool pools.now) runs.now) (W.told house.old) (W.told house.new) result }
+    ensures number { IfOk result (λ made. made ≡ length (run_fillings (model_of node.now entry.now) (first_pool pools.now) runs.now)) }
     ensures calls { IfOk result (λ made. (W.told house.new).calls ≡ risen made (W.told house.old).calls) }
 {
-    let changes = changes_of(rt, alloc, node, entry, pools, dues, workers, gate)?;
+    let changes = waved(rt, alloc, node, entry, pools, runs, workers, gate)?;
     make_counted(alloc, house, changes.as_slice())
 }
 
@@ -200,17 +227,111 @@ pub(crate) fn added(a: u64, b: u64) -> Result<u64, Memory>
     }
 }
 
-/// The first of the due parts from a place on, as many as a wave may have.
-fn part_from(dues: &[Due], at: usize) -> &[Due]
-    requires { at ≤ length dues.now }
-    ensures { result.now ≡ take 256 (drop at dues.now) }
+/// Fills the runs of a model over the tables of the first pool, in their order.
+fn fill_runs<R: Threads + Sync, W: Warehouse, G: Gate>(
+    rt: &R,
+    alloc: Global,
+    house: &mut W,
+    node: &Node,
+    entry: &Entry,
+    pools: &Pools,
+    runs: &[Run],
+    workers: u32,
+    gate: &G,
+) -> Result<u64, WhFail>
+    requires workers { (1 ≤ workers) × (workers ≤ 64) }
+    requires there { 1 ≤ length pools.now }
+    requires fit { are_fit_runs node.now runs.now ≡ true }
+    requires kind { is_computed node.now.own.kind ≡ true }
+    requires body { is_body_of node.now.own.kind node.now.own.defn ≡ true }
+    ensures makes { Makes (λ w. run_fillings (model_of node.now entry.now) (first_pool pools.now) runs.now) (W.told house.old) (W.told house.new) result }
+    ensures number { IfOk result (λ made. made ≡ length (run_fillings (model_of node.now entry.now) (first_pool pools.now) runs.now)) }
+    ensures calls { IfOk result (λ made. (W.told house.new).calls ≡ risen made (W.told house.old).calls) }
 {
-    let (_, rest) = dues.split_at(at);
-    if rest.len() <= MOST_UNITS {
-        return rest;
+    let mut made: u64 = 0;
+    let mut at: usize = 0;
+    while at < runs.len() {
+        let front = runs_from(runs, at);
+        let more = fill_some(rt, alloc, house, node, entry, pools, front, workers, gate)?;
+        made = added(made, more)?;
+        at += front.len();
     }
-    let (front, _) = rest.split_at(MOST_UNITS);
-    front
+    Ok(made)
+}
+
+/// Fills all due parts of a model whose rows are computed.
+fn fill_computed<R: Threads + Sync, W: Warehouse, G: Gate>(
+    rt: &R,
+    alloc: Global,
+    house: &mut W,
+    node: &Node,
+    entry: &Entry,
+    pools: &Pools,
+    dues: &[Due],
+    workers: u32,
+    gate: &G,
+) -> Result<u64, WhFail>
+    requires workers { (1 ≤ workers) × (workers ≤ 64) }
+    requires there { 1 ≤ length pools.now }
+    requires fit { is_fit node.now dues.now ≡ true }
+    requires kind { is_computed node.now.own.kind ≡ true }
+    ensures makes { Makes (λ w. fillings (model_of node.now entry.now) (first_pool pools.now) dues.now) (W.told house.old) (W.told house.new) result }
+    ensures number { IfOk result (λ made. made ≡ length (fillings (model_of node.now entry.now) (first_pool pools.now) dues.now)) }
+    ensures calls { IfOk result (λ made. (W.told house.new).calls ≡ risen made (W.told house.old).calls) }
+{
+    let runs = runs_of(alloc, node, dues)?;
+    fill_runs(
+        rt,
+        alloc,
+        house,
+        node,
+        entry,
+        pools,
+        runs.as_slice(),
+        workers,
+        gate,
+    )
+}
+
+/// What fills the due parts of a view or a seed, over whatever tables.
+fn changes_of(alloc: Global, node: &Node, entry: &Entry, dues: &[Due]) -> Result<Changes, Memory>
+    requires fit { is_fit node.now dues.now ≡ true }
+    requires kind { is_computed node.now.own.kind ≡ false }
+    ensures { IfOk result (λ changes. (tables : List Input) → changes ≡ fillings (model_of node.now entry.now) tables dues.now) }
+{
+    match &node.own.kind {
+        Kind::View => viewed(alloc, node, entry, dues),
+        Kind::Seed => seeded(alloc, node, entry, dues),
+        Kind::Full => Ok(Seq::new(alloc)),
+        Kind::Incremental { .. } => Ok(Seq::new(alloc)),
+    }
+}
+
+/// Fills all due parts of a view or a seed.
+fn fill_kept<W: Warehouse>(
+    alloc: Global,
+    house: &mut W,
+    node: &Node,
+    entry: &Entry,
+    dues: &[Due],
+) -> Result<u64, WhFail>
+    requires fit { is_fit node.now dues.now ≡ true }
+    requires kind { is_computed node.now.own.kind ≡ false }
+    ensures makes { (tables : List Input) → Makes (λ w. fillings (model_of node.now entry.now) tables dues.now) (W.told house.old) (W.told house.new) result }
+    ensures number { IfOk result (λ made. (tables : List Input) → made ≡ length (fillings (model_of node.now entry.now) tables dues.now)) }
+    ensures calls { IfOk result (λ made. (W.told house.new).calls ≡ risen made (W.told house.old).calls) }
+{
+    let changes = changes_of(alloc, node, entry, dues)?;
+    make_counted(alloc, house, changes.as_slice())
+}
+
+fn is_computed(kind: &Kind) -> bool
+    ensures { result ≡ is_computed kind.now }
+{
+    match kind {
+        Kind::Full | Kind::Incremental { .. } => true,
+        Kind::View | Kind::Seed => false,
+    }
 }
 
 /// Fills all due parts of a model over the tables of the first pool, in their order.
@@ -232,13 +353,9 @@ pub(crate) fn fill_all<R: Threads + Sync, W: Warehouse, G: Gate>(
     ensures number { IfOk result (λ made. made ≡ length (fillings (model_of node.now entry.now) (first_pool pools.now) dues.now)) }
     ensures calls { IfOk result (λ made. (W.told house.new).calls ≡ risen made (W.told house.old).calls) }
 {
-    let mut made: u64 = 0;
-    let mut at: usize = 0;
-    while at < dues.len() {
-        let front = part_from(dues, at);
-        let more = fill_some(rt, alloc, house, node, entry, pools, front, workers, gate)?;
-        made = added(made, more)?;
-        at += front.len();
+    if is_computed(&node.own.kind) {
+        fill_computed(rt, alloc, house, node, entry, pools, dues, workers, gate)
+    } else {
+        fill_kept(alloc, house, node, entry, dues)
     }
-    Ok(made)
 }

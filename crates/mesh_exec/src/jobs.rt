@@ -1,10 +1,12 @@
-// The queries by which the rows of due parts are computed.
+// The queries by which the rows of runs are computed.
 ghost use Rattle.std.specs.Prelude.{◌≡◌, ◌++◌, ◌∷◌, [], IfOk, OnOk, Some, None, Ok};
 ghost use Rattle.std.specs.Option.{option_to_list};
 ghost use Rattle.mesh_base.specs.declared.jobs.Job.{Job};
 ghost use Rattle.mesh_scratch.specs.Scratch.{no_bounds};
-ghost use Rattle.mesh_exec.specs.Jobs.{due_job, jobs_of};
+ghost use Rattle.mesh_exec.specs.Jobs.{due_job, jobs_of, span_job};
+ghost use Rattle.mesh_exec.specs.Runs.{up_to};
 
+use crate::runs::{Run, last_end};
 use mesh_base::{Defn, Due, Job, Jobs, Node, Query};
 use mesh_list::{Duplicate, Memory, Seq, both};
 use mesh_values::{Bounds, Kind, Str};
@@ -40,17 +42,15 @@ fn push_made(jobs: &mut Jobs, job: Result<Job, Memory>) -> Result<(), Memory>
     jobs.push(made)
 }
 
-/// The job of a due part, where its rows are computed.
-fn push_job(jobs: &mut Jobs, pool: u32, node: &Node, due: &Due) -> Result<(), Memory>
-    ensures { OnOk result (jobs.new ≡ jobs.old ++ option_to_list (due_job pool node.now.own.kind node.now.own.defn due.now)) }
+/// The job of a due part, or of those from it up to an end, where their rows are computed.
+fn push_job(jobs: &mut Jobs, pool: u32, node: &Node, due: &Due, end: i64) -> Result<(), Memory>
+    ensures { OnOk result (jobs.new ≡ jobs.old ++ option_to_list (due_job pool node.now.own.kind node.now.own.defn (up_to end due.now))) }
 {
     match &node.own.defn {
         Defn::Seed { .. } => Ok(()),
         Defn::Sql(q) => match &node.own.kind {
             Kind::Incremental { time, .. } => match due {
-                Due::Unit { start, end, .. } => {
-                    push_made(jobs, unit_job(pool, q, time, *start, *end))
-                }
+                Due::Unit { start, .. } => push_made(jobs, unit_job(pool, q, time, *start, end)),
                 Due::Whole { .. } => Ok(()),
             },
             Kind::Full => match due {
@@ -62,13 +62,23 @@ fn push_job(jobs: &mut Jobs, pool: u32, node: &Node, due: &Due) -> Result<(), Me
     }
 }
 
-/// The jobs of some due parts, all over the first pool.
-pub(crate) fn jobs_of(alloc: Global, node: &Node, dues: &[Due]) -> Result<Jobs, Memory>
-    ensures { IfOk result (λ jobs. jobs ≡ jobs_of 0 node.now.own.kind node.now.own.defn dues.now) }
+/// The job of a run, where its rows are computed.
+fn push_run(jobs: &mut Jobs, pool: u32, node: &Node, run: &Run) -> Result<(), Memory>
+    ensures { OnOk result (jobs.new ≡ jobs.old ++ span_job pool node.now.own.kind node.now.own.defn run.now.dues.now) }
+{
+    match run.dues.get(0) {
+        None => Ok(()),
+        Some(first) => push_job(jobs, pool, node, first, last_end(0, run.dues)),
+    }
+}
+
+/// The jobs of some runs, all over the first pool.
+pub(crate) fn jobs_of(alloc: Global, node: &Node, runs: &[Run]) -> Result<Jobs, Memory>
+    ensures { IfOk result (λ jobs. jobs ≡ jobs_of 0 node.now.own.kind node.now.own.defn runs.now) }
 {
     let mut jobs = Seq::new(alloc);
-    for due in dues {
-        push_job(&mut jobs, 0, node, due)?;
+    for run in runs {
+        push_run(&mut jobs, 0, node, run)?;
     }
     Ok(jobs)
 }

@@ -1,16 +1,19 @@
 //! Plans are made. Its contract: `execute` makes exactly the changes of a plan up to those of the environment's views, one
 //! call each and in the plan's order, over the rows that the warehouse shows; it is refused for a source of a due model
 //! before anything is changed, and stops at an object that dangles. It stands on `mesh_wave`, which computes rows,
-//! `mesh_layer`, which shows those of objects, `mesh_making` and the lists of changes in `mesh_changes`.
+//! `mesh_unit_laws`, by which those of adjoining units are computed at once, `mesh_layer`, which shows the rows of objects,
+//! `mesh_making` and the lists of changes in `mesh_changes`.
 #![tactic(auto)]
 
 mod changes;
+mod cuts;
 mod executing;
 mod faults;
 mod fills;
 mod jobs;
 mod laws;
 mod making;
+mod runs;
 mod sources;
 mod tables;
 mod works;

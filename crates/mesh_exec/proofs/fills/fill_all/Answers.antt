@@ -1,50 +1,13 @@
-use Rattle.std.proofs.Common.{◌+◌, length, take, drop, ap, arith, length-take, length-append, length-drop}
-use Rattle.mesh_house.proofs.Runs.{makes_err, memory_then, ran_then}
-use Rattle.mesh_exec.proofs.Filling.{fill_more, fill_parts, fill_rest, fit_part}
+use Rattle.std.proofs.Common.{◌≡◌, ℕ, List, length}
+use Rattle.mesh_base.specs.declared.jobs.Input.{Input}
 use Rattle.mesh_exec.specs.Fills.{fillings, first_pool}
 use Rattle.mesh_exec.specs.Plain.{model_of}
+use Rattle.mesh_exec.proofs.Filling.{ok_at}
 use Rattle.mesh_exec.proofs.fills.fill_all.Goals as goal
 
-pub fill_some-requires-clause-few : goal.fill_some-requires-clause-few
-fill_some-requires-clause-few g c = omega (arith, ap length c.part_from-front.ensures, length-take 256 (drop c.loop-at.at c.args.dues.now))
+pub returns-else-is_computed-clause-makes : goal.returns-else-is_computed-clause-makes
+returns-else-is_computed-clause-makes g c = c.fill_kept.ensures.makes (first_pool c.args.pools.now)
 
-pub fill_some-requires-clause-fit : goal.fill_some-requires-clause-fit
-fill_some-requires-clause-fit g c κs within = fit_part c.args.node.now c.args.dues.now c.part_from-front.result.now c.loop-at.at c.part_from-front.ensures c.requires.fit
-
-pub returns-in_err-more-clause-makes : goal.returns-in_err-more-clause-makes
-returns-in_err-more-clause-makes g c =
-    let q = model_of c.args.node.now c.args.entry.now in
-    let ts = first_pool c.args.pools.now in
-    let dues = c.args.dues.now in
-    let front = c.part_from-front.result.now in
-    let at = c.loop-at.at in
-    makes_err (λ w. fillings q ts (take at dues)) (λ w. fillings q ts front) (λ w. fillings q ts dues) (λ w. fillings q ts (drop 256 (drop at dues))) _ _ _ c.in_err-more.field-0.0 c.from_residual.result c.loop-at.invariant.ran c.in_err-more.ensures.makes c.from_residual.ensures.1
-    (λ w told. fill_parts q ts dues front at c.part_from-front.ensures)
-
-pub returns-in_err-made-clause-makes : goal.returns-in_err-made-clause-makes
-returns-in_err-made-clause-makes g c =
-    let q = model_of c.args.node.now c.args.entry.now in
-    let ts = first_pool c.args.pools.now in
-    let dues = c.args.dues.now in
-    let front = c.part_from-front.result.now in
-    let at = c.loop-at.at in
-    memory_then (λ w. fillings q ts (take (at + length front) dues)) (λ w. fillings q ts dues) (λ w. fillings q ts (drop 256 (drop at dues))) _ _ c.from_residual-in_err-made.result
-    (ran_then (λ w. fillings q ts (take at dues)) (λ w. fillings q ts front) (λ w. fillings q ts (take (at + length front) dues)) _ _ _ c.loop-at.invariant.ran c.in_ok-more.ensures.makes.ok (λ w told. fill_more q ts dues front at c.part_from-front.ensures))
-    c.from_residual-in_err-made.ensures.1
-    (λ w told. fill_rest q ts dues front at c.part_from-front.ensures)
-
-pub loop-at-preserved : goal.loop-at-preserved
-loop-at-preserved g c =
-    let q = model_of c.args.node.now c.args.entry.now in
-    let ts = first_pool c.args.pools.now in
-    let dues = c.args.dues.now in
-    let front = c.part_from-front.result.now in
-    let at = c.loop-at.at in
-    let more = fill_more q ts dues front at c.part_from-front.ensures in
-    let i = c.loop-at.invariant in
-    record {
-      within = omega (arith, ap length c.part_from-front.ensures, length-take 256 (drop at dues), length-drop at dues);
-      ran = ran_then (λ w. fillings q ts (take at dues)) (λ w. fillings q ts front) (λ w. fillings q ts (take (at + length front) dues)) _ _ _ i.ran c.in_ok-more.ensures.makes.ok (λ w told. more);
-      number = omega (arith, c.in_ok-made.ensures, i.number, c.in_ok-more.ensures.number, ap length more, length-append (fillings q ts (take at dues)) (fillings q ts front));
-      calls = omega (arith, c.in_ok-made.ensures, i.calls, c.in_ok-more.ensures.calls);
-    }
+pub returns-else-is_computed-clause-number : goal.returns-else-is_computed-clause-number
+returns-else-is_computed-clause-number g c =
+    ok_at (λ (made : ℕ) (tables : List Input). made ≡ length (fillings (model_of c.args.node.now c.args.entry.now) tables c.args.dues.now)) c.fill_kept.result (first_pool c.args.pools.now) c.fill_kept.ensures.number

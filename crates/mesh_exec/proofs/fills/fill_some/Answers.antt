@@ -3,13 +3,13 @@ use Rattle.mesh_house.specs.declared.world.Change.{Change}
 use Rattle.mesh_house.specs.Runs.{Makes}
 use Rattle.mesh_house.proofs.Runs.{memory_then, ran_nothing}
 use Rattle.std.proofs.Common.{refl, []}
-use Rattle.mesh_exec.specs.Fills.{fillings, first_pool}
+use Rattle.mesh_exec.specs.Fills.{first_pool, run_fillings}
 use Rattle.mesh_exec.specs.Plain.{model_of}
 use Rattle.mesh_exec.proofs.fills.fill_some.Goals as goal
 
 pub returns-in_err-changes-clause-makes : goal.returns-in_err-changes-clause-makes
 returns-in_err-changes-clause-makes g c =
-    let list = fillings (model_of c.args.node.now c.args.entry.now) (first_pool c.args.pools.now) c.args.dues.now in
+    let list = run_fillings (model_of c.args.node.now c.args.entry.now) (first_pool c.args.pools.now) c.args.runs.now in
     memory_then (λ w. []) (λ w. list) (λ w. list) _ _ c.from_residual.result (ran_nothing _) c.from_residual.ensures.1 (λ w told. refl)
 
 pub returns-clause-makes : goal.returns-clause-makes

@@ -5,4 +5,4 @@ use Rattle.mesh_exec.proofs.fills.push_zipped.Given as goal
 
 -- what has come and what is left are all of them
 abbrev pub invariant-loop-i : goal.invariant-loop-i
-invariant-loop-i l = l.changes ++ zipped (model_of l.node l.entry) (drop l.i l.dues) (drop l.i l.made) ≡ l.initial.changes ++ zipped (model_of l.node l.entry) l.dues l.made
+invariant-loop-i l = l.changes ++ zipped (model_of l.node l.entry) (drop l.i l.runs) (drop l.i l.made) ≡ l.initial.changes ++ zipped (model_of l.node l.entry) l.runs l.made

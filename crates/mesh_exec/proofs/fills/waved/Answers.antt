@@ -9,6 +9,6 @@ pub returns : goal.returns
 returns g c =
     let m = model_of c.args.node.now c.args.entry.now in
     c.in_ok-push_zipped.ensures
-    ∙ ap (λ (l : List Change). l ++ zipped m c.args.dues.now c.as_slice.result.now) c.new-changes.ensures
-    ∙ ap (zipped m c.args.dues.now) (c.as_slice.ensures ∙ c.in_ok-made.ensures c.args.entry.now)
-    ∙ zip_fills c.args.node.now c.args.entry.now c.args.pools.now c.args.dues.now
+    ∙ ap (λ (l : List Change). l ++ zipped m c.args.runs.now c.as_slice.result.now) c.new-changes.ensures
+    ∙ ap (zipped m c.args.runs.now) (c.as_slice.ensures ∙ c.in_ok-made.ensures c.args.entry.now)
+    ∙ zip_fills c.args.node.now c.args.entry.now c.args.pools.now c.args.runs.now c.requires.fit

@@ -1,0 +1,16 @@
+use Rattle.std.proofs.Common.{List, [], subst, refl, ◌∙◌}
+use Rattle.mesh_house.specs.declared.world.Change.{Change}
+use Rattle.mesh_house.specs.Runs.{Makes}
+use Rattle.mesh_house.proofs.Runs.{memory_then, ran_nothing}
+use Rattle.mesh_exec.specs.Fills.{fillings}
+use Rattle.mesh_exec.specs.Plain.{model_of}
+use Rattle.mesh_exec.proofs.fills.fill_kept.Goals as goal
+
+pub returns-in_err-changes-clause-makes : goal.returns-in_err-changes-clause-makes
+returns-in_err-changes-clause-makes g c tables =
+    let list = fillings (model_of c.args.node.now c.args.entry.now) tables c.args.dues.now in
+    memory_then (λ w. []) (λ w. list) (λ w. list) _ _ c.from_residual.result (ran_nothing _) c.from_residual.ensures.1 (λ w told. refl)
+
+pub returns-clause-makes : goal.returns-clause-makes
+returns-clause-makes g c tables =
+    subst (λ (l : List Change). Makes (λ w. l) (g.W.Warehouse.told c.args.house.now) (g.W.Warehouse.told c.make_counted.new.house) c.make_counted.result) (c.as_slice.ensures ∙ c.in_ok-changes.ensures tables) c.make_counted.ensures.makes
