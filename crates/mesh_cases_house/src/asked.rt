@@ -1,7 +1,7 @@
 // What stands above a house: what it shows, promotions and the janitor.
 use crate::line::{Line, Named, columns};
 use crate::written::{put, put_name, put_rows};
-use mesh_base::{Defn, Query};
+use mesh_base::{Defn, Own, Query};
 use mesh_book::book_fault;
 use mesh_cases::{Trouble, put_count};
 use mesh_house::{Change, MemHouse, WhFail, make};
@@ -57,7 +57,8 @@ fn put_fault(report: &mut Vec<u8>, fault: SweepFault) -> Result<(), Trouble> {
     }
 }
 
-fn query(own: &mesh_base::Own) -> Result<&Query, Trouble> {
+/// The query of a definition that has one.
+fn query(own: &Own) -> Result<&Query, Trouble> {
     match &own.defn {
         Defn::Sql(query) => Ok(query),
         Defn::Seed { .. } => Err(Trouble::Case),
@@ -77,29 +78,42 @@ fn put_asked(
     put_shown(line.alloc(), report, rows.map(|rows| Some(rows)))
 }
 
-fn put_promoted(report: &mut Vec<u8>, house: &mut MemHouse, line: &Line) -> Result<(), Trouble> {
-    let moment = line.number(2)?;
-    if moment < 0 || LAST_MOMENT < moment {
-        return Err(Trouble::Case);
-    }
-    let book = house.world().book.copy()?;
-    let env = line.text(1)?;
-    let (list, objects) = line.listed(3)?;
-    match promote(line.alloc(), house, &book, &env, &list, &objects, moment) {
-        Ok(made) => put_next(line.alloc(), report, made),
+/// Adds the number of the changes of a promotion, or that one failed.
+fn put_number(
+    alloc: Global,
+    report: &mut Vec<u8>,
+    answer: Result<u64, WhFail>,
+) -> Result<(), Trouble> {
+    match answer {
+        Ok(made) => put_next(alloc, report, made),
         Err(WhFail::Failed) => put(report, b"failed"),
         Err(WhFail::Memory) => Err(Trouble::Memory),
     }
 }
 
-fn put_sweep(report: &mut Vec<u8>, house: &mut MemHouse, line: &Line) -> Result<(), Trouble> {
+fn put_promoted(report: &mut Vec<u8>, house: &mut MemHouse, line: &Line) -> Result<(), Trouble> {
+    let alloc = line.alloc();
+    let moment = line.number(2)?;
     let book = house.world().book.copy()?;
-    if book_fault(&book).is_some() {
-        return Err(Trouble::Case);
+    let env = line.text(1)?;
+    let (list, objects) = line.listed(3)?;
+    if moment >= 0 && moment <= LAST_MOMENT {
+        let answer = promote(alloc, house, &book, &env, &list, &objects, moment);
+        put_number(alloc, report, answer)
+    } else {
+        Err(Trouble::Case)
     }
-    match sweep(line.alloc(), house, &book, line.number(1)?) {
-        Ok(swept) => put_swept(line.alloc(), report, swept),
-        Err(fault) => put_fault(report, fault),
+}
+
+fn put_sweep(report: &mut Vec<u8>, house: &mut MemHouse, line: &Line) -> Result<(), Trouble> {
+    let moment = line.number(1)?;
+    let book = house.world().book.copy()?;
+    match book_fault(&book) {
+        Some(_) => Err(Trouble::Case),
+        None => match sweep(line.alloc(), house, &book, moment) {
+            Ok(swept) => put_swept(line.alloc(), report, swept),
+            Err(fault) => put_fault(report, fault),
+        },
     }
 }
 

@@ -1,0 +1,46 @@
+// A gate that holds a unit.
+use mesh_wave::Gate;
+use std::sync::atomic::{AtomicU64, Ordering};
+
+/// How often a held unit looks whether it may go on.
+const MOST_TURNS: u32 = 50_000_000;
+
+/// Holds unit 0 until unit 1 has entered, and tells where it held it too long.
+#[derive(Drop)]
+pub struct Holding {
+    second: AtomicU64,
+    late: AtomicU64,
+}
+
+impl Holding {
+    pub fn new() -> Holding {
+        Holding {
+            second: AtomicU64::new(0),
+            late: AtomicU64::new(0),
+        }
+    }
+
+    /// Whether a unit was held until the last turn.
+    pub fn is_late(&self) -> bool {
+        self.late.load(Ordering::SeqCst) > 0
+    }
+
+    fn hold(&self) {
+        for _ in 0..MOST_TURNS {
+            if self.second.load(Ordering::SeqCst) > 0 {
+                return;
+            }
+        }
+        self.late.store(1, Ordering::SeqCst);
+    }
+}
+
+impl Gate for Holding {
+    fn enter(&self, unit: u32) {
+        if unit == 0 {
+            self.hold();
+        } else if unit == 1 {
+            self.second.store(1, Ordering::SeqCst);
+        }
+    }
+}
