@@ -17,10 +17,9 @@ use Rattle.mesh_plan.specs.Plans.{promised}
 use Rattle.mesh_exec.specs.declared.faults.ExecFault.{ExecFault}
 use Rattle.mesh_exec.specs.declared.faults.ExecFault.TheVariants as fault
 use Rattle.mesh_exec.specs.declared.sources.Lack.{Lack}
+use Rattle.mesh_exec.specs.Answers.{IsLostIn}
 use Rattle.mesh_exec.specs.Executed.{executed}
-use Rattle.mesh_exec.specs.Plain.{models}
 use Rattle.mesh_exec.specs.Sources.{first_lack}
-use Rattle.mesh_exec.specs.Steps.{IsLost}
 use Rattle.mesh_exec.specs.Works.{parts}
 use Rattle.mesh_printed.specs.Reports.{applied_line, ran_line}
 use Rattle.mesh_printed.specs.declared.refusals.Refusal.{Refusal}
@@ -52,7 +51,7 @@ pub record IsStopped (p : Plan) (w : World) (r : Refusal) : Type 0 where
   pub made : List Change
   pub rest : List Change
   pub front : executed p w ≡ made ++ rest
-  pub lost : IsLost (models p) (parts p) (run w made) object
+  pub lost : IsLostIn p w (run w made) object
 
 -- why the changes of a plan aren't all made
 abbrev pub IsHeld : Plan → World → Refusal → Type 0

@@ -12,6 +12,8 @@ pub mod Filling
 pub mod Stepping
 -- Models: a model is made and filled, and then the next one.
 pub mod Models
+-- Ranks: the models of a plan stand by rank.
+pub mod Ranks
 -- Fitting: what is due in a plan fits its models.
 pub mod Fitting
 -- Whole: a plan is looked at and made.

@@ -2,7 +2,7 @@
 use Rattle.std.proofs.Common.{◌≡◌, ◌≤◌, ◌<◌, ◌+◌, ℕ, zero, suc, true, List, [], ◌∷◌, ◌++◌, length, take, drop, map, get_or, Some, None, Ok, Err, Result, IsTrue, refl, sym, ap, ◌∙◌, subst, arith, append_assoc, add-one, length-append}
 use Rattle.std.specs.Result.{IsErrAnd}
 use Rattle.std.specs.Option.{option_map}
-use Rattle.std.specs.List.{Contains, flat_map}
+use Rattle.std.specs.List.{flat_map}
 use Rattle.std.specs.declared.option.Option.{Option}
 use Rattle.std.proofs.lemmas.List.{append-nil, drop_all, take_all}
 use Rattle.mesh_list.specs.Counts.{risen}
@@ -114,7 +114,9 @@ module _ (all : List Planned) (p : Part) where
     ok = tt;
     err = λ w t. none_made _ w _ b (found.untouched.world ∙ t.world) found.untouched.calls;
     unmade = at e is;
-    dangling = λ o f_is w t v v_is. subst (λ (u : World). lost_part u all p ≡ Some o) (let k : Some w ≡ Some v = sym (found.untouched.world ∙ t.world) ∙ v_is in cc) (found.dangling o (dangles e is o f_is) w t.world t.plain);
+    dangling = λ o f_is w t v v_is.
+        let same : w ≡ v = (let k : Some w ≡ Some v = sym (found.untouched.world ∙ t.world) ∙ v_is in cc) in
+        (sym same, subst (λ (u : World). lost_part u all p ≡ Some o) same (found.dangling o (dangles e is o f_is) w t.world t.plain));
     failed = λ f_is. found.failed (fails e is f_is);
     number = tt;
     calls = tt;
@@ -283,16 +285,17 @@ module _ (all : List Planned) (p : Part) where
   sum_stops a b c x y (Err f) made tried is = sum_err all p a b c x y f made tried is
 
 -- some models were made, and the others are left
-pub record Reached (all : List Planned) (parts done rest : List Part) (w : World) (before : ℕ) (now : Told) : Type 0 where
+pub record Reached (all : List Planned) (done : List Part) (w : World) (before : ℕ) (now : Told) : Type 0 where
   pub list : List Change
-  pub whole : executes all parts w ≡ list ++ executes all rest (run w list)
+  pub first : (more : List Part) → executes all (done ++ more) w ≡ list ++ executes all more (run w list)
   pub made : IsRun list w before now
   pub sources : (run w list).sources ≡ w.sources
   pub many : length list ≡ length (parts_outline all done)
 
 pub record SoFar (all : List Planned) (parts done rest : List Part) (number : ℕ) (old now : Told) : Type 0 where
   pub faults : old.faults ≤ now.faults
-  pub told : (w : World) → Tells old w → Reached all parts done rest w old.calls now
+  pub split : parts ≡ done ++ rest
+  pub told : (w : World) → Tells old w → Reached all done w old.calls now
   pub count : number ≡ length (parts_outline all done)
   pub calls : now.calls ≡ risen number old.calls
 
@@ -300,7 +303,8 @@ module _ (all : List Planned) (parts : List Part) where
   pub begun : (a : Told) → SoFar all parts [] parts 0 a a
   begun a = record {
     faults = omega arith;
-    told = λ w t. record { list = []; whole = refl; made = record { world = t.world; calls = omega arith }; sources = refl; many = refl };
+    split = refl;
+    told = λ w t. record { list = []; first = λ more. refl; made = record { world = t.world; calls = omega arith }; sources = refl; many = refl };
     count = refl;
     calls = omega arith;
   }
@@ -312,14 +316,16 @@ module _ (all : List Planned) (parts : List Part) where
   pub one_more : (done rest : List Part) (p : Part) (n x n' : ℕ) (a b c : Told) → SoFar all parts done (p ∷ rest) n a b → MakesPart all p b c (Ok x) → n' ≡ n + x → SoFar all parts (done ++ p ∷ []) rest n' a c
   one_more done rest p n x n' a b c so_far made sum = record {
     faults = omega (arith, so_far.faults, made.faults);
+    split = so_far.split ∙ sym (append_assoc done (p ∷ []) rest);
     told = λ w t.
         let r = so_far.told w t in
         let q = made.ok (run w r.list) (tells_later all p r.list a b w t r.made r.sources) in
         record {
           list = r.list ++ q.list;
-          whole =
-              r.whole ∙ ap (λ (l : List Change). r.list ++ l) (q.first rest) ∙ sym (append_assoc r.list q.list (executes all rest (run (run w r.list) q.list)))
-              ∙ ap (λ (v : World). (r.list ++ q.list) ++ executes all rest v) (sym (run-append w r.list q.list));
+          first = λ more.
+              ap (λ (l : List Part). executes all l w) (append_assoc done (p ∷ []) more)
+              ∙ r.first (p ∷ more) ∙ ap (λ (l : List Change). r.list ++ l) (q.first more) ∙ sym (append_assoc r.list q.list (executes all more (run (run w r.list) q.list)))
+              ∙ ap (λ (v : World). (r.list ++ q.list) ++ executes all more v) (sym (run-append w r.list q.list));
           made = run_then r.list q.list w a.calls b c r.made q.made;
           sources = ap (λ (v : World). v.sources) (run-append w r.list q.list) ∙ q.sources ∙ r.sources;
           many = omega (arith, r.many, q.many, outline_more done p, length-append r.list q.list);
@@ -328,12 +334,18 @@ module _ (all : List Planned) (parts : List Part) where
     calls = omega (arith, sum, so_far.calls, made.calls);
   }
 
+  whole_of : (done rest : List Part) (w : World) (k : ℕ) (b : Told) → parts ≡ done ++ rest → (r : Reached all done w k b) → executes all parts w ≡ r.list ++ executes all rest (run w r.list)
+  whole_of done rest w k b split r = ap (λ (l : List Part). executes all l w) split ∙ r.first rest
+
+  list_is : (done : List Part) (w : World) (k : ℕ) (b : Told) → (r : Reached all done w k b) → executes all done w ≡ r.list
+  list_is done w k b r = ap (λ (l : List Part). executes all l w) (sym (append-nil done)) ∙ r.first [] ∙ append-nil r.list
+
   pub all_made : (done : List Part) (n : ℕ) (a b : Told) → done ≡ parts → SoFar all parts done [] n a b → MakesParts all parts a b (Ok n)
   all_made done n a b is so_far = record {
     faults = so_far.faults;
     ok = λ w t.
         let r = so_far.told w t in
-        let same : executes all parts w ≡ r.list = r.whole ∙ append-nil r.list in
+        let same : executes all parts w ≡ r.list = whole_of done [] w a.calls b so_far.split r ∙ append-nil r.list in
         (subst (λ (l : List Change). IsRun l w a.calls b) (sym same) r.made, ap length same ∙ r.many ∙ ap (λ (l : List Part). length (parts_outline all l)) is);
     err = tt;
     unmade = λ name kind k. cc;
@@ -343,19 +355,28 @@ module _ (all : List Planned) (parts : List Part) where
     calls = so_far.calls;
   }
 
-  pub part_stops : (done rest : List Part) (p : Part) (n : ℕ) (a b c : Told) (f : ExecFault) → Contains parts p → SoFar all parts done (p ∷ rest) n a b → MakesPart all p b c (Err f) → MakesParts all parts a c (Err f)
-  part_stops done rest p n a b c f listed so_far made = record {
+  pub part_stops : (done rest : List Part) (p : Part) (n : ℕ) (a b c : Told) (f : ExecFault) → SoFar all parts done (p ∷ rest) n a b → MakesPart all p b c (Err f) → MakesParts all parts a c (Err f)
+  part_stops done rest p n a b c f so_far made = record {
     faults = omega (arith, so_far.faults, made.faults);
     ok = tt;
     err = λ w t.
         let r = so_far.told w t in
         let q = made.err (run w r.list) (tells_later all p r.list a b w t r.made r.sources) rest in
-        subst (λ (l : List Change). IsPrefixRun l w a.calls c) (ap (λ (l : List Change). r.list ++ l) (append-nil (executes all (p ∷ rest) (run w r.list))) ∙ sym r.whole)
+        subst (λ (l : List Change). IsPrefixRun l w a.calls c) (ap (λ (l : List Change). r.list ++ l) (append-nil (executes all (p ∷ rest) (run w r.list))) ∙ sym (whole_of done (p ∷ rest) w a.calls b so_far.split r))
         (prefix_then r.list (executes all (p ∷ rest) (run w r.list)) [] w a.calls b c r.made q);
     unmade = made.unmade;
     dangling = λ o k w t v v_is.
         let r = so_far.told w t in
-        record { part = p; listed = listed; lost = made.dangling o k (run w r.list) (tells_later all p r.list a b w t r.made r.sources) v v_is };
+        let q = made.dangling o k (run w r.list) (tells_later all p r.list a b w t r.made r.sources) v v_is in
+        record {
+          before = done;
+          part = p;
+          after = rest;
+          split = so_far.split;
+          whole = ap length (list_is done w a.calls b r) ∙ r.many;
+          world = q.0 ∙ sym (run-append w r.list (making all p)) ∙ ap (λ (l : List Change). run w (l ++ making all p)) (sym (list_is done w a.calls b r));
+          lost = q.1;
+        };
     failed = λ k. let rose = made.failed k in omega (arith, rose, so_far.faults);
     number = tt;
     calls = tt;
@@ -367,7 +388,7 @@ module _ (all : List Planned) (parts : List Part) where
     ok = tt;
     err = λ w t.
         let r = so_far.told w t in
-        subst (λ (l : List Change). IsPrefixRun l w a.calls b) (sym r.whole) (whole_prefix r.list _ w a.calls b r.made);
+        subst (λ (l : List Change). IsPrefixRun l w a.calls b) (sym (whole_of done rest w a.calls b so_far.split r)) (whole_prefix r.list _ w a.calls b r.made);
     unmade = λ name kind k. cc;
     dangling = λ o k. absurd (cc);
     failed = λ k. absurd (cc);
@@ -402,14 +423,6 @@ module _ (all : List Planned) (works : List Work) (i : ℕ) (x : Work) (lt : i <
       at (k ∷ ks) zero l h = ap (λ (y : Work). part_of y ∷ []) (sym h)
       at (k ∷ ks) (suc j) l h = ap (λ (l : List Part). part_of k ∷ l) (at ks j (omega arith) h)
 
-  listed : Contains parts_are (part_of x)
-  listed = at works i lt here
-    where
-      at : (ks : List Work) (j : ℕ) → j < length ks → x ≡ get_or ks j x → Contains (map part_of ks) (part_of x)
-      at [] j l h = absurd (omega arith)
-      at (k ∷ ks) zero l h = subst (λ (y : Work). Contains (part_of k ∷ map part_of ks) (part_of y)) (sym h) (0, omega arith, refl)
-      at (k ∷ ks) (suc j) l h = let r = at ks j (omega arith) h in (suc r.0, omega (r.1, arith), r.2)
-
   pub loop_more : (n k n' : ℕ) (a b c : Told) → SoFar all parts_are front back n a b → MakesPart all (part_of x) b c (Ok k) → n' ≡ n + k
       → SoFar all parts_are (map part_of (take (i + 1) works)) (map part_of (drop (i + 1) works)) n' a c
   loop_more n k n' a b c so_far made sum =
@@ -420,7 +433,7 @@ module _ (all : List Planned) (works : List Work) (i : ℕ) (x : Work) (lt : i <
   loop_stops n a b c e (Ok y) so_far made is = absurd is
   loop_stops n a b c e (Err f) so_far made is =
       subst (λ (g : ExecFault). MakesParts all parts_are a c (Err g)) (sym is)
-      (part_stops all parts_are front (map part_of (drop (suc i) works)) (part_of x) n a b c e listed (subst (λ (l : List Part). SoFar all parts_are front l n a b) left so_far) made)
+      (part_stops all parts_are front (map part_of (drop (suc i) works)) (part_of x) n a b c e (subst (λ (l : List Part). SoFar all parts_are front l n a b) left so_far) made)
 
   pub loop_counts : (n k : ℕ) (a b c : Told) (r : Result ℕ ExecFault) → SoFar all parts_are front back n a b → MakesPart all (part_of x) b c (Ok k) → IsErrAnd r (λ f. f ≡ fault.Memory) → MakesParts all parts_are a c r
   loop_counts n k a b c (Ok y) so_far made is = absurd is

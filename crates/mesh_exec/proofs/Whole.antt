@@ -1,5 +1,6 @@
 -- A plan is looked at and made.
-use Rattle.std.proofs.Common.{◌≡◌, ◌+◌, ℕ, ℤ, Bool, true, false, cond, List, [], ◌∷◌, ◌++◌, length, Some, None, Ok, Err, Result, IsTrue, inl, inr, refl, sym, ap, ◌∙◌, subst, arith, length-append}
+use Rattle.std.proofs.Common.{◌≡◌, ◌+◌, ◌<◌, ℕ, ℤ, Bool, true, false, cond, List, [], ◌∷◌, ◌++◌, length, Some, None, Ok, Err, Result, IsTrue, inl, inr, refl, sym, ap, ◌∙◌, subst, arith, length-append}
+use Rattle.std.specs.List.{Contains}
 use Rattle.std.specs.Result.{IsErrAnd}
 use Rattle.std.specs.declared.option.Option.{Option}
 use Rattle.std.proofs.lemmas.List.{append-nil}
@@ -27,11 +28,11 @@ use Rattle.mesh_layer.specs.declared.faults.ShowFault.TheVariants as show
 use Rattle.mesh_exec.specs.declared.faults.ExecFault.{ExecFault}
 use Rattle.mesh_exec.specs.declared.faults.ExecFault.TheVariants as fault
 use Rattle.mesh_exec.specs.declared.sources.Lack.{Lack}
-use Rattle.mesh_exec.specs.Answers.{Executes, of_house, of_show}
+use Rattle.mesh_exec.specs.Answers.{Executes, IsLostIn, of_house, of_show}
 use Rattle.mesh_exec.specs.Executed.{executed, executes, outline, parts_outline}
 use Rattle.mesh_exec.specs.Plain.{models, opened, puts_of}
 use Rattle.mesh_exec.specs.Sources.{first_lack}
-use Rattle.mesh_exec.specs.Steps.{Looks, MakesParts, MakesPlan}
+use Rattle.mesh_exec.specs.Steps.{IsLost, Looks, MakesParts, MakesPlan}
 use Rattle.mesh_exec.specs.Works.{Part, parts}
 use Rattle.mesh_exec.proofs.Stepping.{prefix_more, prefix_then, run_then, whole_prefix}
 
@@ -251,15 +252,22 @@ module _ (p : Plan) where
     calls = tt;
   }
 
-  pub plan_stops : (a b c : Told) (ps : List Part) (x : Unit {0}) (e : ExecFault) (r : Result Done ExecFault) → ps ≡ parts p → Looks ps a b (Ok x) → MakesPlan p b c (Err e) → IsErrAnd r (λ f. f ≡ e) → Executes p a c r
-  plan_stops a b c ps x e (Ok y) same looked made is = absurd is
-  plan_stops a b c ps x e (Err f) same looked made is = record {
+  -- the models of smaller rank stand before a model
+  abbrev AreRanked : Type 0
+  AreRanked = (before after : List Part) (part q : Part) → parts p ≡ before ++ part ∷ after → Contains (parts p) q → q.node.rank < part.node.rank → Contains before q
+
+  lost_in : (w v : World) (o : Name) → AreRanked → IsLost (models p) (parts p) (run w (opened p)) v o → IsLostIn p w v o
+  lost_in w v o ranked lost = record { reached = lost; lower = λ q has lower. ranked lost.before lost.after lost.part q lost.split has lower }
+
+  pub plan_stops : AreRanked → (a b c : Told) (ps : List Part) (x : Unit {0}) (e : ExecFault) (r : Result Done ExecFault) → ps ≡ parts p → Looks ps a b (Ok x) → MakesPlan p b c (Err e) → IsErrAnd r (λ f. f ≡ e) → Executes p a c r
+  plan_stops ranked a b c ps x e (Ok y) same looked made is = absurd is
+  plan_stops ranked a b c ps x e (Err f) same looked made is = record {
     faults = omega (arith, looked.untouched.faults, made.faults);
     ok = tt;
     err = λ w t. inr (ap (first_lack w.sources) (sym same) ∙ looked.ok w t, subst (λ k. IsPrefixRun (executed p w) w k c) looked.untouched.calls (made.err w (stays_told a b w looked.untouched t)));
     unmade = λ name kind k. absurd (made.unmade name kind (let z : nat_err e ≡ nat_err (fault.Model name kind) = cc in z));
     lacking = λ name kind k. absurd (made.unmade name kind (let z : nat_err e ≡ nat_err (fault.Model name kind) = cc in z));
-    dangling = λ o k w t. (ap (first_lack w.sources) (sym same) ∙ looked.ok w t, made.dangling o (let z : nat_err e ≡ nat_err (fault.Dangling o) = cc in z) w (stays_told a b w looked.untouched t));
+    dangling = λ o k w t. (ap (first_lack w.sources) (sym same) ∙ looked.ok w t, λ v v_is. lost_in w v o ranked (made.dangling o (let z : nat_err e ≡ nat_err (fault.Dangling o) = cc in z) w (stays_told a b w looked.untouched t) v v_is));
     failed = λ k. let rose = made.failed (let z : nat_err e ≡ nat_err fault.Warehouse = cc in z) in omega (arith, rose, looked.untouched.faults);
     number = tt;
     calls = tt;

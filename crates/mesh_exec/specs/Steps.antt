@@ -1,6 +1,5 @@
 -- What the models of a plan make of a house, one after another.
 use Rattle.std.specs.Prelude.{◌≡◌, ◌≤◌, ℕ, List, [], ◌∷◌, ◌++◌, length, Some, None, Err, Result, OnOk, OnErr, IfOk, IsErrOf}
-use Rattle.std.specs.List.{Contains}
 use Rattle.std.specs.Option.{ForSome}
 use Rattle.std.specs.declared.option.Option.{Option}
 use Rattle.mesh_list.specs.Counts.{risen, Rose}
@@ -18,7 +17,7 @@ use Rattle.mesh_exec.specs.declared.faults.ExecFault.{ExecFault}
 use Rattle.mesh_exec.specs.declared.faults.ExecFault.TheVariants as fault
 use Rattle.mesh_exec.specs.Executed.{executed, executes, outline, part_outline, parts_outline}
 use Rattle.mesh_exec.specs.Lost.{lost_part}
-use Rattle.mesh_exec.specs.Plain.{models}
+use Rattle.mesh_exec.specs.Plain.{making, models, opened}
 use Rattle.mesh_exec.specs.Sources.{first_lack}
 use Rattle.mesh_exec.specs.Works.{Part, parts}
 
@@ -41,7 +40,7 @@ pub record Tries (list : World → Option (List Change)) (lost : World → Optio
   pub ok : OnOk result ((w : World) → Tells old w → IsTried (list w) many w old.calls new)
   pub err : OnErr result ((w : World) → Tells old w → IsPrefixRun (or_nothing (list w)) w old.calls new)
   pub unmade : (name : Name) (kind : FaultKind) → result ≡ Err (fault.Model name kind) → ⊥
-  pub dangling : (object : Name) → result ≡ Err (fault.Dangling object) → (w : World) → Tells old w → ForSome new.world (λ v. lost v ≡ Some object)
+  pub dangling : (object : Name) → result ≡ Err (fault.Dangling object) → (w : World) → Tells old w → ForSome new.world (λ v. (v ≡ w) × (lost v ≡ Some object))
   pub failed : IsErrOf result fault.Warehouse → Rose old.faults new.faults
   pub number : IfOk result (λ made. made ≡ many)
   pub calls : IfOk result (λ made. new.calls ≡ risen made old.calls)
@@ -54,10 +53,15 @@ pub record IsPartMade (all : List Planned) (p : Part) (w : World) (before : ℕ)
   pub sources : (run w list).sources ≡ w.sources
   pub many : length list ≡ length (part_outline all p)
 
--- one of some models reads an object that is lost
-pub record IsLost (all : List Planned) (parts : List Part) (v : World) (object : Name) : Type 0 where
+-- A model reads an object that is lost in the world that is reached once the models before it were made and filled, none
+-- of which read such an object, and its own object was made.
+pub record IsLost (all : List Planned) (parts : List Part) (w v : World) (object : Name) : Type 0 where
+  pub before : List Part
   pub part : Part
-  pub listed : Contains parts part
+  pub after : List Part
+  pub split : parts ≡ before ++ part ∷ after
+  pub whole : length (executes all before w) ≡ length (parts_outline all before)
+  pub world : v ≡ run w (executes all before w ++ making all part)
   pub lost : lost_part v all part ≡ Some object
 
 -- a call that is to make and fill the object of a model, before the other ones
@@ -66,7 +70,7 @@ pub record MakesPart (all : List Planned) (p : Part) (old new : Told) (result : 
   pub ok : OnOk result ((w : World) → Tells old w → IsPartMade all p w old.calls new)
   pub err : OnErr result ((w : World) → Tells old w → (rest : List Part) → IsPrefixRun (executes all (p ∷ rest) w) w old.calls new)
   pub unmade : (name : Name) (kind : FaultKind) → result ≡ Err (fault.Model name kind) → ⊥
-  pub dangling : (object : Name) → result ≡ Err (fault.Dangling object) → (w : World) → Tells old w → ForSome new.world (λ v. lost_part v all p ≡ Some object)
+  pub dangling : (object : Name) → result ≡ Err (fault.Dangling object) → (w : World) → Tells old w → ForSome new.world (λ v. (v ≡ run w (making all p)) × (lost_part v all p ≡ Some object))
   pub failed : IsErrOf result fault.Warehouse → Rose old.faults new.faults
   pub number : IfOk result (λ made. made ≡ length (part_outline all p))
   pub calls : IfOk result (λ made. new.calls ≡ risen made old.calls)
@@ -77,7 +81,7 @@ pub record MakesParts (all : List Planned) (parts : List Part) (old new : Told) 
   pub ok : OnOk result ((w : World) → Tells old w → IsRun (executes all parts w) w old.calls new × (length (executes all parts w) ≡ length (parts_outline all parts)))
   pub err : OnErr result ((w : World) → Tells old w → IsPrefixRun (executes all parts w) w old.calls new)
   pub unmade : (name : Name) (kind : FaultKind) → result ≡ Err (fault.Model name kind) → ⊥
-  pub dangling : (object : Name) → result ≡ Err (fault.Dangling object) → (w : World) → Tells old w → ForSome new.world (λ v. IsLost all parts v object)
+  pub dangling : (object : Name) → result ≡ Err (fault.Dangling object) → (w : World) → Tells old w → ForSome new.world (λ v. IsLost all parts w v object)
   pub failed : IsErrOf result fault.Warehouse → Rose old.faults new.faults
   pub number : IfOk result (λ made. made ≡ length (parts_outline all parts))
   pub calls : IfOk result (λ made. new.calls ≡ risen made old.calls)
@@ -96,7 +100,7 @@ pub record MakesPlan (p : Plan) (old new : Told) (result : Result ℕ ExecFault)
   pub ok : OnOk result ((w : World) → Tells old w → IsRun (executed p w) w old.calls new × (length (executed p w) ≡ length (outline p)))
   pub err : OnErr result ((w : World) → Tells old w → IsPrefixRun (executed p w) w old.calls new)
   pub unmade : (name : Name) (kind : FaultKind) → result ≡ Err (fault.Model name kind) → ⊥
-  pub dangling : (object : Name) → result ≡ Err (fault.Dangling object) → (w : World) → Tells old w → ForSome new.world (λ v. IsLost (models p) (parts p) v object)
+  pub dangling : (object : Name) → result ≡ Err (fault.Dangling object) → (w : World) → Tells old w → ForSome new.world (λ v. IsLost (models p) (parts p) (run w (opened p)) v object)
   pub failed : IsErrOf result fault.Warehouse → Rose old.faults new.faults
   pub number : IfOk result (λ made. made ≡ length (outline p))
   pub calls : IfOk result (λ made. new.calls ≡ risen made old.calls)

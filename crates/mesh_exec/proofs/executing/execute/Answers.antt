@@ -2,6 +2,7 @@ use Rattle.std.proofs.Common.{◌≡◌, ℕ, Ok, map, sym, ap, subst, ◌∙◌
 use Rattle.mesh_exec.specs.Answers.{Executes}
 use Rattle.mesh_exec.specs.Works.{part_of, parts, parts_from}
 use Rattle.mesh_exec.proofs.Fitting.{parts_fit}
+use Rattle.mesh_exec.proofs.Ranks.{lower_before}
 use Rattle.mesh_exec.proofs.Whole.{begins_not, looks_stop, plan_done, plan_stops}
 use Rattle.mesh_exec.proofs.executing.execute.Goals as goal
 
@@ -21,7 +22,7 @@ pub returns-in_err-changes : goal.returns-in_err-changes
 returns-in_err-changes g c =
     let same : map part_of c.as_slice-3.result.now ≡ parts c.args.p.now =
     ap (map part_of) c.as_slice-3.ensures ∙ c.in_ok-works.ensures ∙ (λ i. parts_from 0 (c.as_slice-nodes.ensures.nodes i) (c.as_slice.ensures i) (c.as_slice-2.ensures i)) in
-    plan_stops c.args.p.now _ _ _ (map part_of c.as_slice-3.result.now) _ _ c.from_residual-in_err-changes.result same c.in_ok-look.ensures c.in_err-changes.ensures c.from_residual-in_err-changes.ensures.1
+    plan_stops c.args.p.now (lower_before c.args.p.now.project.nodes c.args.p.now.entries c.args.p.now.dues c.as_slice-nodes.ensures.proper) _ _ _ (map part_of c.as_slice-3.result.now) _ _ c.from_residual-in_err-changes.result same c.in_ok-look.ensures c.in_err-changes.ensures c.from_residual-in_err-changes.ensures.1
 
 pub returns : goal.returns
 returns g c =
