@@ -1,0 +1,4 @@
+-- Counts: what the house tells.
+pub mod Counts
+-- Loads: why records aren't read, and what reading them leaves of a keeper.
+pub mod Loads
