@@ -17,8 +17,8 @@ pub fn query(alloc: Global) -> Result<Query, Trouble> {
         Err(CanonFault::NotCanonical) => return Err(Trouble::Case),
         Err(CanonFault::Memory) => return Err(Trouble::Memory),
     };
-    match own.defn {
-        Defn::Sql(query) => Ok(query),
+    match &own.defn {
+        Defn::Sql(query) => Ok(query.copy()?),
         Defn::Seed { .. } => Err(Trouble::Case),
     }
 }
