@@ -177,14 +177,9 @@ fn target(first: Name, second: Name, alloc: Global) -> Result<Pairs, Trouble> {
     Ok(targets)
 }
 
-/// The stored query of that number of a chain, over what is below it.
-fn linked(line: &Line, owns: &[Named], number: u32, below: Name) -> Result<Change, Trouble> {
+/// The stored query of that name of a chain, over what is below it.
+fn linked(line: &Line, owns: &[Named], object: Name, below: Name) -> Result<Change, Trouble> {
     let alloc = line.alloc();
-    let name = format!(in alloc; "q{number}")?;
-    let object = Name {
-        schema: below.schema.copy()?,
-        model: u8::copy_items(alloc, name.as_bytes())?,
-    };
     let targets = target(line.name(3)?, below, alloc)?;
     Ok(Change::MakeView {
         object,
@@ -194,16 +189,37 @@ fn linked(line: &Line, owns: &[Named], number: u32, below: Name) -> Result<Chang
     })
 }
 
+fn numbered(alloc: Global, below: &Name, number: u32) -> Result<Name, Trouble> {
+    let name = format!(in alloc; "q{number}")?;
+    Ok(Name {
+        schema: below.schema.copy()?,
+        model: u8::copy_items(alloc, name.as_bytes())?,
+    })
+}
+
+/// Makes the stored query of that number of a chain, and answers its name.
+fn link(
+    house: &mut MemHouse,
+    line: &Line,
+    owns: &[Named],
+    number: u32,
+    below: Name,
+) -> Result<Name, Trouble> {
+    let alloc = line.alloc();
+    let object = numbered(alloc, &below, number)?;
+    let change = linked(line, owns, object.copy()?, below)?;
+    match make(house, alloc, &change) {
+        Ok(()) => Ok(object),
+        Err(_) => Err(Trouble::Outside),
+    }
+}
+
 /// Makes so many stored queries of one definition, the first over an object and each other over the one before it.
 pub fn make_chain(house: &mut MemHouse, line: &Line, owns: &[Named]) -> Result<(), Trouble> {
+    let count = line.rank(1)?;
     let mut below = line.name(4)?;
-    for number in 0..line.rank(1)? {
-        let change = linked(line, owns, number, below)?;
-        make(house, line.alloc(), &change).map_err(|_| Trouble::Outside)?;
-        below = match change {
-            Change::MakeView { object, .. } => object,
-            _ => return Err(Trouble::Case),
-        };
+    for number in 0..count {
+        below = link(house, line, owns, number, below)?;
     }
     Ok(())
 }
