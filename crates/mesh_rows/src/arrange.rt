@@ -5,7 +5,7 @@ use crate::trouble::Trouble;
 use mesh_base::{Forget, Ref};
 use mesh_days::moment_of;
 use mesh_house::{Change, MemHouse, Warehouse, World};
-use mesh_list::{Duplicate, Register, Seq};
+use mesh_list::{Duplicate, Register, Seq, both};
 use mesh_values::{Name, Str, Unit, same_text};
 use std::alloc::Global;
 
@@ -211,22 +211,26 @@ fn forget_hours(stage: &mut Stage, number: u64) -> Result<(), Trouble> {
     done.map_err(|_| Trouble::Outside)
 }
 
-/// What the view of this name points at.
-fn target_of(stage: &Stage, name: &Str) -> Result<Name, Trouble> {
+/// The view that a word names, and what it points at.
+fn view_of(stage: &Stage, name: &Str) -> Result<(Name, Name), Trouble> {
     for view in stage.house.world().views.as_slice() {
         let mut text = Vec::new(stage.alloc);
         put_name(&mut text, &view.view)?;
         if is(name, text.as_slice()) {
-            return Ok(view.target.copy()?);
+            return Ok(both(&view.view, &view.target)?);
         }
     }
     Err(Trouble::Script)
 }
 
-/// The object that a view points at goes.
-fn lose_object(stage: &mut Stage, view: &Str) -> Result<(), Trouble> {
-    let object = target_of(stage, view)?;
-    let drop = Change::DropObject { object };
+/// A view goes, or the object that it points at.
+fn take_out(stage: &mut Stage, name: &Str, object: bool) -> Result<(), Trouble> {
+    let (view, target) = view_of(stage, name)?;
+    let drop = if object {
+        Change::DropObject { object: target }
+    } else {
+        Change::DropView { view }
+    };
     let done = stage.house.change(stage.alloc, &drop);
     done.map_err(|_| Trouble::Outside)
 }
@@ -309,7 +313,10 @@ pub fn arrange(stage: &mut Stage, kind: &Str, words: &[Str]) -> Result<(), Troub
         return change_book(stage, only(words)?);
     }
     if is(kind, b"lose") {
-        return lose_object(stage, only(words)?);
+        return take_out(stage, only(words)?, true);
+    }
+    if is(kind, b"hide") {
+        return take_out(stage, only(words)?, false);
     }
     if is(kind, b"holes") {
         return forget_hours(stage, number_of(only(words)?)?);

@@ -16,7 +16,7 @@
 //!   snapshot another definition, the second time the former one; `book unknown`, `book parent`, `book twice` and
 //!   `book orphan` break it: its version, a parent of its first snapshot, its first version, which stands twice, or the list
 //!   of its first environment, of which one entry is left; `holes N` has its first version forget N hours, every second one,
-//!   and `lose VIEW` drops the object that a view points at;
+//!   `lose VIEW` drops the object that a view points at, and `hide VIEW` the view;
 //! - `fail CALL N` has one call of each of the next commands fail, counted from 0 in each; CALL is `before` or `after` for a
 //!   change that fails before or after its effect, `house` for another call of the warehouse, or `folder`, `clock`, `input`,
 //!   `out` or `err`; `fail` alone has none fail;
