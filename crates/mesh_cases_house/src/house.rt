@@ -1,5 +1,4 @@
 // Changes that are made in a house in memory, and what it answers.
-use crate::asked::{is_made, is_shown, put_made, put_question};
 use crate::changes::change;
 use crate::line::{Line, Named, Owns, parted};
 use crate::owns::add_own;
@@ -196,13 +195,6 @@ impl Stage {
             || line.is(0, b"counts")
     }
 
-    /// The changes of a promotion or of the janitor, and the world behind them.
-    fn made(&mut self, line: &Line) -> Result<(), Trouble> {
-        put_made(&mut self.report, &mut self.house, line)?;
-        self.report.push(b'\n')?;
-        put_world(line.alloc(), &mut self.report, self.house.world())
-    }
-
     fn changed(&mut self, line: &Line, owns: &[Named]) -> Result<(), Trouble> {
         let change = change(line, owns)?;
         self.change(line.alloc(), &change)
@@ -218,10 +210,6 @@ impl Stage {
             self.fingerprints(line.alloc())?;
         } else if Stage::is_read(line) {
             self.read(line)?;
-        } else if is_shown(line) {
-            put_question(&mut self.report, &mut self.house, line, owns)?;
-        } else if is_made(line) {
-            self.made(line)?;
         } else {
             self.changed(line, owns)?;
         }

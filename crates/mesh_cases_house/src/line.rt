@@ -2,7 +2,7 @@
 use mesh_base::{Forget, Forgets, Own, Ref, Refs, Rename, Renames};
 use mesh_cases::Trouble;
 use mesh_list::{Duplicate, Seq, together};
-use mesh_values::{Cell, ColType, Column, Columns, Name, Names, Pair, Pairs, Row, Rows, Str};
+use mesh_values::{Cell, ColType, Column, Columns, Name, Pair, Pairs, Row, Rows, Str};
 use std::alloc::Global;
 
 /// What stands in front of the first such byte of a text, and what behind it. Where there is none, the text and nothing.
@@ -208,18 +208,6 @@ impl<'a> Line<'a> {
             pairs.push(Pair { first, second })?;
         }
         Ok(pairs)
-    }
-
-    /// The references and objects of `REF=OBJECT` from a place on.
-    pub fn listed(&self, from: usize) -> Result<(Refs, Names), Trouble> {
-        let (mut list, mut objects) = (Seq::new(self.alloc), Seq::new(self.alloc));
-        for word in self.words.iter().skip(from) {
-            let (key, object) = parted(word, b'=');
-            let (name, mark) = parted(key, b'/');
-            list.push(reference_of(self.alloc, name, mark)?)?;
-            objects.push(name_of(self.alloc, object)?)?;
-        }
-        Ok((list, objects))
     }
 
     /// What is to be forgotten, from a place on.

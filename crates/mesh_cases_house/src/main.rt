@@ -1,12 +1,12 @@
-//! Each kind of change in a house in memory, what that house answers and shows, what promotions and the janitor make of it,
-//! each breach of a well-formed book, and the rules that books stand on. What comes of each step is printed, and is compared
-//! with the crate's `stdout`, whose values were worked out by hand.
+//! Each kind of change in a house in memory, what that house answers, each breach of a well-formed book, and the rules
+//! that books stand on. What comes of each step is printed, and is compared with the crate's `stdout`, whose values were
+//! worked out by hand.
 //!
-//! A step is a line, and a line that has nothing or begins with `#` is none. In all files `own WORD TEXT` has WORD call
+//! A step is a line, and a line that has nothing or begins with `#` is none. In both files `own WORD TEXT` has WORD call
 //! the definition with this canonical text. A reference `S.M/N` has the fingerprint of 32 bytes N. All tables have the two
 //! columns `day` and `n`, a row is given by the number that it has in both, and is printed by it.
 //!
-//! The steps of `changes.txt` and `shown.txt`:
+//! The steps of `changes.txt`:
 //! - `== TITLE` begins anew with an empty house;
 //! - a change is made, by its kind:
 //!   `moment T`,
@@ -32,11 +32,7 @@
 //!   snapshots, of their parents and in the lists of its environments;
 //! - `fail change N before`, `fail change N after` and `fail read N` have one call of the next ones fail, counted from 0;
 //! - `head NAME`, `body NAME`, `view NAME` and `book` print what the house answers, and `counts` how many changes it was
-//!   given and how many calls failed;
-//! - `show VIEW`, `rows OBJECT` and `ask ENV OWN`, which asks the definition's query of the environment, print the rows that
-//!   are shown in ascending order, what dangles, or that a read failed;
-//! - `promote ENV T REF=OBJECT..`, `sweep T` and `invalidate ENV` make their changes by the house's book, and print their
-//!   numbers, or why they stopped, and then the world;
+//!   given and how many calls failed.
 //!
 //! The steps of `books.txt`:
 //! - `line LINE` adds a line to the good book: `moment T VERSION`, where the new version may be left out, `snapshot ..`
@@ -49,11 +45,9 @@
 //!   sorted;
 //! - `node OWN RANK PLACE..` adds a node, with its parents' places, and `project` prints how many nodes their project has.
 //!
-//! It stands on `mesh_base`, `mesh_rules`, `mesh_time`, `mesh_book`, `mesh_house`, `mesh_layer`, `mesh_promote`,
-//! `mesh_janitor`, `mesh_canon`, `mesh_io` and `mesh_cases`.
+//! It stands on `mesh_base`, `mesh_rules`, `mesh_time`, `mesh_book`, `mesh_house`, `mesh_canon`, `mesh_io` and `mesh_cases`.
 #![tactic(auto)]
 
-mod asked;
 mod books;
 mod changes;
 mod house;
@@ -69,8 +63,6 @@ use std::process::ExitCode;
 fn run(alloc: Global, data: &mut DirFolder, report: &mut Vec<u8>) -> Result<(), Trouble> {
     let changes = file_of(alloc, data, b"changes.txt")?;
     house::run(alloc, changes.as_slice(), report)?;
-    let shown = file_of(alloc, data, b"shown.txt")?;
-    house::run(alloc, shown.as_slice(), report)?;
     let books = file_of(alloc, data, b"books.txt")?;
     books::run(alloc, books.as_slice(), report)
 }

@@ -38,8 +38,8 @@ pub fn put_columns(line: &mut Vec<u8>, columns: &Columns) -> Result<(), Trouble>
     Ok(())
 }
 
-/// The number at the end of each row.
-pub fn put_rows(alloc: Global, line: &mut Vec<u8>, rows: &Rows) -> Result<(), Trouble> {
+// The number at the end of each row.
+fn put_rows(alloc: Global, line: &mut Vec<u8>, rows: &Rows) -> Result<(), Trouble> {
     for row in rows.as_slice() {
         if let Some(Cell::Int(number)) = row.get(1) {
             put_next(alloc, line, *number)?;
