@@ -193,8 +193,18 @@ fn change_book(stage: &mut Stage, what: &Str) -> Result<(), Trouble> {
 /// The first version forgets so many of its hours: every second one from the second on.
 fn forget_hours(stage: &mut Stage, number: u64) -> Result<(), Trouble> {
     let world = stage.house.world();
-    let version = world.book.versions.as_slice().first().ok_or(Trouble::Script)?;
-    let span = version.ranges.spans().as_slice().first().ok_or(Trouble::Script)?;
+    let version = world
+        .book
+        .versions
+        .as_slice()
+        .first()
+        .ok_or(Trouble::Script)?;
+    let span = version
+        .ranges
+        .spans()
+        .as_slice()
+        .first()
+        .ok_or(Trouble::Script)?;
     let object = &version.object;
     let mut start = span.start;
     let mut list = Seq::new(stage.alloc);
