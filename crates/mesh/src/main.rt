@@ -8,10 +8,11 @@
 use mesh_house::MemHouse;
 use mesh_io::{DirFolder, StdSink, StdSource, SystemClock};
 use mesh_line::read_words;
-use mesh_list::{Memory, Seq};
+use mesh_list::{Duplicate, Memory, Seq};
 use mesh_sqlite::{SqliteFault, SqliteHouse, house_over};
-use mesh_values::Str;
+use mesh_values::{Str, same_text};
 use sqlite::{Connection, Error, ErrorCode, File, FileStore};
+use std::alloc::Global;
 use std::env::{Env, FillError};
 use std::process::ExitCode;
 
@@ -58,23 +59,22 @@ fn words<R: Env + AllocGlobal>(rt: &R) -> Result<Vec<Str>, Memory> {
     Ok(words)
 }
 
+/// The file of that name, or of none; none where it is in memory.
+fn file_of(alloc: Global, name: Option<&Str>) -> Result<Option<Str>, Memory> {
+    let Some(name) = name else {
+        return Ok(Some(u8::copy_items(alloc, WAREHOUSE.as_bytes())?));
+    };
+    if same_text(name.as_slice(), b":memory:") {
+        return Ok(None);
+    }
+    Ok(Some(name.copy()?))
+}
+
 /// The file of the warehouse, or none where it is in memory.
 fn warehouse_file(rt: &HostRuntime, words: &[Str]) -> Result<Option<Str>, Memory> {
     match read_words(rt.alloc(), words) {
         Err(_) => Ok(None),
-        Ok(line) => match line.warehouse {
-            None => {
-                let name = Vec::from_slice(rt.alloc(), WAREHOUSE.as_bytes())?;
-                Ok(Some(Seq::from_vec(name)))
-            }
-            Some(name) => {
-                if name.as_slice() == b":memory:".as_slice() {
-                    Ok(None)
-                } else {
-                    Ok(Some(name))
-                }
-            }
-        },
+        Ok(line) => file_of(rt.alloc(), line.warehouse.as_ref()),
     }
 }
 
