@@ -2,7 +2,7 @@
 """Times `mesh_cases_plans` on projects of many incremental models, each over all of the rank below it, joined and bound to the unit:
 the categories of all, where each gains a column; what all models read; and which aren't steady. Each also with half of the
 ranks. Then `mesh_rows` on plans: of a project that is unchanged, over a book of four times as many snapshots; and of one model
-with many hours, none of which or all but some are recorded. A plan's seconds are those of the command without those of one
+with many hours, none of which is recorded. A plan's seconds are those of the command without those of one
 at an earlier moment, which loads the project, reads the book and refuses. Prints seconds of processor and growth.
 
 Usage: bench/plan.py [lattice] [plans] for one of the two parts; the programs are crates/mesh_cases_plans/out/mesh_cases_plans and
@@ -61,21 +61,19 @@ def unchanged(count):
     return planned(played.star(count), played.applied(4), "2024-01-03T00:30")
 
 
-def hours(count, holes):
-    """The seconds of a plan of one model with so many hours, of which none is recorded or all but some."""
+def hours(count):
+    """The seconds of a plan of one model with so many hours, of which none is recorded."""
     text = "MODEL (name s.m, kind INCREMENTAL_BY_TIME_RANGE (time_column t), start '2001-01-01', cron '@hourly'); SELECT 1 AS t\n"
     moment = HOURS[count]
-    front = [f"mesh apply --execution-time {moment}", f"holes {holes}"] if holes else [f"mesh janitor --execution-time {moment}"]
-    return planned({"project/models/m.sql": text}, front, moment)
+    return planned({"project/models/m.sql": text}, [f"mesh janitor --execution-time {moment}"], moment)
 
 
 def plans():
     for half, full in ((500, 1000), (2048, 4096)):
         once, twice = unchanged(half), unchanged(full)
         print(f"unchanged plan, {full:,} models, {4 * full:,} snapshots: {twice:.4f} s, growth {twice / once:.2f}")
-    for holes in (0, 10_000):
-        once, twice = hours(100_000, holes // 2), hours(200_000, holes)
-        print(f"plan of 200,000 hours, {f'{holes:,} of them' if holes else 'all'} due: {twice:.4f} s, growth {twice / once:.2f}")
+    once, twice = hours(100_000), hours(200_000)
+    print(f"plan of 200,000 hours, all due: {twice:.4f} s, growth {twice / once:.2f}")
 
 
 def main():

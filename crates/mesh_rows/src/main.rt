@@ -15,8 +15,7 @@
 //! - `book old` makes the book one of version 1 and `book present` one of version 2; `book definition` gives its first
 //!   snapshot another definition, the second time the former one; `book unknown`, `book parent`, `book twice` and
 //!   `book orphan` break it: its version, a parent of its first snapshot, its first version, which stands twice, or the list
-//!   of its first environment, of which one entry is left; `holes N` has its first version forget N hours, every second one,
-//!   `lose VIEW` drops the object that a view points at, and `hide VIEW` the view;
+//!   of its first environment, of which one entry is left;
 //! - `fail CALL N` has one call of each of the next commands fail, counted from 0 in each; CALL is `before` or `after` for a
 //!   change that fails before or after its effect, `house` for another call of the warehouse, or `folder`, `clock`, `input`,
 //!   `out` or `err`; `fail` alone has none fail;
@@ -34,7 +33,7 @@ mod stage;
 mod trouble;
 mod turns;
 
-use crate::arrange::{arrange, is};
+use crate::arrange::arrange;
 use crate::report::{put, put_counts, put_outcome, put_targets, put_views};
 use crate::stage::Stage;
 use crate::trouble::Trouble;
@@ -67,24 +66,20 @@ fn perform<R: Threads + Sync>(
     let Some((first, rest)) = words.split_first() else {
         return Err(Trouble::Script);
     };
-    if is(first, b"mesh") {
-        let outcome = stage.run(rt, rest)?;
-        return put_outcome(stage.alloc, report, &outcome);
+    match (first.as_slice(), rest) {
+        (b"mesh", _) => {
+            let outcome = stage.run(rt, rest)?;
+            put_outcome(stage.alloc, report, &outcome)
+        }
+        (b"show", []) => {
+            put_views(stage.alloc, report, stage.house.world())?;
+            put_counts(stage.alloc, report, stage.house.world())
+        }
+        (b"targets", []) => put_targets(report, stage.house.world()),
+        (b"cuts", [path, command @ ..]) => cuts(rt, stage, path, command, report),
+        (b"stops", [kind, command @ ..]) => stops(rt, stage, kind, command, report),
+        _ => arrange(stage, first, rest),
     }
-    if is(first, b"show") {
-        put_views(stage.alloc, report, stage.house.world())?;
-        return put_counts(stage.alloc, report, stage.house.world());
-    }
-    if is(first, b"targets") {
-        return put_targets(report, stage.house.world());
-    }
-    if is(first, b"cuts") {
-        return cuts(rt, stage, rest, report);
-    }
-    if is(first, b"stops") {
-        return stops(rt, stage, rest, report);
-    }
-    arrange(stage, first, rest)
 }
 
 /// Runs the step of a line; a step that prints has its line printed before it.

@@ -147,12 +147,10 @@ fn run_cuts<R: Threads + Sync>(
 pub fn cuts<R: Threads + Sync>(
     rt: &R,
     stage: &mut Stage,
+    path: &Str,
     words: &[Str],
     report: &mut Vec<u8>,
 ) -> Result<(), Trouble> {
-    let Some((path, words)) = words.split_first() else {
-        return Err(Trouble::Script);
-    };
     let mut place = Vec::from_slice(stage.alloc, b"project/")?;
     place.extend_from_slice(path.as_slice())?;
     let bytes = stage.file(&Seq::from_vec(place))?;
@@ -230,12 +228,10 @@ fn run_stops<R: Threads + Sync>(
 pub fn stops<R: Threads + Sync>(
     rt: &R,
     stage: &mut Stage,
+    kind: &Str,
     words: &[Str],
     report: &mut Vec<u8>,
 ) -> Result<(), Trouble> {
-    let Some((kind, words)) = words.split_first() else {
-        return Err(Trouble::Script);
-    };
     let world = stage.house.world().copy()?;
     let mut turns = Turns::new(stage.alloc);
     let number = run_stops(rt, stage, &world, kind, words, &mut turns)?;

@@ -1,1 +1,0 @@
-MODEL (name a.f, kind FULL); SELECT v FROM a.s
