@@ -1,15 +1,15 @@
 // What stands above a house: what it shows, promotions and the janitor.
-use crate::line::{Line, Named, columns};
+use crate::line::{Line, Named};
 use crate::written::{put, put_name, put_rows};
 use mesh_base::{Defn, Own, Query};
 use mesh_book::book_fault;
 use mesh_cases::{Trouble, put_count};
-use mesh_house::{Change, MemHouse, WhFail, make};
+use mesh_house::{MemHouse, WhFail};
 use mesh_janitor::{SweepFault, Swept, invalidate, sweep};
 use mesh_layer::{ShowFault, ask, object_rows, show};
-use mesh_list::{Duplicate, Seq};
+use mesh_list::Duplicate;
 use mesh_promote::promote;
-use mesh_values::{LAST_MOMENT, Name, Pair, Pairs, Rows, same_text, sort_rows};
+use mesh_values::{LAST_MOMENT, Rows, same_text, sort_rows};
 use std::alloc::Global;
 
 fn put_sorted(alloc: Global, report: &mut Vec<u8>, rows: Rows) -> Result<(), Trouble> {
@@ -169,57 +169,4 @@ pub fn put_made(report: &mut Vec<u8>, house: &mut MemHouse, line: &Line) -> Resu
     } else {
         put_invalidated(report, house, line)
     }
-}
-
-fn target(first: Name, second: Name, alloc: Global) -> Result<Pairs, Trouble> {
-    let mut targets = Seq::new(alloc);
-    targets.push(Pair { first, second })?;
-    Ok(targets)
-}
-
-/// The stored query of that name of a chain, over what is below it.
-fn linked(line: &Line, owns: &[Named], object: Name, below: Name) -> Result<Change, Trouble> {
-    let alloc = line.alloc();
-    let targets = target(line.name(3)?, below, alloc)?;
-    Ok(Change::MakeView {
-        object,
-        columns: columns(alloc)?,
-        own: line.own(owns, 2)?.copy()?,
-        targets,
-    })
-}
-
-fn numbered(alloc: Global, below: &Name, number: u32) -> Result<Name, Trouble> {
-    let name = format!(in alloc; "q{number}")?;
-    Ok(Name {
-        schema: below.schema.copy()?,
-        model: u8::copy_items(alloc, name.as_bytes())?,
-    })
-}
-
-/// Makes the stored query of that number of a chain, and answers its name.
-fn link(
-    house: &mut MemHouse,
-    line: &Line,
-    owns: &[Named],
-    number: u32,
-    below: Name,
-) -> Result<Name, Trouble> {
-    let alloc = line.alloc();
-    let object = numbered(alloc, &below, number)?;
-    let change = linked(line, owns, object.copy()?, below)?;
-    match make(house, alloc, &change) {
-        Ok(()) => Ok(object),
-        Err(_) => Err(Trouble::Outside),
-    }
-}
-
-/// Makes so many stored queries of one definition, the first over an object and each other over the one before it.
-pub fn make_chain(house: &mut MemHouse, line: &Line, owns: &[Named]) -> Result<(), Trouble> {
-    let count = line.rank(1)?;
-    let mut below = line.name(4)?;
-    for number in 0..count {
-        below = link(house, line, owns, number, below)?;
-    }
-    Ok(())
 }

@@ -1,5 +1,5 @@
 // Changes that are made in a house in memory, and what it answers.
-use crate::asked::{is_made, is_shown, make_chain, put_made, put_question};
+use crate::asked::{is_made, is_shown, put_made, put_question};
 use crate::changes::change;
 use crate::line::{Line, Named, Owns, parted};
 use crate::owns::add_own;
@@ -247,8 +247,6 @@ impl Stage {
             Ok(self.list.push(change)?)
         } else if word == b"fail".as_slice() {
             self.fail(&Line::of(alloc, text)?)
-        } else if word == b"chain".as_slice() {
-            make_chain(&mut self.house, &Line::of(alloc, text)?, owns)
         } else if word == b"version".as_slice() {
             self.set_version(&Line::of(alloc, text)?)
         } else {

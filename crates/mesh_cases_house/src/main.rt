@@ -37,8 +37,6 @@
 //!   are shown in ascending order, what dangles, or that a read failed;
 //! - `promote ENV T REF=OBJECT..`, `sweep T` and `invalidate ENV` make their changes by the house's book, and print their
 //!   numbers, or why they stopped, and then the world;
-//! - `chain N OWN MODEL OBJECT` makes N stored queries, `q0`, `q1` and so on in the object's schema: the first has the object as
-//!   that model's, and each other one the query before it.
 //!
 //! The steps of `books.txt`:
 //! - `line LINE` adds a line to the good book: `moment T VERSION`, where the new version may be left out, `snapshot ..`
