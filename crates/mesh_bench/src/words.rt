@@ -1,6 +1,4 @@
-//! The words that a benchmark is given: what it is to do, and how often.
-#![tactic(auto)]
-
+// The words that a benchmark is given: what it is to do, and how often.
 use std::env::Env;
 
 /// The number that a word says, and 0 where it says none.
