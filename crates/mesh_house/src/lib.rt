@@ -17,7 +17,6 @@ mod same;
 mod same_changes;
 mod sources;
 mod step;
-mod times;
 mod world;
 
 pub use fails::{Fail, Fails};

@@ -1,8 +1,8 @@
 use Rattle.std.proofs.Common.{◌≡◌, true, false, sym, ap, ◌∙◌, add-one}
 use Rattle.mesh_values.specs.Picked.{same_text}
 use Rattle.mesh_seconds.specs.Times.{time_of}
-use Rattle.mesh_eval.proofs.Rows.{cell_of-here, cell_of-later}
-use Rattle.mesh_exec.proofs.cuts.second_in.Goals as goal
+use Rattle.mesh_seconds.proofs.CellOf.{cell_of-here, cell_of-later}
+use Rattle.mesh_seconds.proofs.rows.second_in.Goals as goal
 
 pub returns-then-same_text : goal.returns-then-same_text
 returns-then-same_text c =

@@ -1,8 +1,8 @@
 use Rattle.std.proofs.Common.{rules, ◌++◌, ◌∙◌, ap, not, List, filter}
 use Rattle.std.proofs.lemmas.Fn.{filter_same}
 use Rattle.mesh_values.specs.declared.values.Cell.{Cell}
-use Rattle.mesh_house.specs.Times.{lies_within}
-use Rattle.mesh_house.proofs.times.write.Goals as goal
+use Rattle.mesh_seconds.specs.Rows.{lies_within}
+use Rattle.mesh_seconds.proofs.rows.write.Goals as goal
 
 pub returns-clause-ok : goal.returns-clause-ok
 returns-clause-ok c =

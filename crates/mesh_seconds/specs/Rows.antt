@@ -1,7 +1,6 @@
 -- The rows of a table that lie in a range of seconds.
 use Rattle.std.specs.Prelude.{ℕ, Bool, not, List, ◌++◌, filter, Some, None, ℤ}
 use Rattle.std.specs.declared.option.Option.{Option}
-use Rattle.mesh_values.specs.declared.times.Bounds.{Bounds}
 use Rattle.mesh_values.specs.declared.values.Cell.{Cell}
 use Rattle.mesh_values.specs.declared.values.Cell.TheVariants.{Null}
 use Rattle.mesh_values.specs.declared.values.Column.{Column}

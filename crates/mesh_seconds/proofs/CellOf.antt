@@ -4,7 +4,7 @@ use Rattle.mesh_values.specs.declared.values.Cell.{Cell}
 use Rattle.mesh_values.specs.declared.values.Cell.TheVariants.{Null}
 use Rattle.mesh_values.specs.declared.values.Column.{Column}
 use Rattle.mesh_values.specs.Picked.{same_text, cell_of}
-use Rattle.mesh_house.specs.Times.{or_null}
+use Rattle.mesh_seconds.specs.Rows.{or_null}
 
 pub cell_of-none : (cs : List Column) (name : List ℕ) → cell_of cs [] name ≡ Null
 cell_of-none [] name = refl
