@@ -7,16 +7,16 @@ use std::alloc::Global;
 
 /// The ranges, and what stands around canonical texts.
 #[derive(Drop)]
-pub struct Stage {
+pub struct Values {
     alloc: Global,
     held: Held,
     frame: Frame,
 }
 
-impl Stage {
+impl Values {
     /// No second is recorded, nothing stands around a text, and there are no parents.
-    pub fn new(alloc: Global) -> Stage {
-        Stage {
+    pub fn new(alloc: Global) -> Values {
+        Values {
             alloc,
             held: Held::new(alloc),
             frame: Frame::new(alloc),
