@@ -10,11 +10,11 @@ ghost use Rattle.mesh_upkeep.specs.Sourced.{columns_named, declared_as, file_row
 
 use mesh_base::Decl;
 use mesh_csv::{bad_row, read_seed};
-use mesh_fault_text::put_name;
+use mesh_fault_text::name_text;
 use mesh_files::{LoadFault, in_file, read_sources, read_within};
 use mesh_io::Folder;
 use mesh_layer::picked_rows;
-use mesh_list::{Duplicate, Memory, Seq};
+use mesh_list::{Duplicate, Memory};
 use mesh_printed::Refusal;
 use mesh_tokens::FaultKind;
 use mesh_values::{Columns, LARGEST_SOURCE, Name, Seed, Str};
@@ -29,15 +29,6 @@ pub(crate) fn of_load(fault: LoadFault) -> Refusal
         LoadFault::Folder => Refusal::Input,
         LoadFault::Memory => Refusal::Memory,
     }
-}
-
-/// A name as it is printed.
-pub(crate) fn name_text(alloc: Global, name: &Name) -> Result<Str, Memory>
-    ensures { IfOk result (λ text. text ≡ name_text name.now) }
-{
-    let mut out = Vec::new(alloc);
-    put_name(&mut out, name)?;
-    Ok(Seq::from_vec(out))
 }
 
 fn is_named(source: &Decl, name: &Name) -> bool
