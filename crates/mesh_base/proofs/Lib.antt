@@ -1,1 +1,3 @@
+-- Equal: the test of equal expressions is equality.
+pub mod Equal
 mod Examples

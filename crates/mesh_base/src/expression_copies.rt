@@ -40,12 +40,11 @@ fn expr_copied(e: &Expr) -> Result<Expr, Memory>
         Expr::Not(value) => Ok(Expr::Not(boxed_copied(value)?)),
         Expr::IsNull(value) => Ok(Expr::IsNull(boxed_copied(value)?)),
         Expr::Between { value, low, high } => {
-            let (low, high) = together(boxed_copied(low), boxed_copied(high))?;
-            Ok(Expr::Between {
-                value: boxed_copied(value)?,
-                low,
-                high,
-            })
+            let (value, (low, high)) = together(
+                boxed_copied(value),
+                together(boxed_copied(low), boxed_copied(high)),
+            )?;
+            Ok(Expr::Between { value, low, high })
         }
         Expr::OneOf { value, of } => {
             let (value, of) = together(boxed_copied(value), exprs_copied(of))?;

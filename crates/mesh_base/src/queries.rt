@@ -1,6 +1,6 @@
 // Resolved queries: each column has its name and type, and `*` is expanded.
 use crate::expressions::{Expr, Exprs};
-use mesh_list::{Duplicate, Memory, Same, Seq, both};
+use mesh_list::{Duplicate, Memory, Same, Seq, both, together};
 use mesh_values::{ColType, Name, Str};
 
 pub type Items = Seq<Item>;
@@ -101,9 +101,10 @@ impl Duplicate for FromItem {
 
 impl Duplicate for Select {
     fn copy(&self) -> Result<Select, Memory> {
-        let (items, from) = both(&self.items, &self.from)?;
-        let (filter, keys) = both(&self.filter, &self.keys)?;
-        let having = self.having.copy()?;
+        let ((items, from), ((filter, keys), having)) = together(
+            both(&self.items, &self.from),
+            together(both(&self.filter, &self.keys), self.having.copy()),
+        )?;
         Ok(Select {
             distinct: self.distinct,
             grouped: self.grouped,

@@ -1,6 +1,6 @@
 // Models at one state of their files, and the environments that list them.
 use crate::definitions::Own;
-use mesh_list::{Duplicate, Memory, Register, Same, Seq, both};
+use mesh_list::{Duplicate, Memory, Register, Same, Seq, both, together};
 use mesh_values::{Name, Str};
 
 pub type Refs = Seq<Ref>;
@@ -78,8 +78,10 @@ impl Duplicate for Node {
 
 impl Duplicate for Snapshot {
     fn copy(&self) -> Result<Snapshot, Memory> {
-        let (name, own) = both(&self.name, &self.own)?;
-        let (parents, object) = both(&self.parents, &self.object)?;
+        let ((name, own), (parents, object)) = together(
+            both(&self.name, &self.own),
+            both(&self.parents, &self.object),
+        )?;
         Ok(Snapshot {
             name,
             fingerprint: self.fingerprint,

@@ -1,7 +1,7 @@
 // What a change makes of a world.
 ghost use Rattle.std.specs.Prelude.{◌≡◌, [], ◌++◌, true, IfOk, OnOk, OnErr};
 ghost use Rattle.std.specs.Option.{option_copied};
-ghost use Rattle.mesh_book.specs.Changes.{at_version};
+ghost use Rattle.mesh_book.specs.Changes.{at_version, put_snapshot, record_marks, set_pending, delete_snapshot};
 ghost use Rattle.mesh_house.specs.Objects.{is_physical};
 ghost use Rattle.mesh_house.specs.World.{empty_world, object_at, version_of};
 ghost use Rattle.mesh_house.specs.Step.{with_object, with_book, kept_rows, load, make_table, make_view, replace_rows, written_object, write_range, point_view, drop_view, drop_object, step};
@@ -9,13 +9,14 @@ ghost use Rattle.mesh_house.specs.Step.{with_object, with_book, kept_rows, load,
 use crate::objects::{Body, Object, Objects};
 use crate::sources::SourceTables;
 use crate::world::{Change, ViewOf, World};
-use mesh_base::{Input, Own, Ref};
+use mesh_base::{Input, Marks, Own, Ref, Refs, Snapshot};
 use mesh_book::{Book, Version};
-use mesh_list::{Duplicate, Memory, Seq, Sorted, both};
+use mesh_list::{Duplicate, Memory, Seq, Sorted, both, together};
 use mesh_moves::{forget_units, migrate};
 use mesh_seconds::rewrite;
 use mesh_values::{Columns, Name, Pairs, Rows, Str, has_two_underscores};
 use std::alloc::Global;
+use std::mem::drop;
 
 // A table that has no rows yet.
 fn empty_table(alloc: Global, name: &Name, columns: &Columns) -> Result<Object, Memory>
@@ -38,12 +39,34 @@ fn stored_query(
 ) -> Result<Object, Memory>
     ensures { IfOk result (λ made. made ≡ record { name = name.now; columns = columns.now; body = Body.Stored own.now targets.now }) }
 {
-    let (name, columns) = both(name, columns)?;
-    let (own, targets) = both(own, targets)?;
+    let ((name, columns), (own, targets)) = together(both(name, columns), both(own, targets))?;
     Ok(Object {
         name,
         columns,
         body: Body::Stored { own, targets },
+    })
+}
+
+// A table with these rows.
+fn filled_table(name: &Name, columns: &Columns, rows: &Rows) -> Result<Object, Memory>
+    ensures { IfOk result (λ made. made ≡ record { name = name.now; columns = columns.now; body = Body.Rows rows.now }) }
+{
+    let ((name, columns), rows) = together(both(name, columns), rows.copy())?;
+    Ok(Object {
+        name,
+        columns,
+        body: Body::Rows(rows),
+    })
+}
+
+// What stands at a table's place while it is written.
+fn blank_table(alloc: Global, name: &Name) -> Result<Object, Memory>
+    ensures { IfOk result (λ made. made.name ≡ name.now) }
+{
+    Ok(Object {
+        name: name.copy()?,
+        columns: Seq::new(alloc),
+        body: Body::Rows(Seq::new(alloc)),
     })
 }
 
@@ -71,6 +94,26 @@ fn kept_rows(alloc: Global, keep: bool, source: Option<&Input>) -> Result<Rows, 
             }
         }
     }
+}
+
+// A source with these rows, after those that are kept.
+fn loaded(
+    alloc: Global,
+    keep: bool,
+    source: Option<&Input>,
+    name: &Name,
+    columns: &Columns,
+    rows: &Rows,
+) -> Result<Input, Memory>
+    ensures { IfOk result (λ made. made ≡ record { name = name.now; columns = columns.now; rows = kept_rows keep (option_copied source.entry) ++ rows.now }) }
+{
+    let (kept, more) = together(kept_rows(alloc, keep, source), rows.copy())?;
+    let ((name, columns), rows) = together(both(name, columns), joined(kept, more))?;
+    Ok(Input {
+        name,
+        columns,
+        rows,
+    })
 }
 
 impl Object {
@@ -124,12 +167,8 @@ impl World {
         if has_two_underscores(name.schema.as_slice()) {
             return Ok(());
         }
-        let kept = kept_rows(alloc, keep, self.sources.find(name))?;
-        self.sources.place(Input {
-            name: name.copy()?,
-            columns: columns.copy()?,
-            rows: joined(kept, rows.copy()?)?,
-        })
+        let source = loaded(alloc, keep, self.sources.find(name), name, columns, rows)?;
+        self.sources.place(source)
     }
 
     // The version of an object, where there is one.
@@ -166,10 +205,15 @@ impl World {
         if !has_two_underscores(object.schema.as_slice()) {
             return Ok(());
         }
-        let made = empty_table(alloc, object, columns)?;
-        let before = self.version_of(object)?;
-        self.book.make_table(object)?;
-        self.put_made(made, before)
+        let made = empty_table(alloc, object, columns);
+        let (made, before) = together(made, self.version_of(object))?;
+        match self.book.make_table(object) {
+            Ok(()) => self.put_made(made, before),
+            Err(refused) => {
+                drop((made, before));
+                Err(refused)
+            }
+        }
     }
 
     fn make_view(
@@ -185,10 +229,15 @@ impl World {
         if !has_two_underscores(object.schema.as_slice()) {
             return Ok(());
         }
-        let made = stored_query(object, columns, own, targets)?;
-        let before = self.version_of(object)?;
-        self.book.make_view(object)?;
-        self.put_made(made, before)
+        let made = stored_query(object, columns, own, targets);
+        let (made, before) = together(made, self.version_of(object))?;
+        match self.book.make_view(object) {
+            Ok(()) => self.put_made(made, before),
+            Err(refused) => {
+                drop((made, before));
+                Err(refused)
+            }
+        }
     }
 
     fn replace_rows(&mut self, object: &Name, rows: &Rows) -> Result<(), Memory>
@@ -201,11 +250,7 @@ impl World {
         let Body::Rows(_) = &old.body else {
             return Ok(());
         };
-        let filled = Object {
-            name: object.copy()?,
-            columns: old.columns.copy()?,
-            body: Body::Rows(rows.copy()?),
-        };
+        let filled = filled_table(object, &old.columns, rows)?;
         self.objects.place(filled)
     }
 
@@ -224,17 +269,12 @@ impl World {
         if !has_two_underscores(object.schema.as_slice()) {
             return Ok(());
         }
-        let more = rows.copy()?;
-        let blank = Object {
-            name: object.copy()?,
-            columns: Seq::new(alloc),
-            body: Body::Rows(Seq::new(alloc)),
-        };
+        let (more, blank) = together(rows.copy(), blank_table(alloc, object))?;
         match self.objects.exchange(blank) {
             None => Ok(()),
             Some(mut old) => {
                 let done = old.rewrite(more, time, start, end);
-                self.objects.exchange(old);
+                drop(self.objects.exchange(old));
                 done
             }
         }
@@ -244,10 +284,8 @@ impl World {
         ensures ok { OnOk result (self.new ≡ point_view self.old view.now target.now) }
         ensures err { OnErr result (self.new ≡ self.old) }
     {
-        self.views.place(ViewOf {
-            view: view.copy()?,
-            target: target.copy()?,
-        })
+        let (view, target) = both(view, target)?;
+        self.views.place(ViewOf { view, target })
     }
 
     fn drop_view(&mut self, view: &Name)
@@ -260,6 +298,40 @@ impl World {
         ensures { self.new ≡ drop_object self.old object.now }
     {
         let _ = self.objects.remove(object);
+    }
+
+    fn put_snapshot(&mut self, snapshot: &Snapshot) -> Result<(), Memory>
+        ensures ok { OnOk result (self.new ≡ with_book self.old (put_snapshot self.old.book snapshot.now)) }
+        ensures err { OnErr result (self.new ≡ self.old) }
+    {
+        self.book.put_snapshot(snapshot.copy()?)
+    }
+
+    fn record_marks(&mut self, object: &Name, marks: &Marks) -> Result<(), Memory>
+        ensures ok { OnOk result (self.new ≡ with_book self.old (record_marks self.old.book object.now marks.now)) }
+        ensures err { OnErr result (self.new ≡ self.old) }
+    {
+        self.book.record_marks(object, marks.copy()?)
+    }
+
+    fn set_pending(&mut self, env: &Str, list: &Refs, expires: &Option<i64>) -> Result<(), Memory>
+        ensures ok { OnOk result (self.new ≡ with_book self.old (set_pending self.old.book env.now list.now expires.now)) }
+        ensures err { OnErr result (self.new ≡ self.old) }
+    {
+        let (env, list) = both(env, list)?;
+        self.book.set_pending(env, list, *expires)
+    }
+
+    fn delete_snapshot(&mut self, name: &Name, fingerprint: &[u8; 32]) -> Result<(), Memory>
+        ensures ok { OnOk result (self.new ≡ with_book self.old (delete_snapshot self.old.book (record { name = name.now; fingerprint = fingerprint.now }))) }
+        ensures err { OnErr result (self.new ≡ self.old) }
+    {
+        let key = Ref {
+            name: name.copy()?,
+            fingerprint: *fingerprint,
+        };
+        self.book.delete_snapshot(&key);
+        Ok(())
     }
 
     /// Makes the change. At `Err` nothing has changed.
@@ -278,7 +350,7 @@ impl World {
                 rows,
                 keep,
             } => self.load(alloc, name, columns, rows, *keep),
-            Change::PutSnapshot { snapshot } => self.book.put_snapshot(snapshot.copy()?),
+            Change::PutSnapshot { snapshot } => self.put_snapshot(snapshot),
             Change::MakeTable { object, columns } => self.make_table(alloc, object, columns),
             Change::MakeView {
                 object,
@@ -297,10 +369,8 @@ impl World {
             Change::RecordRange { object, start, end } => {
                 self.book.record_range(object, *start, *end)
             }
-            Change::RecordMarks { object, marks } => self.book.record_marks(object, marks.copy()?),
-            Change::SetPending { env, list, expires } => {
-                self.book.set_pending(env.copy()?, list.copy()?, *expires)
-            }
+            Change::RecordMarks { object, marks } => self.record_marks(object, marks),
+            Change::SetPending { env, list, expires } => self.set_pending(env, list, expires),
             Change::PointView { view, target } => self.point_view(view, target),
             Change::DropView { view } => {
                 self.drop_view(view);
@@ -316,14 +386,7 @@ impl World {
                 self.drop_object(object);
                 Ok(())
             }
-            Change::DeleteSnapshot { name, fingerprint } => {
-                let key = Ref {
-                    name: name.copy()?,
-                    fingerprint: *fingerprint,
-                };
-                self.book.delete_snapshot(&key);
-                Ok(())
-            }
+            Change::DeleteSnapshot { name, fingerprint } => self.delete_snapshot(name, fingerprint),
             Change::DeleteEnv { env } => {
                 self.book.delete_env(env);
                 Ok(())

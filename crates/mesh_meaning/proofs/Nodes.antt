@@ -25,7 +25,7 @@ use Rattle.mesh_meaning.specs.Cells.{is_null, op_value, negative, opposite, betw
 use Rattle.mesh_meaning.specs.Aggregates.{agg_value, count_of}
 use Rattle.mesh_meaning.specs.Macros.{macro_value}
 use Rattle.mesh_meaning.specs.Sel.{Joined, group_scope, key_list, row_scope}
-use Rattle.mesh_meaning.proofs.Equal.{exact, is_equality}
+use Rattle.mesh_base.proofs.Equal.{exact, is_equality}
 use Rattle.mesh_meaning.specs.Ev.{same_expr, Ev_each, Ev_whens, over_group, at_row, Scope, Seen, Value, Ev, Ev_when, Ev_node, ev_here, when_value, valued, node_of, key_of, key_or, node_value}
 
 firsts : {X Y : Type 0} (f : X → Y) (xs : List X) → map (λ (p : X × Y). p.0) (map (λ x. (x, f x)) xs) ≡ xs

@@ -22,7 +22,7 @@ ghost use Rattle.mesh_meaning.specs.Named.{columns, only, Covers};
 ghost use Rattle.mesh_meaning.specs.Sel.{Group, Joined, group_scope, groups, key_list, row_scope};
 
 /// A part equals a key where both are the same expression.
-#[tactic(auto, using(crate::proofs::Equal::is_equality))]
+#[tactic(auto, using(mesh_base::proofs::Equal::is_equality))]
 pub fn parts_equal_keys_as_expressions()
     ensures { (a b : Expr) → (same_expr a b ≡ true) ↔ (a ≡ b) }
 {}

@@ -31,7 +31,7 @@ use Rattle.mesh_csv.specs.Fits.{is_of}
 use Rattle.mesh_meaning.specs.Cells.{op_value, func_value}
 use Rattle.mesh_meaning.specs.Aggregates.{agg_value}
 use Rattle.mesh_meaning.specs.Ev.{Ev, Scope, Seen, at_row, same_expr}
-use Rattle.mesh_meaning.proofs.Equal.{exact, is_equality}
+use Rattle.mesh_base.proofs.Equal.{exact, is_equality}
 use Rattle.mesh_meaning.proofs.Nodes as nodes
 use Rattle.mesh_types.specs.declared.typed.Typed.{Typed}
 use Rattle.mesh_types.specs.Faults.{mismatch, too_large_number, largest_number}

@@ -348,12 +348,12 @@ fn column_copied(item: &Option<Str>, name: &Str) -> Result<(Option<Str>, Str), M
 
 impl Duplicate for SurfaceRel {
     fn copy(&self) -> Result<SurfaceRel, Memory> {
-        let (schema, name) = both(&self.schema, &self.name)?;
+        let ((schema, name), alias) = together(both(&self.schema, &self.name), self.alias.copy())?;
         Ok(SurfaceRel {
             at: self.at,
             schema,
             name,
-            alias: self.alias.copy()?,
+            alias,
         })
     }
 }
@@ -414,8 +414,10 @@ impl Duplicate for SurfaceItem {
 
 impl Duplicate for SurfaceSelect {
     fn copy(&self) -> Result<SurfaceSelect, Memory> {
-        let (items, from) = both(&self.items, &self.from)?;
-        let (filter, keys) = both(&self.filter, &self.keys)?;
+        let ((items, from), ((filter, keys), having)) = together(
+            both(&self.items, &self.from),
+            together(both(&self.filter, &self.keys), self.having.copy()),
+        )?;
         Ok(SurfaceSelect {
             at: self.at,
             distinct: self.distinct,
@@ -423,7 +425,7 @@ impl Duplicate for SurfaceSelect {
             from,
             filter,
             keys,
-            having: self.having.copy()?,
+            having,
         })
     }
 }

@@ -22,6 +22,7 @@ use Rattle.mesh_base.specs.declared.expressions.When.{When, roll-When, map-When}
 use Rattle.mesh_base.specs.contracts.expressions.AggKind as the_aggs
 use Rattle.mesh_base.specs.contracts.expressions.AggKindPartialEq.TheImpl as aggs
 use Rattle.mesh_base.specs.contracts.expressions.ExprEq.TheImpl.Laws as equivalence
+use Rattle.mesh_base.specs.contracts.expressions.ExprPartialEq.TheImpl as wholes
 use Rattle.mesh_base.specs.contracts.expressions.ExprPartialEq.TheImpl.Laws as one_step
 use Rattle.mesh_base.specs.contracts.expressions.Func as the_funcs
 use Rattle.mesh_base.specs.contracts.expressions.FuncPartialEq.TheImpl as funcs
@@ -29,9 +30,12 @@ use Rattle.mesh_base.specs.contracts.expressions.Op as the_ops
 use Rattle.mesh_base.specs.contracts.expressions.OpPartialEq.TheImpl as ops
 use Rattle.mesh_base.specs.contracts.expressions.Var as the_vars
 use Rattle.mesh_base.specs.contracts.expressions.VarPartialEq.TheImpl as vars
+use Rattle.mesh_base.specs.contracts.expressions.WhenEq.TheImpl.Laws as when_equivalence
 use Rattle.mesh_base.specs.contracts.expressions.WhenPartialEq.TheImpl as whens
 use Rattle.mesh_base.specs.contracts.expressions.WhenPartialEq.TheImpl.Laws as when_step
-use Rattle.mesh_meaning.specs.Ev.{same_expr}
+
+abbrev same_expr : Expr → Expr → Bool
+same_expr = wholes.eq-value.it
 
 abbrev same_when : When → When → Bool
 same_when = whens.eq-value.it
@@ -218,3 +222,14 @@ equivalent = equivalence.laws-law
 
 pub is_equality : (a b : Expr) → (same_expr a b ≡ true) ↔ (a ≡ b)
 is_equality a b = (exact a b, λ e. ap (same_expr a) (sym e) ∙ equivalent.refl a)
+
+exact_when : (w v : When) → same_when w v ≡ true → w ≡ v
+exact_when w v h =
+    let b = and_parts (same_expr w.test v.test) (same_expr w.value v.value) (sym (of_when w v) ∙ h) in
+    λ i. record { test = exact w.test v.test b.0 i; value = exact w.value v.value b.1 i }
+
+equivalent_whens : IsEquivalence same_when
+equivalent_whens = when_equivalence.laws-law
+
+pub is_equality_of_whens : (w v : When) → (same_when w v ≡ true) ↔ (w ≡ v)
+is_equality_of_whens w v = (exact_when w v, λ e. ap (same_when w) (sym e) ∙ equivalent_whens.refl w)
