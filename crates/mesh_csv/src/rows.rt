@@ -55,9 +55,9 @@ pub(crate) fn records_fault(
 {
     for i in 0..records.len() {
         let record = &records[i];
-        let fault = record_fault(alloc, i as u64 + 2, kinds, record)?;
-        if fault.is_some() {
-            return Ok(fault);
+        match record_fault(alloc, i as u64 + 2, kinds, record)? {
+            Some(fault) => return Ok(Some(fault)),
+            None => {}
         }
     }
     Ok(None)
