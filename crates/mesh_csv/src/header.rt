@@ -3,6 +3,7 @@ ghost use Rattle.std.specs.Prelude.{◌≡◌, ◌+◌, ◌++◌, ◌∷◌, [],
 ghost use Rattle.mesh_values.specs.Picked.{same_text};
 ghost use Rattle.mesh_csv.specs.Headers.{bad_row, long_name, many_columns, lowered, is_among, name_fault, names_fault, header_fault, header_names};
 
+use crate::lists::push_made;
 use crate::records::Record;
 use mesh_casts::lower_case;
 use mesh_list::{Duplicate, Memory, Seq};
@@ -114,7 +115,7 @@ pub fn header_names(alloc: Global, header: &Record) -> Result<Strs, Memory>
 {
     let mut names: Strs = Seq::new(alloc);
     for i in 0..header.len() {
-        names.push(lower_case(alloc, header.field(i))?)?;
+        push_made(&mut names, lower_case(alloc, header.field(i)))?;
     }
     Ok(names)
 }

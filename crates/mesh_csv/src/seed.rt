@@ -6,6 +6,7 @@ ghost use Rattle.mesh_tokens.specs.Gives.{Gives};
 ghost use Rattle.mesh_csv.specs.Seeds.{declared, declared_kind, are_declared, shape_fault, kinds_found, kinds_declared, kinds, column, columns_of, unless, records_fault, seed_rows, seed_under, seed_of, seed_text};
 
 use crate::header::{bad_row, header_fault, header_names};
+use crate::lists::push_made;
 use crate::records::{Record, records_of};
 use crate::rows::{records_fault, rows_of};
 use crate::types::kind_found;
@@ -68,7 +69,7 @@ fn kinds_found(alloc: Global, names: &[Str], records: &[Record]) -> Result<Kinds
 {
     let mut kinds: Kinds = Seq::new(alloc);
     for i in 0..names.len() {
-        kinds.push(kind_found(alloc, i, records)?)?;
+        push_made(&mut kinds, kind_found(alloc, i, records))?;
     }
     Ok(kinds)
 }
@@ -115,7 +116,7 @@ fn columns_of(alloc: Global, names: &[Str], kinds: &Kinds) -> Result<Columns, Me
         let Some(kind) = kinds.get(i) else {
             return Ok(columns);
         };
-        columns.push(column(name, *kind)?)?;
+        push_made(&mut columns, column(name, *kind))?;
     }
     Ok(columns)
 }
