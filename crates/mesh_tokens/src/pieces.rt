@@ -52,8 +52,9 @@ fn no_token(at: usize) -> ReadFault
 
 #[tactic(auto, unfolding(crate::specs::Pieces::word_at))]
 fn word_at(alloc: Global, at: usize, bytes: &[u8]) -> Result<Piece, ReadFault>
+    requires { 1 ≤ word_len bytes.now }
     ensures gives { Gives result (word_at at bytes.now) }
-    ensures within { IfOk result (λ piece. (piece.1 ≡ word_len bytes.now) × (piece.1 ≤ length bytes.now)) }
+    ensures within { IfOk result (λ piece. (1 ≤ piece.1) × (piece.1 ≤ length bytes.now)) }
 {
     let end = word_len(bytes);
     if end as u64 > LONGEST_NAME {
@@ -83,8 +84,9 @@ fn decimal(digits: &[u8]) -> Option<u64>
 
 #[tactic(auto, unfolding(crate::specs::Pieces::number_at))]
 fn number_at(alloc: Global, at: usize, bytes: &[u8]) -> Result<Piece, ReadFault>
+    requires { 1 ≤ digits_len bytes.now }
     ensures gives { Gives result (number_at at bytes.now) }
-    ensures within { IfOk result (λ piece. (piece.1 ≡ digits_len bytes.now) × (piece.1 ≤ length bytes.now)) }
+    ensures within { IfOk result (λ piece. (1 ≤ piece.1) × (piece.1 ≤ length bytes.now)) }
 {
     let end = digits_len(bytes);
     match decimal(&bytes[..end]) {
