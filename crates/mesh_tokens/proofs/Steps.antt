@@ -63,7 +63,7 @@ stops front at [] e some is = absurd (omega arith)
 stops front at (b ∷ bs) e some is = rw is refl
 
 -- an identifier has its first byte
-word_begins : (b : ℕ) → begins_word b ≡ true → is_name_byte b ≡ true
+pub word_begins : (b : ℕ) → begins_word b ≡ true → is_name_byte b ≡ true
 word_begins b h = by_letter (is_letter b) (nat_le 48 b && nat_le b 57) (b == 95) h
   where
     by_letter : (l d u : Bool) → (l || u) ≡ true → ((l || d) || u) ≡ true
