@@ -7,6 +7,7 @@
 mod fields;
 mod header;
 mod laws;
+mod lists;
 mod records;
 mod rows;
 mod seed;
