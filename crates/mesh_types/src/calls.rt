@@ -3,12 +3,12 @@ ghost use Rattle.std.specs.Prelude.{◌≡◌, IfOk};
 ghost use Rattle.mesh_tokens.specs.Gives.{Gives};
 ghost use Rattle.mesh_types.specs.Forms.{call, unary, alternatives, aggregate, only, counted, summed, extreme, called, starred, distinct};
 
-use crate::faults::{mismatch, unwritten};
+use crate::faults::unwritten;
 use crate::kinds::{are_one_kind, first_kind, may_be};
 use crate::lists::{all_marks, exprs_of, kinds_of};
-use crate::typed::{Typed, Typeds, with_parts};
+use crate::typed::{Typed, Typeds, judged, with_parts};
 use mesh_base::{AggKind, Expr, Func};
-use mesh_list::{Memory, Seq};
+use mesh_list::{Memory, Seq, together};
 use mesh_surface::Function;
 use mesh_tokens::ReadFault;
 use mesh_values::ColType;
@@ -23,8 +23,7 @@ fn call(
 ) -> Result<Typed, Memory>
     ensures { IfOk result (λ made. made ≡ call at kind func ts) }
 {
-    let marks = all_marks(&ts)?;
-    let args = exprs_of(ts)?;
+    let (marks, args) = together(all_marks(&ts), exprs_of(ts))?;
     with_parts(alloc, at, kind, Expr::Call { func, args }, marks)
 }
 
@@ -42,22 +41,15 @@ fn unary(
         [t] => t.kind,
         _ => return Err(unwritten(at)),
     };
-    if may_be(from, kind) {
-        Ok(call(alloc, at, Some(to), func, ts)?)
-    } else {
-        Err(mismatch(at))
-    }
+    judged(may_be(from, kind), at, call(alloc, at, Some(to), func, ts))
 }
 
 fn alternatives(alloc: Global, at: u64, func: Func, ts: Typeds) -> Result<Typed, ReadFault>
     ensures { Gives result (alternatives at func ts) }
 {
     let kinds = kinds_of(&ts)?;
-    if are_one_kind(kinds.as_slice()) {
-        Ok(call(alloc, at, first_kind(kinds.as_slice()), func, ts)?)
-    } else {
-        Err(mismatch(at))
-    }
+    let made = call(alloc, at, first_kind(kinds.as_slice()), func, ts);
+    judged(are_one_kind(kinds.as_slice()), at, made)
 }
 
 fn aggregate(
@@ -87,11 +79,12 @@ fn counted(alloc: Global, at: u64, kind: AggKind, t: Typed) -> Result<Typed, Rea
 fn summed(alloc: Global, at: u64, t: Typed) -> Result<Typed, ReadFault>
     ensures { Gives result (summed at t) }
 {
-    if may_be(ColType::Int, t.kind) {
-        Ok(aggregate(alloc, at, AggKind::Sum, Some(ColType::Int), t)?)
-    } else {
-        Err(mismatch(at))
-    }
+    let fits = may_be(ColType::Int, t.kind);
+    judged(
+        fits,
+        at,
+        aggregate(alloc, at, AggKind::Sum, Some(ColType::Int), t),
+    )
 }
 
 fn extreme(alloc: Global, at: u64, kind: AggKind, t: Typed) -> Result<Typed, ReadFault>

@@ -11,9 +11,9 @@ use crate::forms::compared;
 use crate::kinds::{are_one_kind, first_kind, may_be};
 use crate::lists::with_marks;
 use crate::sizes::is_small;
-use crate::typed::{Arms, Typed, copied, leaf, with_parts};
+use crate::typed::{Arms, Typed, copied, judged, leaf, with_made};
 use mesh_base::{Expr, Op, When, Whens};
-use mesh_list::{Memory, Seq};
+use mesh_list::{Memory, Seq, together};
 use mesh_tokens::ReadFault;
 use mesh_values::{Cell, ColType};
 use std::alloc::Global;
@@ -106,20 +106,22 @@ fn choice(
         marks,
         ..
     } = otherwise;
-    let marks = with_marks(marks_of(&arms)?, &marks)?;
-    let whens = whens(arms)?;
-    with_parts(alloc, at, kind, Expr::Case { whens, otherwise }, marks)
+    let (first, whens) = together(marks_of(&arms), whens(arms))?;
+    with_made(
+        alloc,
+        at,
+        kind,
+        Expr::Case { whens, otherwise },
+        with_marks(first, &marks),
+    )
 }
 
 fn case_of(alloc: Global, at: u64, otherwise: Typed, arms: Arms) -> Result<Typed, ReadFault>
     ensures { Gives result (case_of at otherwise arms) }
 {
     let kinds = kinds_of(&arms, otherwise.kind)?;
-    if are_one_kind(kinds.as_slice()) {
-        Ok(choice(alloc, at, first_kind(kinds.as_slice()), arms, otherwise)?)
-    } else {
-        Err(mismatch(at))
-    }
+    let made = choice(alloc, at, first_kind(kinds.as_slice()), arms, otherwise);
+    judged(are_one_kind(kinds.as_slice()), at, made)
 }
 
 fn else_or_null(alloc: Global, at: u64, otherwise: Option<Typed>) -> Result<Typed, Memory>
