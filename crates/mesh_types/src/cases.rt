@@ -6,7 +6,6 @@ ghost use Rattle.mesh_tokens.specs.Walk.{all_of};
 ghost use Rattle.mesh_types.specs.Forms.{test, arm, when, arm_marks, arm_kind, else_or_null, choice, case_of, cased};
 ghost use Rattle.mesh_types.specs.Sizes.{IsSmall};
 
-use crate::faults::mismatch;
 use crate::forms::compared;
 use crate::kinds::{are_one_kind, first_kind, may_be};
 use crate::lists::with_marks;
@@ -23,11 +22,8 @@ fn test(alloc: Global, at: u64, operand: &Option<Typed>, t: Typed) -> Result<Typ
 {
     match operand {
         None => {
-            if may_be(ColType::Bool, t.kind) {
-                Ok(t)
-            } else {
-                Err(mismatch(at))
-            }
+            let fits = may_be(ColType::Bool, t.kind);
+            judged(fits, at, Ok(t))
         }
         Some(operand) => compared(alloc, Op::Eq, at, copied(operand)?, t),
     }
@@ -55,6 +51,13 @@ fn tested(alloc: Global, at: u64, operand: &Option<Typed>, arms: Arms) -> Result
         made.push(arm(alloc, at, operand, a)?)?;
     }
     Ok(made)
+}
+
+// The operand is dropped once each WHEN has its copy.
+fn tested_by(alloc: Global, at: u64, operand: Option<Typed>, arms: Arms) -> Result<Arms, ReadFault>
+    ensures { Gives result (all_of (map (arm at operand) arms)) }
+{
+    tested(alloc, at, &operand, arms)
 }
 
 fn kinds_of(arms: &Arms, otherwise: Option<ColType>) -> Result<Seq<Option<ColType>>, Memory>
@@ -144,8 +147,8 @@ fn written_out(
     requires { IsSmall operand arms otherwise }
     ensures { Gives result (cased at operand arms otherwise) }
 {
-    let arms = tested(alloc, at, &operand, arms)?;
     let otherwise = else_or_null(alloc, at, otherwise)?;
+    let arms = tested_by(alloc, at, operand, arms)?;
     case_of(alloc, at, otherwise, arms)
 }
 
