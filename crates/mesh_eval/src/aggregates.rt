@@ -106,6 +106,7 @@ fn smallest(cells: &Row) -> Result<Cell, Memory>
     let mut best = Cell::Null;
     for c in cells.as_slice() {
         if is_null(&best) || !is_null(c) && cell_cmp(c, &best).is_lt() {
+            drop(best);
             best = c.copy()?;
         }
     }
@@ -118,6 +119,7 @@ fn largest(cells: &Row) -> Result<Cell, Memory>
     let mut best = Cell::Null;
     for c in cells.as_slice() {
         if cell_cmp(&best, c).is_lt() {
+            drop(best);
             best = c.copy()?;
         }
     }
