@@ -18,7 +18,7 @@ use mesh_base::{Env, Ref, Snapshot};
 use mesh_book::Book;
 use mesh_house::{Change, Changes};
 use mesh_layer::view_in;
-use mesh_list::{Duplicate, Memory, Register, Seq, Sorted};
+use mesh_list::{Duplicate, Memory, Register, Seq, Sorted, push_made};
 use mesh_values::{Name, Str};
 use std::alloc::Global;
 
@@ -29,14 +29,6 @@ pub(crate) struct Sweep {
     pub environments: u64,
     pub objects: u64,
     pub snapshots: u64,
-}
-
-/// Puts the change of an answer at the end, where it has one.
-fn push_made(changes: &mut Changes, change: Result<Change, Memory>) -> Result<(), Memory>
-    ensures { OnOk result ((made : Change) × (change ≡ Ok made) × (changes.new ≡ changes.old ++ made ∷ [])) }
-{
-    let made = change?;
-    changes.push(made)
 }
 
 fn emptied(alloc: Global, env: &Env) -> Result<Change, Memory>
