@@ -81,7 +81,13 @@ fn push_points(
     Ok(())
 }
 
-fn push_drops(alloc: Global, changes: &mut Changes, env: &Str, names: &[Name]) -> Result<(), Memory>
+/// The changes that take the views of these models out of an environment.
+pub fn push_drops(
+    alloc: Global,
+    changes: &mut Changes,
+    env: &Str,
+    names: &[Name],
+) -> Result<(), Memory>
     ensures { OnOk result (changes.new ≡ changes.old ++ map (drops env.now) names.now) }
 {
     for name in names {
