@@ -1,5 +1,5 @@
 // Why a command isn't done, as it is told.
-ghost use Rattle.std.specs.Prelude.{◌≡◌, ◌⊎◌, IfOk};
+ghost use Rattle.std.specs.Prelude.{◌≡◌, ◌⊎◌};
 ghost use Rattle.mesh_fault_text.specs.Lines.{name_text};
 ghost use Rattle.mesh_printed.specs.declared.refusals.Refusal.TheVariants.{Memory as NoMemory, Model as Fault};
 ghost use Rattle.mesh_versions.specs.declared.faults.PlanFault.TheVariants as why;
@@ -7,22 +7,13 @@ ghost use Rattle.mesh_applying.specs.Applying.{of_exec};
 ghost use Rattle.mesh_applying.specs.Planning.{of_plan};
 
 use mesh_exec::ExecFault;
-use mesh_fault_text::put_name;
-use mesh_list::{Duplicate, Memory, Seq};
+use mesh_fault_text::name_text;
+use mesh_list::Duplicate;
 use mesh_printed::Refusal;
 use mesh_tokens::FaultKind;
 use mesh_values::{Name, Str};
 use mesh_versions::PlanFault;
 use std::alloc::Global;
-
-/// A name as it is printed.
-pub(crate) fn name_text(alloc: Global, name: &Name) -> Result<Str, Memory>
-    ensures { IfOk result (λ text. text ≡ name_text name.now) }
-{
-    let mut out = Vec::new(alloc);
-    put_name(&mut out, name)?;
-    Ok(Seq::from_vec(out))
-}
 
 /// A fault of a model, which has its name in the place of a file's.
 pub(crate) fn of_model(alloc: Global, name: &Name, kind: FaultKind) -> Refusal

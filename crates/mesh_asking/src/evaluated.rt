@@ -23,7 +23,7 @@ use mesh_book::Book;
 use mesh_columns::columns_of;
 use mesh_eval::exact_rows;
 use mesh_exec::{Breach, kind_of, model_breach};
-use mesh_fault_text::put_name;
+use mesh_fault_text::name_text;
 use mesh_house::Warehouse;
 use mesh_layer::{ShowFault, source_tables, view_tables};
 use mesh_list::{Duplicate, Memory, Seq};
@@ -63,14 +63,6 @@ fn snapshot_of<'a>(b: &'a Book, list: &[Ref], name: &Name) -> Option<&'a Snapsho
         None => None,
         Some(r) => b.snapshots.find(r),
     }
-}
-
-fn name_text(alloc: Global, name: &Name) -> Result<Str, Memory>
-    ensures { IfOk result (λ text. text ≡ name_text name.now) }
-{
-    let mut out = Vec::new(alloc);
-    put_name(&mut out, name)?;
-    Ok(Seq::from_vec(out))
 }
 
 fn no_model(alloc: Global, name: &Name) -> Result<Refusal, Memory>

@@ -1,26 +1,36 @@
-//! What `bench/time.py`, `bench/house.py` and `bench/canon.py` measure. The words are numbers: of holes in recorded
-//! ranges, of moments, of tables (below 10,000) and of changes. The program records 19 of each 20 hours and counts the
+//! What `bench/time.py`, `bench/house.py`, `bench/canon.py` and `bench/text.py` measure. The words are numbers: of holes in
+//! recorded ranges, of moments, of tables (below 10,000) and of changes. The program records 19 of each 20 hours and counts the
 //! units of the schedule that are missing, then adds up the last ticks of ten crons at that many moments from 1970 to
 //! 9999, then makes that many tables with their views and versions in a warehouse in memory and records hours of them by
-//! that many changes. It prints the count, the sum and the number of spans recorded. Or the words are `write` or `read`, a
+//! that many changes. It prints the count, the sum and the number of spans recorded; where two more numbers are given, of
+//! bytes and of times, it reads the tokens of a query of at most so many bytes so often, and prints the bytes.
+//!
+//! Or the words are `write` or `read`, a
 //! number of rows and a number of times: it writes, or reads, the canonical text of a seed of these rows so often, and
 //! prints the bytes of the text. Or they are `deep` and a number: it reads, copies, writes and drops expressions that nest
 //! so deep, one for each kind of node, and prints the bytes of their texts. Or they are `forget`, a number of hours and how
 //! far apart they are: it forgets so many of one version, and prints how many spans are left. Or `migrate`, a number of
 //! snapshots, of models and of times: it gives them other fingerprints so often, and prints how many stand in front of one
-//! that is above them.
+//! that is above them. Or `tokens`, `parse` or `names`, a number of bytes and a number of times: it scans a query of at most so
+//! many bytes so often, or reads its tokens, or finds the names and types of another query. Or `seed`, a number of rows and a
+//! number of times: it reads a seed of these rows so often, and with its columns declared where the word is `columns`. It
+//! prints the bytes of the text.
 #![tactic(auto)]
 
 mod canon;
 mod house;
 mod moves;
+mod resolved;
+mod text;
+mod words;
 
 use crate::house::recorded as recorded_by_changes;
-use mesh_args::{letter_at, number_at};
+use crate::words::{letter_at, number_at};
 use mesh_canon::CanonFault;
 use mesh_house::WhFail;
 use mesh_list::Memory;
 use mesh_time::{END_OF_SECONDS, Ranges, floor, read_cron};
+use mesh_tokens::ReadFault;
 use mesh_values::{Schedule, Unit};
 use std::alloc::Global;
 use std::env::Env;
@@ -137,13 +147,30 @@ fn timed_move(rt: HostRuntime) -> ExitCode {
     }
 }
 
-fn main(rt: HostRuntime) -> ExitCode {
-    if begins_with(&rt, b'f') || begins_with(&rt, b'm') {
-        return timed_move(rt);
+/// The bytes of a query or of a seed that is read so often; the letter says how.
+fn read_bytes(alloc: Global, what: u8, size: u32, times: u32) -> Result<usize, ReadFault> {
+    match what {
+        b't' => text::scanned(alloc, size, times),
+        b'p' => text::parsed(alloc, size, times),
+        b'n' => resolved::resolved(alloc, size, times),
+        b'c' => text::seeds(alloc, size, times, true),
+        _ => text::seeds(alloc, size, times, false),
     }
-    if begins_with(&rt, b'w') || begins_with(&rt, b'r') || begins_with(&rt, b'd') {
-        return timed_text(rt);
+}
+
+/// What the words `tokens`, `parse`, `names`, `seed` and `columns` ask for.
+fn timed_reading(rt: HostRuntime, what: u8, size: u32, times: u32) -> ExitCode {
+    let Ok(bytes) = read_bytes(rt.alloc(), what, size, times) else {
+        return ExitCode::from(4);
+    };
+    match println!(rt; "{bytes} bytes") {
+        Ok(()) => ExitCode::from(0),
+        Err(_) => ExitCode::from(6),
     }
+}
+
+/// What numbers ask for.
+fn timed_numbers(rt: HostRuntime) -> ExitCode {
     let holes = number_at(&rt, 1);
     let moments = number_at(&rt, 2);
     let Ok(count) = missing(rt.alloc(), holes) else {
@@ -155,8 +182,27 @@ fn main(rt: HostRuntime) -> ExitCode {
     let Ok(spans) = recorded_by_changes(rt.alloc(), tables, changes) else {
         return ExitCode::from(4);
     };
-    match println!(rt; "{count} missing, sum {sum}, {spans} spans") {
-        Ok(()) => ExitCode::from(0),
-        Err(_) => ExitCode::from(6),
+    if println!(rt; "{count} missing, sum {sum}, {spans} spans").is_err() {
+        return ExitCode::from(6);
+    }
+    let size = number_at(&rt, 5);
+    let times = number_at(&rt, 6);
+    if size == 0 {
+        return ExitCode::from(0);
+    }
+    timed_reading(rt, b'p', size, times)
+}
+
+fn main(rt: HostRuntime) -> ExitCode {
+    let what = letter_at(&rt, 1);
+    match what {
+        b'f' | b'm' => timed_move(rt),
+        b'w' | b'r' | b'd' => timed_text(rt),
+        b't' | b'p' | b'n' | b's' | b'c' => {
+            let size = number_at(&rt, 2);
+            let times = number_at(&rt, 3);
+            timed_reading(rt, what, size, times)
+        }
+        _ => timed_numbers(rt),
     }
 }

@@ -7,66 +7,17 @@ ghost use Rattle.mesh_rules.specs.Proper.{defn_names, from_names, is_among, name
 ghost use Rattle.mesh_base.specs.Keys.{ref_name};
 ghost use Rattle.mesh_book.specs.Named.{are_known, are_named, are_parents, is_known, is_parent};
 
-use mesh_base::{Decl, Defn, FromItem, Own, Ref, Rel, Select, Selects};
+use mesh_base::{Defn, FromItem, Own, Ref, Rel, Select, Selects};
+use mesh_rules::{is_declared, is_named};
 use mesh_values::Name;
-
-fn rel_is(rel: &Rel, name: &Name) -> bool
-    ensures { result ≡ is_among (rel_names rel.now) name.now }
-{
-    match rel {
-        Rel::Named(other) => other.compare(name).is_eq(),
-        Rel::Cte(_) => false,
-    }
-}
-
-fn from_has(from: &[FromItem], name: &Name) -> bool
-    ensures { result ≡ is_among (from_names from.now) name.now }
-{
-    let mut found = false;
-    for f in from {
-        found = found || rel_is(&f.rel, name);
-    }
-    found
-}
-
-fn selects_have(selects: &[Select], name: &Name) -> bool
-    ensures { result ≡ is_among (selects_names selects.now) name.now }
-{
-    let mut found = false;
-    for select in selects {
-        found = found || from_has(select.from.as_slice(), name);
-    }
-    found
-}
-
-fn ctes_have(ctes: &[Selects], name: &Name) -> bool
-    ensures { result ≡ is_among (names_of_all ctes.now) name.now }
-{
-    let mut found = false;
-    for selects in ctes {
-        found = found || selects_have(selects.as_slice(), name);
-    }
-    found
-}
 
 fn defn_has(defn: &Defn, name: &Name) -> bool
     ensures { result ≡ is_among (defn_names defn.now) name.now }
 {
     match defn {
         Defn::Seed { .. } => false,
-        Defn::Sql(query) => ctes_have(query.ctes.as_slice(), name)
-            || selects_have(query.selects.as_slice(), name),
+        Defn::Sql(query) => is_named(query, name),
     }
-}
-
-fn is_declared(sources: &[Decl], name: &Name) -> bool
-    ensures { result ≡ is_declared sources.now name.now }
-{
-    let mut found = false;
-    for source in sources {
-        found = found || source.name.compare(name).is_eq();
-    }
-    found
 }
 
 fn is_parent(parents: &[Ref], name: &Name) -> bool

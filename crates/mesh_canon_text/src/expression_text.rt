@@ -1,5 +1,5 @@
 // Expressions, written. The functions call one another, as the types lead to one another.
-ghost use Rattle.std.specs.Prelude.{◌≡◌, ◌++◌, map, OnOk};
+ghost use Rattle.std.specs.Prelude.{◌≡◌, ◌++◌, codes, map, OnOk};
 ghost use Rattle.mesh_base.specs.declared.expressions.Expr.TheOpen.{Col, Macro};
 ghost use Rattle.mesh_canon_text.specs.Text.{agg_word, expr_here, expr_text, func_word, gap, list_of, macro_word, op_word, option_text, when_text};
 
@@ -76,6 +76,14 @@ fn gap(place: usize) -> &'static [u8]
     if place == 0 { b"" } else { b" " }
 }
 
+// These bytes, and those behind them.
+fn put_pair(out: &mut Vec<u8>, first: &[u8], second: &[u8]) -> Result<(), Memory>
+    ensures { OnOk result (out.new.items ≡ out.old.items ++ (first.now ++ second.now)) }
+{
+    put(out, first)?;
+    put(out, second)
+}
+
 #[tactic(auto, unfolding(crate::specs::Text::expr_here))]
 fn put_col(out: &mut Vec<u8>, item: u32, name: &Str) -> Result<(), Memory>
     ensures { OnOk result (out.new.items ≡ out.old.items ++ expr_here (Col item name.now)) }
@@ -91,8 +99,7 @@ fn put_col(out: &mut Vec<u8>, item: u32, name: &Str) -> Result<(), Memory>
 fn put_macro(out: &mut Vec<u8>, var: Var) -> Result<(), Memory>
     ensures { OnOk result (out.new.items ≡ out.old.items ++ expr_here (Macro var)) }
 {
-    put(out, b"(var ")?;
-    put(out, macro_word(var))?;
+    put_pair(out, b"(var ", macro_word(var))?;
     put(out, b")")
 }
 
@@ -107,74 +114,76 @@ fn put_expr(out: &mut Vec<u8>, e: &Expr) -> Result<(), Memory>
         Expr::Macro(var) => put_macro(out, *var),
         Expr::CountAll => put(out, b"(count)"),
         Expr::Binary { op, left, right } => {
-            put(out, b"(")?;
-            put(out, op_word(*op))?;
-            put(out, b" ")?;
-            put_expr(out, left.get())?;
-            put(out, b" ")?;
-            put_expr(out, right.get())?;
-            put(out, b")")
+            put_pair(out, b"(", op_word(*op))?;
+            put_behind(out, b" ", left.get())?;
+            put_last(out, b" ", right.get())
         }
-        Expr::Neg(value) => {
-            put(out, b"(neg ")?;
-            put_expr(out, value.get())?;
-            put(out, b")")
-        }
-        Expr::Not(value) => {
-            put(out, b"(not ")?;
-            put_expr(out, value.get())?;
-            put(out, b")")
-        }
-        Expr::IsNull(value) => {
-            put(out, b"(isnull ")?;
-            put_expr(out, value.get())?;
-            put(out, b")")
-        }
+        Expr::Neg(value) => put_last(out, b"(neg ", value.get()),
+        Expr::Not(value) => put_last(out, b"(not ", value.get()),
+        Expr::IsNull(value) => put_last(out, b"(isnull ", value.get()),
         Expr::Between { value, low, high } => {
-            put(out, b"(between ")?;
-            put_expr(out, value.get())?;
-            put(out, b" ")?;
-            put_expr(out, low.get())?;
-            put(out, b" ")?;
-            put_expr(out, high.get())?;
-            put(out, b")")
+            put_behind(out, b"(between ", value.get())?;
+            put_behind(out, b" ", low.get())?;
+            put_last(out, b" ", high.get())
         }
         Expr::OneOf { value, of } => {
-            put(out, b"(in ")?;
-            put_expr(out, value.get())?;
-            put(out, b" ")?;
-            put_exprs(out, of.as_slice())?;
-            put(out, b")")
+            put_behind(out, b"(in ", value.get())?;
+            put_last_list(out, of.as_slice())
         }
         Expr::Cast { to, value } => {
-            put(out, b"(cast ")?;
-            put(out, type_word(*to))?;
-            put(out, b" ")?;
-            put_expr(out, value.get())?;
-            put(out, b")")
+            put_pair(out, b"(cast ", type_word(*to))?;
+            put_last(out, b" ", value.get())
         }
         Expr::Call { func, args } => {
-            put(out, b"(call ")?;
-            put(out, func_word(*func))?;
-            put(out, b" ")?;
-            put_exprs(out, args.as_slice())?;
-            put(out, b")")
+            put_pair(out, b"(call ", func_word(*func))?;
+            put_last_list(out, args.as_slice())
         }
         Expr::Case { whens, otherwise } => {
-            put(out, b"(case ")?;
-            put_whens(out, whens.as_slice())?;
-            put(out, b" ")?;
-            put_expr(out, otherwise.get())?;
-            put(out, b")")
+            put_case(out, whens.as_slice())?;
+            put_last(out, b" ", otherwise.get())
         }
         Expr::Agg { kind, value } => {
-            put(out, b"(agg ")?;
-            put(out, agg_word(*kind))?;
-            put(out, b" ")?;
-            put_expr(out, value.get())?;
-            put(out, b")")
+            put_pair(out, b"(agg ", agg_word(*kind))?;
+            put_last(out, b" ", value.get())
         }
     }
+}
+
+// An expression behind these bytes.
+#[cycle(put)]
+fn put_behind(out: &mut Vec<u8>, before: &[u8], e: &Expr) -> Result<(), Memory>
+    ensures { OnOk result (out.new.items ≡ out.old.items ++ (before.now ++ expr_text e.now)) }
+{
+    put(out, before)?;
+    put_expr(out, e)
+}
+
+// The last part of a node, behind these bytes.
+#[cycle(put)]
+fn put_last(out: &mut Vec<u8>, before: &[u8], e: &Expr) -> Result<(), Memory>
+    ensures { OnOk result (out.new.items ≡ out.old.items ++ (before.now ++ (expr_text e.now ++ codes ")"))) }
+{
+    put_behind(out, before, e)?;
+    put(out, b")")
+}
+
+// A list as the last part of a node.
+#[cycle(put)]
+fn put_last_list(out: &mut Vec<u8>, all: &[Expr]) -> Result<(), Memory>
+    ensures { OnOk result (out.new.items ≡ out.old.items ++ (codes " " ++ (list_of (λ t. t) (map expr_text all.now) ++ codes ")"))) }
+{
+    put(out, b" ")?;
+    put_exprs(out, all)?;
+    put(out, b")")
+}
+
+// The first part of a CASE.
+#[cycle(put)]
+fn put_case(out: &mut Vec<u8>, all: &[When]) -> Result<(), Memory>
+    ensures { OnOk result (out.new.items ≡ out.old.items ++ (codes "(case " ++ list_of (λ t. t) (map when_text all.now))) }
+{
+    put(out, b"(case ")?;
+    put_whens(out, all)
 }
 
 #[cycle(put)]
@@ -184,8 +193,7 @@ fn put_exprs(out: &mut Vec<u8>, all: &[Expr]) -> Result<(), Memory>
 {
     put(out, b"[")?;
     for (i, e) in all.iter().enumerate() {
-        put(out, gap(i))?;
-        put_expr(out, e)?;
+        put_behind(out, gap(i), e)?;
     }
     put(out, b"]")
 }
@@ -208,11 +216,8 @@ fn put_whens(out: &mut Vec<u8>, all: &[When]) -> Result<(), Memory>
 fn put_when(out: &mut Vec<u8>, w: &When) -> Result<(), Memory>
     ensures { OnOk result (out.new.items ≡ out.old.items ++ when_text w.now) }
 {
-    put(out, b"(when ")?;
-    put_expr(out, &w.test)?;
-    put(out, b" ")?;
-    put_expr(out, &w.value)?;
-    put(out, b")")
+    put_behind(out, b"(when ", &w.test)?;
+    put_last(out, b" ", &w.value)
 }
 
 impl Written for Expr {

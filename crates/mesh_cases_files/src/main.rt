@@ -1,7 +1,26 @@
-//! Seeds, declarations of sources, and what lies outside, as data. Each line of a file of `data/` is one call, and is
+//! Values and files, and what lies outside, as data. Each line of a file of `data/` is one call, and is
 //! printed with what the call answered; the crate's `stdout` has the answers, which were worked out by hand. A line is a
 //! word and what the word takes, where `\n`, `\r`, `\t`, `\\` and `\xHH` are escapes, and `{N TEXT}` is TEXT N times, a `#`
-//! in it the number of the copy:
+//! in it the number of the copy.
+//!
+//! Days, moments, crons, ranges of seconds, casts, canonical texts and fingerprints (`stage.rt`):
+//! - `day TEXT` and `moment TEXT` read a day or a moment, and `day-text N` and `moment-text N` write one;
+//! - `value CELL` is the moment of a cell, which is `NULL`, a number, a text in single quotes, `day N`, `true` or `false`;
+//! - `cron TEXT` reads a cron, and answers its sets as numbers of bits, a star behind that of a field `*`, and its unit;
+//! - `floor CRON | N` is the last tick of a cron up to a moment, and `tick` follows where the moment is one;
+//! - `number TEXT`, `truth TEXT` and `lower TEXT` read a number or a truth, and write a text in lower case;
+//! - `cast TYPE CELL` is the cell as another type: `int`, `text`, `date` or `bool`;
+//! - `ranges` begins with no second; `add A B` and `forget A B` change the ranges, and answer their spans; `holds A B` and
+//!   `missing A B UNIT` ask them; `copy` answers the spans of a copy, and whether it is the same as the ranges;
+//! - `around FRONT | BACK` has texts stand between the two from then on; `own TEXT` reads a definition and writes it again;
+//!   `near TEXT` does so too, and then reads each text that has one byte dropped, changed or added; `former TEXT` reads and
+//!   writes the former text of a definition, and `renewed TEXT` is the text that it has now; `list TEXT`, `cell TEXT` and
+//!   `type TEXT` read and write a list, a cell and the type of a column;
+//! - `orphan` begins with no parents, `parent SCHEMA MODEL BYTES` adds one with a fingerprint, and `node TEXT` is the text of
+//!   a definition with its parents;
+//! - `digest TEXT` is the fingerprint of a text in hexadecimal digits.
+//!
+//! Seeds, declarations of sources, and what lies outside:
 //! - `columns NAME TYPE ..` declares the columns of the seeds from then on, and `front TEXT` stands in front of each file;
 //! - `seed TEXT` and `sources TEXT` read a file: a seed is its columns and its rows, sources are their columns, `(time)`
 //!   behind a time column. `seed-size TEXT` and `sources-size TEXT` count them. A fault is its record and its field, or
@@ -18,20 +37,33 @@
 
 mod answers;
 mod calls;
+mod canon;
+mod casts;
+mod crons;
+mod digests;
 mod host;
 mod memory;
+mod near;
+mod parts;
+mod ranges;
 mod seeds;
 mod sources;
+mod stage;
+mod times;
 
 use crate::host::Host;
 use crate::memory::Inside;
 use crate::seeds::Files;
+use crate::stage::Values;
 use mesh_cases::{Trouble, cases_of, file_of, filled, front_word, printed};
 use mesh_io::DirFolder;
 use std::alloc::Global;
 use std::process::ExitCode;
 
-/// The files of cases.
+/// The files of cases of values.
+const VALUES: [&[u8]; 5] = [b"times", b"casts", b"ranges", b"canon", b"digests"];
+
+/// The files of the other cases.
 const FILES: [&[u8]; 3] = [b"seeds", b"sources", b"outside"];
 
 /// What the lines act on.
@@ -67,7 +99,16 @@ impl Stage<'_> {
     }
 }
 
-/// Runs the cases of one file, and adds what is to be printed.
+/// Runs the cases of one file of values, and adds what is to be printed.
+fn run_values(alloc: Global, file: &[u8], report: &mut Vec<u8>) -> Result<(), Trouble> {
+    let mut values = Values::new(alloc);
+    for line in &cases_of(alloc, file)? {
+        values.line(line, report)?;
+    }
+    Ok(())
+}
+
+/// Runs the cases of one other file, and adds what is to be printed.
 fn run(rt: &HostRuntime, file: &[u8], report: &mut Vec<u8>) -> Result<(), Trouble> {
     let alloc = rt.alloc();
     let mut stage = Stage {
@@ -84,6 +125,10 @@ fn run(rt: &HostRuntime, file: &[u8], report: &mut Vec<u8>) -> Result<(), Troubl
 
 fn all_files(rt: &HostRuntime, report: &mut Vec<u8>) -> Result<(), Trouble> {
     let mut data = DirFolder::new(rt);
+    for name in VALUES {
+        let file = file_of(rt.alloc(), &mut data, name)?;
+        run_values(rt.alloc(), file.as_slice(), report)?;
+    }
     for name in FILES {
         let file = file_of(rt.alloc(), &mut data, name)?;
         run(rt, file.as_slice(), report)?;

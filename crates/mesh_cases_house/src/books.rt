@@ -1,13 +1,11 @@
-// Books by their lines, the breaches of a well-formed one, and the rules that books stand on.
+// Books by their lines, and the breaches of a well-formed one.
 use crate::changes::snapshot;
-use crate::line::{Line, Named, Owns, pair, parted};
+use crate::line::{Line, Named, Owns, parted};
 use crate::owns::{add_own, put_columns_of, put_sorted};
-use mesh_base::{Env, Indexes, Node, Nodes, Snapshot};
+use mesh_base::{Env, Snapshot};
 use mesh_book::{BOOK_VERSION, Book, Version, book_fault};
 use mesh_cases::{Trouble, cases_of};
-use mesh_columns::columns_of;
-use mesh_list::{Duplicate, Register, Same, Seq};
-use mesh_rules::{Parent, Project, is_well_formed};
+use mesh_list::{Duplicate, Register, Same};
 use mesh_time::Ranges;
 use std::alloc::Global;
 
@@ -114,66 +112,11 @@ fn put_unless(report: &mut Vec<u8>, copied: bool) -> Result<(), Trouble> {
     Ok(())
 }
 
-fn parent(named: &Line, owns: &[Named], at: usize) -> Result<Parent, Trouble> {
-    let own = named.own(owns, at)?;
-    Ok(Parent {
-        rank: 0,
-        name: own.name.copy()?,
-        columns: columns_of(own)?,
-    })
-}
-
-/// Whether a definition is well formed over the parents that are named behind it.
-fn is_fit(line: &Line, owns: &[Named]) -> Result<bool, Trouble> {
-    let mut parents = Vec::new(line.alloc());
-    for at in 2..line.len() {
-        parents.push(parent(line, owns, at)?)?;
-    }
-    Ok(is_well_formed(parents.as_slice(), line.own(owns, 1)?)?)
-}
-
-fn places(line: &Line) -> Result<Indexes, Trouble> {
-    let mut places = Seq::new(line.alloc());
-    for at in 3..line.len() {
-        places.push(line.rank(at)?)?;
-    }
-    Ok(places)
-}
-
-fn node(line: &Line, owns: &[Named]) -> Result<Node, Trouble> {
-    let (parents, rank) = pair(places(line), line.rank(2))?;
-    let own = line.own(owns, 1)?.copy()?;
-    Ok(Node {
-        own,
-        parents,
-        rank,
-        fingerprint: [7; 32],
-    })
-}
-
-fn put_project(alloc: Global, report: &mut Vec<u8>, nodes: Nodes) -> Result<(), Trouble> {
-    match Project::new(nodes)? {
-        Some(made) => put_made(alloc, report, &made),
-        None => Ok(report.extend_from_slice(b"none")?),
-    }
-}
-
-fn is_project_copied(made: &Project) -> Result<bool, Trouble> {
-    Ok(made.copy()?.same(made))
-}
-
-fn put_made(alloc: Global, report: &mut Vec<u8>, made: &Project) -> Result<(), Trouble> {
-    let text = format!(in alloc; "{} nodes", made.as_slice().len())?;
-    report.extend_from_slice(text.as_bytes())?;
-    put_unless(report, is_project_copied(made)?)
-}
-
-/// The lines of a good book, the same with those that are changed, and the nodes of a project.
+/// The lines of a good book, and the same with those that are changed.
 #[derive(Drop)]
 struct Stage<'a> {
     good: Vec<&'a [u8]>,
     now: Vec<&'a [u8]>,
-    nodes: Nodes,
     report: Vec<u8>,
 }
 
@@ -201,23 +144,10 @@ impl<'a> Stage<'a> {
         put_fault(alloc, &mut self.report, &book)
     }
 
-    fn project(&mut self, alloc: Global) -> Result<(), Trouble> {
-        let nodes = std::mem::replace(&mut self.nodes, Seq::new(alloc));
-        put_project(alloc, &mut self.report, nodes)
-    }
-
     /// A step that prints a line.
     fn shown(&mut self, line: &Line, owns: &[Named]) -> Result<(), Trouble> {
         if line.is(0, b"fault") {
             self.fault(line.alloc(), owns)
-        } else if line.is(0, b"project") {
-            self.project(line.alloc())
-        } else if line.is(0, b"well_formed") {
-            let fit = is_fit(line, owns)?;
-            Ok(
-                self.report
-                    .extend_from_slice(if fit { b"yes" } else { b"no" })?,
-            )
         } else if line.is(0, b"columns_of") {
             put_columns_of(line.alloc(), &mut self.report, line.own(owns, 1)?)
         } else if line.is(0, b"sort_rows") {
@@ -244,9 +174,6 @@ impl<'a> Stage<'a> {
             Ok(self.now.push(rest)?)
         } else if word == b"with".as_slice() {
             self.with(alloc, rest)
-        } else if word == b"node".as_slice() {
-            let node = node(&Line::of(alloc, text)?, owns)?;
-            Ok(self.nodes.push(node)?)
         } else {
             self.told(alloc, owns, text)
         }
@@ -266,7 +193,6 @@ pub fn run(alloc: Global, file: &[u8], report: &mut Vec<u8>) -> Result<(), Troub
     let mut stage = Stage {
         good: Vec::new(alloc),
         now: Vec::new(alloc),
-        nodes: Seq::new(alloc),
         report: Vec::new(alloc),
     };
     let done = steps(alloc, &mut stage, file);

@@ -1,5 +1,5 @@
-//! Each kind of change in a house in memory, what that house answers, each breach of a well-formed book, and the rules
-//! that books stand on. What comes of each step is printed, and is compared with the crate's `stdout`, whose values were
+//! Each kind of change in a house in memory, what that house answers, and each breach of a well-formed book.
+//! What comes of each step is printed, and is compared with the crate's `stdout`, whose values were
 //! worked out by hand.
 //!
 //! A step is a line, and a line that has nothing or begins with `#` is none. In both files `own WORD TEXT` has WORD call
@@ -40,12 +40,10 @@
 //! - `with N LINE` has a line, counted from 1, stand in place of the good book's;
 //! - `fault TITLE` prints the first breach of the book with these lines, by its part and place, and goes back to the good
 //!   one. Where a copy of the book isn't equal to it, a complaint follows;
-//! - `well_formed OWN PARENT..` prints whether a definition is well formed over these definitions' columns;
 //! - `columns_of OWN` prints a definition with its columns in place of its query, and `sort_rows OWN` a seed with its rows
-//!   sorted;
-//! - `node OWN RANK PLACE..` adds a node, with its parents' places, and `project` prints how many nodes their project has.
+//!   sorted.
 //!
-//! It stands on `mesh_base`, `mesh_rules`, `mesh_time`, `mesh_book`, `mesh_house`, `mesh_canon`, `mesh_io` and `mesh_cases`.
+//! It stands on `mesh_base`, `mesh_time`, `mesh_book`, `mesh_house`, `mesh_canon`, `mesh_io` and `mesh_cases`.
 #![tactic(auto)]
 
 mod books;

@@ -162,7 +162,7 @@ impl Stage {
 
     /// Begins a project that is compared with this one. Its numbered models are gone, other files stay.
     fn begin(&mut self, alloc: Global) -> Result<(), Trouble> {
-        self.base = Some(self.project(alloc)?);
+        self.base = Some(self.project(alloc)?.copy()?);
         for number in 0..self.models {
             let path = path_of(alloc, number)?;
             self.folder.delete(&path);

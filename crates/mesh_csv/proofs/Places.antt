@@ -1,5 +1,5 @@
 -- What stands at a place of a list, and what stands behind it.
-use Rattle.std.proofs.Common.{◌≡◌, ℕ, zero, suc, ◌+◌, ◌<◌, ◌≤◌, List, [], ◌∷◌, drop, length, slice_get, slice_index_or, Option, Some, None, refl, ◌∙◌, add-one, arith}
+use Rattle.std.proofs.Common.{◌≡◌, ℕ, zero, suc, ◌+◌, ◌≤◌, List, [], ◌∷◌, drop, length, slice_get, slice_index_or, Some, None, refl, add-one, arith}
 use Rattle.csv.specs.Records.{field_at}
 
 next : {A : Type 0} (xs : List A) (i : ℕ) (x : A) → slice_get xs i ≡ Some x → drop i xs ≡ x ∷ drop (suc i) xs
@@ -15,15 +15,6 @@ past [] zero e = refl
 past [] (suc i) e = refl
 past (x ∷ xs) zero e = cc e
 past (x ∷ xs) (suc i) e = past xs i e
-
-nth : {A : Type 0} (xs : List A) (i : ℕ) (d : A) → i < length xs → drop i xs ≡ slice_index_or xs i d ∷ drop (suc i) xs
-nth [] i d lt = absurd (omega arith)
-nth (x ∷ xs) zero d lt = refl
-nth (x ∷ xs) (suc i) d lt = nth xs i d (omega arith)
-
--- the element at a place within the list
-pub at_place : {A : Type 0} (xs : List A) (i : ℕ) (d : A) → i < length xs → drop i xs ≡ slice_index_or xs i d ∷ drop (i + 1) xs
-at_place xs i d lt = rw add-one (nth xs i d lt)
 
 -- behind the last element there is none
 pub behind_all : {A : Type 0} (xs : List A) (i : ℕ) → length xs ≤ i → drop i xs ≡ []

@@ -1,7 +1,6 @@
 -- The fields of a record beside the types of its columns, one after the other.
 use Rattle.std.proofs.Common.{◌≡◌, ℕ, ◌+◌, ◌<◌, ◌≤◌, Bool, true, false, cond, List, [], ◌∷◌, ◌++◌, drop, length, slice_get, get_or, refl, sym, ◌∙◌, ap, arith}
 use Rattle.std.proofs.lemmas.List.{append-nil, append_assoc, drop_more}
-use Rattle.std.specs.Option.{is_some}
 use Rattle.std.specs.declared.option.Option.{Option}
 use Rattle.std.specs.declared.option.Option.TheVariants.{None, Some}
 use Rattle.mesh_values.specs.declared.values.Cell.{Cell}
@@ -9,8 +8,7 @@ use Rattle.mesh_values.specs.declared.values.ColType.{ColType}
 use Rattle.mesh_values.specs.declared.values.Column.{Column}
 use Rattle.mesh_csv.specs.Cells.{Record, is_read, cell_of, row_of, kind_found}
 use Rattle.mesh_tokens.specs.declared.faults.ReadFault.{ReadFault}
-use Rattle.mesh_csv.specs.Headers.{first_of}
-use Rattle.mesh_csv.specs.Seeds.{unread_field, record_fault, records_fault, kinds_found, column, columns_of}
+use Rattle.mesh_csv.specs.Seeds.{unread_field, records_fault, kinds_found, column, columns_of}
 use Rattle.mesh_csv.proofs.Places.{here, past, behind_all}
 
 -- the first unread field from a place on
@@ -65,24 +63,6 @@ row_ends ks fields i made total le so_far = sym (append-nil made) ∙ ap (λ l. 
 -- the first fault of the records from a place on
 abbrev pub fault_at : List ColType → List Record → ℕ → Option ReadFault
 fault_at ks rs i = records_fault (i + 2) ks (drop i rs)
-
-here_fault : (ks : List ColType) (rs : List Record) (i : ℕ) (r : Record) → i < length rs → r ≡ get_or rs i r → fault_at ks rs i ≡ first_of (record_fault (i + 2) ks r) (fault_at ks rs (i + 1))
-here_fault ks rs i r lt at =
-    let more : i + 2 + 1 ≡ i + 1 + 2 = omega arith in
-    ap (records_fault (i + 2) ks) (drop_more rs i r lt) ∙ (λ j. first_of (record_fault (i + 2) ks (sym at j)) (records_fault (more j) ks (drop (i + 1) rs)))
-
-pub fault_goes : (ks : List ColType) (rs : List Record) (i : ℕ) (r : Record) (fault total : Option ReadFault) → i < length rs → r ≡ get_or rs i r → is_some fault ≡ false
-    → fault ≡ record_fault (i + 2) ks r → fault_at ks rs i ≡ total → fault_at ks rs (i + 1) ≡ total
-fault_goes ks rs i r None total lt at none is so_far = ap (λ x. first_of x (fault_at ks rs (i + 1))) is ∙ sym (here_fault ks rs i r lt at) ∙ so_far
-fault_goes ks rs i r (Some e) total lt at none is so_far = cc none
-
-pub fault_stops : (ks : List ColType) (rs : List Record) (i : ℕ) (r : Record) (fault total : Option ReadFault) → i < length rs → r ≡ get_or rs i r → is_some fault ≡ true
-    → fault ≡ record_fault (i + 2) ks r → fault_at ks rs i ≡ total → fault ≡ total
-fault_stops ks rs i r None total lt at some is so_far = cc some
-fault_stops ks rs i r (Some e) total lt at some is so_far = ap (λ x. first_of x (fault_at ks rs (i + 1))) is ∙ sym (here_fault ks rs i r lt at) ∙ so_far
-
-pub fault_ends : (ks : List ColType) (rs : List Record) (i : ℕ) (total : Option ReadFault) → length rs ≤ i → fault_at ks rs i ≡ total → None ≡ total
-fault_ends ks rs i total le so_far = sym (ap (records_fault (i + 2) ks) (behind_all rs i le)) ∙ so_far
 
 -- the types found so far, and those of the columns from a place on
 abbrev pub kinds_from : List (List ℕ) → List Record → ℕ → List ColType → List ColType

@@ -5,7 +5,7 @@ ghost use Rattle.mesh_csv.specs.Headers.{bad_row, long_name, many_columns, lower
 
 use crate::records::Record;
 use mesh_casts::lower_case;
-use mesh_list::{Duplicate, Memory, Seq};
+use mesh_list::{Duplicate, Memory, Seq, push_made};
 use mesh_tokens::{FaultKind, ReadFault};
 use mesh_values::{LONGEST_NAME, MOST_COLUMNS, Str, Strs, is_identifier};
 use std::alloc::Global;
@@ -84,21 +84,28 @@ fn name_fault(
     Ok(None)
 }
 
+// The first fault of the header's fields, whose names are these.
+fn names_fault(alloc: Global, names: &[Str], header: &Record) -> Result<Option<ReadFault>, Memory>
+    requires { names.now ≡ header_names header.now }
+    ensures { IfOk result (λ fault. fault ≡ header_fault header.now) }
+{
+    for i in 0..names.len() {
+        let name = &names[i];
+        let field = header.field(i);
+        match name_fault(alloc, &names[..i], i as u64 + 1, field, name)? {
+            Some(fault) => return Ok(Some(fault)),
+            None => {}
+        }
+    }
+    Ok(None)
+}
+
 /// The first fault of the header's names.
 pub fn header_fault(alloc: Global, header: &Record) -> Result<Option<ReadFault>, Memory>
     ensures { IfOk result (λ fault. fault ≡ header_fault header.now) }
 {
-    let mut before: Strs = Seq::new(alloc);
-    for i in 0..header.len() {
-        let field = header.field(i);
-        let name = lower_case(alloc, field)?;
-        let fault = name_fault(alloc, before.as_slice(), i as u64 + 1, field, &name)?;
-        if fault.is_some() {
-            return Ok(fault);
-        }
-        before.push(name)?;
-    }
-    Ok(None)
+    let names = header_names(alloc, header)?;
+    names_fault(alloc, names.as_slice(), header)
 }
 
 /// The names, in lower case.
@@ -107,7 +114,7 @@ pub fn header_names(alloc: Global, header: &Record) -> Result<Strs, Memory>
 {
     let mut names: Strs = Seq::new(alloc);
     for i in 0..header.len() {
-        names.push(lower_case(alloc, header.field(i))?)?;
+        push_made(&mut names, lower_case(alloc, header.field(i)))?;
     }
     Ok(names)
 }

@@ -1,7 +1,8 @@
 // The records of a text.
-ghost use Rattle.std.specs.Prelude.{◌≡◌, IfOk, length, slice_get, slice_index_or, option_map};
+ghost use Rattle.std.specs.Prelude.{◌≡◌, ◌++◌, ◌∷◌, [], Ok, IfOk, OnOk, length, slice_get, slice_index_or, option_map};
 ghost use Rattle.csv.specs.Reading.{default_config, records, strip_bom};
 ghost use Rattle.csv.specs.Records.{fields_of};
+ghost use Rattle.csv.specs.declared.record.ByteRecord.{ByteRecord as Fields};
 ghost use Rattle.mesh_csv.specs.Cells.{field};
 
 use csv::{ByteRecord, ReaderBuilder};
@@ -61,6 +62,20 @@ impl Record {
 
 pub type Records = Seq<Record>;
 
+// Puts a record that was read behind those before it. A slice gives no error of input, though no clause says so, and records
+// of any length are read.
+fn put(list: &mut Vec<Record>, found: csv::Result<ByteRecord>) -> Result<(), Memory>
+    ensures { OnOk result ((fields : Fields) × (found ≡ Ok fields) × (list.new.items ≡ list.old.items ++ fields_of fields ∷ [])) }
+{
+    match found {
+        Ok(fields) => {
+            list.push(Record::new(fields))?;
+            Ok(())
+        }
+        Err(_) => Err(Memory),
+    }
+}
+
 /// Every record of a text, the header among them, without a byte order mark.
 pub fn records_of(alloc: Global, text: &[u8]) -> Result<Records, Memory>
     ensures { IfOk result (λ found. found ≡ records default_config (strip_bom text.now)) }
@@ -71,11 +86,7 @@ pub fn records_of(alloc: Global, text: &[u8]) -> Result<Records, Memory>
         .from_reader(alloc, text);
     let mut list = Vec::new(alloc);
     for found in reader.into_byte_records() {
-        // A slice gives no error of input, though no clause says so, and records of any length are read.
-        let Ok(fields) = found else {
-            return Err(Memory);
-        };
-        list.push(Record::new(fields))?;
+        put(&mut list, found)?;
     }
     Ok(Seq::from_vec(list))
 }

@@ -6,7 +6,7 @@ ghost use Rattle.mesh_csv.specs.Seeds.{unread_field, record_fault, records_fault
 use crate::fields::{cell_of, is_read};
 use crate::header::bad_row;
 use crate::records::Record;
-use mesh_list::{Memory, Seq};
+use mesh_list::{Memory, Seq, push_made};
 use mesh_tokens::ReadFault;
 use mesh_values::{ColType, Row, Rows};
 use std::alloc::Global;
@@ -55,9 +55,9 @@ pub(crate) fn records_fault(
 {
     for i in 0..records.len() {
         let record = &records[i];
-        let fault = record_fault(alloc, i as u64 + 2, kinds, record)?;
-        if fault.is_some() {
-            return Ok(fault);
+        match record_fault(alloc, i as u64 + 2, kinds, record)? {
+            Some(fault) => return Ok(Some(fault)),
+            None => {}
         }
     }
     Ok(None)
@@ -72,7 +72,7 @@ fn row_of(alloc: Global, kinds: &[ColType], fields: &Record) -> Result<Row, Memo
         let Some(field) = fields.get(i) else {
             return Ok(row);
         };
-        row.push(cell_of(alloc, *kind, field)?)?;
+        push_made(&mut row, cell_of(alloc, *kind, field))?;
     }
     Ok(row)
 }
@@ -82,7 +82,7 @@ pub(crate) fn rows_of(alloc: Global, kinds: &[ColType], records: &[Record]) -> R
 {
     let mut rows: Rows = Seq::new(alloc);
     for record in records {
-        rows.push(row_of(alloc, kinds, record)?)?;
+        push_made(&mut rows, row_of(alloc, kinds, record))?;
     }
     Ok(rows)
 }

@@ -1,17 +1,17 @@
 // A seed's file.
-ghost use Rattle.std.specs.Prelude.{◌≡◌, IfOk};
+ghost use Rattle.std.specs.Prelude.{◌≡◌, IfOk, Ok};
 ghost use Rattle.std.specs.Option.{option_copied};
 ghost use Rattle.mesh_values.specs.Picked.{same_text};
 ghost use Rattle.mesh_tokens.specs.Gives.{Gives};
-ghost use Rattle.mesh_csv.specs.Seeds.{declared, declared_kind, are_declared, shape_fault, kinds_found, kinds_declared, kinds, column, columns_of, seed_under, seed_of, seed_text};
+ghost use Rattle.mesh_csv.specs.Seeds.{declared, declared_kind, are_declared, shape_fault, kinds_found, kinds_declared, kinds, column, columns_of, unless, records_fault, seed_rows, seed_under, seed_of, seed_text};
 
 use crate::header::{bad_row, header_fault, header_names};
 use crate::records::{Record, records_of};
 use crate::rows::{records_fault, rows_of};
 use crate::types::kind_found;
-use mesh_list::{Duplicate, Memory, Seq};
+use mesh_list::{Duplicate, Memory, Seq, push_made, together};
 use mesh_tokens::ReadFault;
-use mesh_values::{ColType, Column, Columns, Seed, Str, Strs};
+use mesh_values::{ColType, Column, Columns, Seed, Str};
 use std::alloc::Global;
 
 type Kinds = Seq<ColType>;
@@ -68,7 +68,7 @@ fn kinds_found(alloc: Global, names: &[Str], records: &[Record]) -> Result<Kinds
 {
     let mut kinds: Kinds = Seq::new(alloc);
     for i in 0..names.len() {
-        kinds.push(kind_found(alloc, i, records)?)?;
+        push_made(&mut kinds, kind_found(alloc, i, records))?;
     }
     Ok(kinds)
 }
@@ -115,30 +115,57 @@ fn columns_of(alloc: Global, names: &[Str], kinds: &Kinds) -> Result<Columns, Me
         let Some(kind) = kinds.get(i) else {
             return Ok(columns);
         };
-        columns.push(column(name, *kind)?)?;
+        push_made(&mut columns, column(name, *kind))?;
     }
     Ok(columns)
+}
+
+fn seed_rows(
+    alloc: Global,
+    names: &[Str],
+    kinds: &Kinds,
+    records: &[Record],
+) -> Result<Seed, Memory>
+    ensures { IfOk result (λ seed. seed ≡ seed_rows names.now kinds.now records.now) }
+{
+    let (columns, rows) = together(
+        columns_of(alloc, names, kinds),
+        rows_of(alloc, kinds.as_slice(), records),
+    )?;
+    Ok(Seed { columns, rows })
+}
+
+// The records under a header, where their columns have these types.
+fn seed_as(
+    alloc: Global,
+    names: &[Str],
+    kinds: &Kinds,
+    records: &[Record],
+) -> Result<Seed, ReadFault>
+    ensures { Gives result (unless (records_fault 2 kinds.now records.now) (Ok (seed_rows names.now kinds.now records.now))) }
+{
+    match records_fault(alloc, kinds.as_slice(), records)? {
+        Some(fault) => Err(fault),
+        None => Ok(seed_rows(alloc, names, kinds, records)?),
+    }
 }
 
 // What the header's names and the records under them say.
 fn seed_under(
     alloc: Global,
     columns: &[Column],
-    names: &Strs,
+    names: &[Str],
     records: &[Record],
 ) -> Result<Seed, ReadFault>
     ensures { Gives result (seed_under columns.now names.now records.now) }
 {
-    if let Some(fault) = shape_fault(columns, names.as_slice()) {
-        return Err(fault);
+    match shape_fault(columns, names) {
+        Some(fault) => Err(fault),
+        None => {
+            let kinds = kinds_of(alloc, columns, names, records)?;
+            seed_as(alloc, names, &kinds, records)
+        }
     }
-    let kinds = kinds_of(alloc, columns, names.as_slice(), records)?;
-    if let Some(fault) = records_fault(alloc, kinds.as_slice(), records)? {
-        return Err(fault);
-    }
-    let columns = columns_of(alloc, names.as_slice(), &kinds)?;
-    let rows = rows_of(alloc, kinds.as_slice(), records)?;
-    Ok(Seed { columns, rows })
 }
 
 fn seed_of(alloc: Global, columns: &[Column], records: &[Record]) -> Result<Seed, ReadFault>
@@ -147,11 +174,13 @@ fn seed_of(alloc: Global, columns: &[Column], records: &[Record]) -> Result<Seed
     match records {
         [] => Err(bad_row(1, 0)),
         [header, under @ ..] => {
-            if let Some(fault) = header_fault(alloc, header)? {
-                return Err(fault);
+            match header_fault(alloc, header)? {
+                Some(fault) => Err(fault),
+                None => {
+                    let names = header_names(alloc, header)?;
+                    seed_under(alloc, columns, names.as_slice(), under)
+                }
             }
-            let names = header_names(alloc, header)?;
-            seed_under(alloc, columns, &names, under)
         }
     }
 }

@@ -4,10 +4,9 @@ ghost use Rattle.std.specs.List.{fold, list_any};
 ghost use Rattle.mesh_meaning.specs.Aggregates.{distinct, same_cell, known, is_number, addend, total, smaller, larger, agg_value};
 
 use crate::cells::is_null;
-use crate::lists::push_made;
 use mesh_base::AggKind;
 use mesh_index::distinct_rows;
-use mesh_list::{Duplicate, Memory};
+use mesh_list::{Duplicate, Memory, push_made};
 use mesh_values::{Cell, Row, Rows, cell_cmp};
 use std::alloc::Global;
 
@@ -106,6 +105,7 @@ fn smallest(cells: &Row) -> Result<Cell, Memory>
     let mut best = Cell::Null;
     for c in cells.as_slice() {
         if is_null(&best) || !is_null(c) && cell_cmp(c, &best).is_lt() {
+            drop(best);
             best = c.copy()?;
         }
     }
@@ -118,6 +118,7 @@ fn largest(cells: &Row) -> Result<Cell, Memory>
     let mut best = Cell::Null;
     for c in cells.as_slice() {
         if cell_cmp(&best, c).is_lt() {
+            drop(best);
             best = c.copy()?;
         }
     }

@@ -321,6 +321,15 @@ pub(crate) fn equal(x: &Cell, y: &Cell) -> Cell
     }
 }
 
+fn are_equal(x: &Cell, y: &Cell) -> bool
+    ensures { result ≡ is_true (compared is_eq x.now y.now) }
+{
+    match compare(x, y) {
+        None => false,
+        Some(order) => order.is_eq(),
+    }
+}
+
 pub(crate) fn lies_between(x: &Cell, low: &Cell, high: &Cell) -> Cell
     ensures { result ≡ between x.now low.now high.now }
 {
@@ -328,20 +337,20 @@ pub(crate) fn lies_between(x: &Cell, low: &Cell, high: &Cell) -> Cell
 }
 
 /// The value of a function of one argument.
-pub(crate) fn call_one(func: Func, x: Cell) -> Result<Cell, Memory>
-    ensures { IfOk result (λ v. v ≡ func_value func (x ∷ [])) }
+fn call_one(func: Func, x: &Cell) -> Result<Cell, Memory>
+    ensures { IfOk result (λ v. v ≡ func_value func (x.now ∷ [])) }
 {
     match func {
         Func::Abs => match x {
-            Cell::Int(n) => Ok(absolute(n)),
+            Cell::Int(n) => Ok(absolute(*n)),
             _ => Ok(Cell::Null),
         },
         Func::Length => match x {
-            Cell::Text(t) => Ok(length_of(&t)),
+            Cell::Text(t) => Ok(length_of(t)),
             _ => Ok(Cell::Null),
         },
         Func::Upper => match x {
-            Cell::Text(t) => Ok(Cell::Text(upper_case(&t)?)),
+            Cell::Text(t) => Ok(Cell::Text(upper_case(t)?)),
             _ => Ok(Cell::Null),
         },
         Func::Lower => match x {
@@ -349,27 +358,21 @@ pub(crate) fn call_one(func: Func, x: Cell) -> Result<Cell, Memory>
             _ => Ok(Cell::Null),
         },
         Func::Nullif => Ok(Cell::Null),
-        Func::Coalesce => Ok(x),
+        Func::Coalesce => x.copy(),
     }
 }
 
 /// The value of a function.
-pub(crate) fn call(func: Func, mut args: Row) -> Result<Cell, Memory>
+pub(crate) fn call(func: Func, args: Row) -> Result<Cell, Memory>
     ensures { IfOk result (λ v. v ≡ func_value func args) }
 {
     match func {
         Func::Coalesce => first_known(&args),
         Func::Nullif => null_if(args),
-        _ => {
-            if args.len() == 1 {
-                match args.pop() {
-                    Some(x) => call_one(func, x),
-                    None => Ok(Cell::Null),
-                }
-            } else {
-                Ok(Cell::Null)
-            }
-        }
+        _ => match args.as_slice() {
+            [x] => call_one(func, x),
+            _ => Ok(Cell::Null),
+        },
     }
 }
 
@@ -377,7 +380,7 @@ fn null_if(args: Row) -> Result<Cell, Memory>
     ensures { IfOk result (λ v. v ≡ func_value Func.Nullif args) }
 {
     match args.as_slice() {
-        [x, y] => if is_true(&equal(x, y)) {
+        [x, y] => if are_equal(x, y) {
             Ok(Cell::Null)
         } else {
             x.copy()
@@ -392,6 +395,7 @@ fn first_known(args: &Row) -> Result<Cell, Memory>
     let mut first = Cell::Null;
     for x in args.as_slice() {
         if is_null(&first) {
+            drop(first);
             first = x.copy()?;
         }
     }

@@ -1,7 +1,8 @@
 // The value of an expression.
 ghost use Rattle.std.specs.Prelude.{◌≡◌, List, IfOk, map, pos, length};
 ghost use Rattle.std.specs.List.{fold};
-ghost use Rattle.mesh_meaning.specs.Cells.{is_null, negative, opposite, op_value, between, chosen, one_of, func_value};
+ghost use Rattle.std.specs.Ordering.{is_eq};
+ghost use Rattle.mesh_meaning.specs.Cells.{is_null, is_true, compared, either, negative, opposite, op_value, between, chosen, one_of, func_value};
 ghost use Rattle.mesh_casts.specs.Casts.{cast_value};
 ghost use Rattle.mesh_meaning.specs.Ev.{Ev, Ev_node, Ev_each, Ev_when, Ev_whens, at_row, seen, key_of, over_group};
 ghost use Rattle.mesh_meaning.specs.Aggregates.{agg_value, count_of};
@@ -12,11 +13,10 @@ ghost use Rattle.mesh_eval.specs.Joined.{shown};
 use crate::aggregates::aggregate;
 use crate::cells::{call, equal, is_null, is_true, lies_between, negate, not, operate, or};
 use crate::frames::{Frame, Members, cell_at, column};
-use crate::lists::push_made;
 use crate::macros::bound;
 use mesh_base::{AggKind, Expr, Func, Item, Op, When};
 use mesh_casts::cast;
-use mesh_list::{Duplicate, Memory, together};
+use mesh_list::{Duplicate, Memory, push_made, together};
 use mesh_values::{Bounds, Cell, ColType, Columns, Row};
 use std::alloc::Global;
 
@@ -60,7 +60,9 @@ fn ev_node(alloc: Global, e: &Expr, f: &Frame) -> Result<Cell, Memory>
         ),
         Expr::OneOf { value, of } => {
             let x = ev(alloc, value.get(), f)?;
-            ev_one_of(alloc, &x, of.as_slice(), f)
+            let found = ev_one_of(alloc, &x, of.as_slice(), f);
+            drop(x);
+            found
         }
         Expr::Cast { to, value } => converted(alloc, *to, ev(alloc, value.get(), f)),
         Expr::Call { func, args } => called(*func, ev_each(alloc, args.as_slice(), f)),
@@ -127,6 +129,35 @@ fn called(func: Func, args: Result<Row, Memory>) -> Result<Cell, Memory>
     call(func, args?)
 }
 
+// Whether one was found before, or x equals one more value.
+fn or_equal(found: Cell, x: &Cell, value: Result<Cell, Memory>) -> Result<Cell, Memory>
+    ensures { (y : Cell) → IfOk value (λ v. v ≡ y) → IfOk result (λ v. v ≡ either found (compared is_eq x.now y)) }
+{
+    match value {
+        Ok(y) => {
+            let same = equal(x, &y);
+            drop(y);
+            let made = or(&found, &same);
+            drop((found, same));
+            Ok(made)
+        }
+        Err(Memory) => {
+            drop(found);
+            Err(Memory)
+        }
+    }
+}
+
+/// Whether the value of a condition is true.
+pub(crate) fn is_met(value: Result<Cell, Memory>) -> Result<bool, Memory>
+    ensures { (x : Cell) → IfOk value (λ v. v ≡ x) → IfOk result (λ b. b ≡ is_true x) }
+{
+    let value = value?;
+    let met = is_true(&value);
+    drop(value);
+    Ok(met)
+}
+
 #[cycle(ev)]
 fn ev_agg(alloc: Global, kind: AggKind, value: &Expr, f: &Frame) -> Result<Cell, Memory>
     ensures { IfOk result (λ v. v ≡ over_group (λ rows. agg_value kind (map (λ row. Ev value.now (at_row f.now.bounds row)) rows)) (scope_of f.now).group) }
@@ -166,7 +197,7 @@ fn ev_one_of(alloc: Global, x: &Cell, all: &[Expr], f: &Frame) -> Result<Cell, M
 {
     let mut found = Cell::Bool(false);
     for e in all {
-        found = or(&found, &equal(x, &ev(alloc, e, f)?));
+        found = or_equal(found, x, ev(alloc, e, f))?;
     }
     Ok(found)
 }
@@ -178,6 +209,7 @@ fn ev_whens(alloc: Global, whens: &[When], f: &Frame) -> Result<Option<Cell>, Me
     let mut found = None;
     for w in whens {
         if found.is_none() {
+            drop(found);
             found = ev_when(alloc, w, f)?;
         }
     }
@@ -189,8 +221,7 @@ fn ev_whens(alloc: Global, whens: &[When], f: &Frame) -> Result<Option<Cell>, Me
 fn ev_when(alloc: Global, w: &When, f: &Frame) -> Result<Option<Cell>, Memory>
     ensures { IfOk result (λ v. v ≡ chosen None (Ev_when w.now (scope_of f.now))) }
 {
-    let test = ev(alloc, &w.test, f)?;
-    if is_true(&test) {
+    if is_met(ev(alloc, &w.test, f))? {
         let value = ev(alloc, &w.value, f)?;
         Ok(Some(value))
     } else {

@@ -6,14 +6,12 @@ ghost use Rattle.mesh_index.specs.Places.{places};
 ghost use Rattle.mesh_eval.specs.Frames.{scope_of, picked, all_places};
 ghost use Rattle.mesh_meaning.specs.Sel.{holds, same_row, key_list, group_of, group_row, grouped_rows};
 
-use crate::cells::is_true;
-use crate::expressions::{ev, item_row, key_list};
+use crate::expressions::{ev, is_met, item_row, key_list};
 use crate::frames::{Frame, Members};
 use crate::joined::JoinedRows;
-use crate::lists::push_made;
 use mesh_base::{Expr, Select};
 use mesh_index::Index;
-use mesh_list::Memory;
+use mesh_list::{Memory, push_made};
 use mesh_values::{Bounds, Cell, Columns, Row, Rows};
 use std::alloc::Global;
 
@@ -22,10 +20,7 @@ fn holds(alloc: Global, condition: &Option<Expr>, f: &Frame) -> Result<bool, Mem
 {
     match condition {
         None => Ok(true),
-        Some(e) => {
-            let value = ev(alloc, e, f)?;
-            Ok(is_true(&value))
-        }
+        Some(e) => is_met(ev(alloc, e, f)),
     }
 }
 

@@ -3,7 +3,6 @@ use Rattle.std.proofs.Common.{◌≡◌, ℕ, ℤ, pos, negsuc, ◌<ℤ◌, ◌�
 use Rattle.std.specs.Int.Signed.{le_z, lt_z}
 use Rattle.std.specs.List.{filter, list_all}
 use Rattle.std.specs.Ordering.{int_eq}
-use Rattle.std.specs.Prelude.{MatchOption}
 use Rattle.std.specs.declared.option.Option.{Option}
 use Rattle.jiff_core.proofs.SignedLemmas.{signed_arith}
 use Rattle.mesh_values.specs.Kinds.{is_incremental, time_column}
@@ -18,15 +17,12 @@ use Rattle.mesh_base.specs.declared.plans.Due.{Due}
 use Rattle.mesh_base.specs.declared.plans.Due.TheVariants.{Whole, Unit as OfUnit}
 use Rattle.mesh_base.specs.declared.plans.Entry.{Entry}
 use Rattle.mesh_base.specs.declared.snapshots.Node.{Node}
-use Rattle.mesh_days.specs.Moments.{IsTimeValue}
-use Rattle.mesh_seconds.specs.Times.{is_within, time_of}
-use Rattle.mesh_seconds.proofs.Seconds.{time_value}
+use Rattle.mesh_seconds.specs.Times.{is_within}
 use Rattle.mesh_scratch.specs.Scratch.{defn_rows, is_of_unit, lies_by, piece_over}
 use Rattle.mesh_due.specs.Plans.{Planned}
 use Rattle.mesh_changes.specs.Changes.{ascending}
 use Rattle.mesh_lineage.specs.Joinable.{is_joinable, is_joinable_as}
 use Rattle.mesh_wave.proofs.Ascending.{cut_ascending}
-use Rattle.mesh_wave.proofs.Seconds.{no_second}
 use Rattle.mesh_unit_laws.specs.Units.{IsInDays, IsUnit}
 use Rattle.mesh_unit_laws.proofs.Cuts.{sorted_rows}
 use Rattle.mesh_exec.specs.Cuts.{cut_fills, rows_in, run_fills, second_in, seconds_by, seconds_of}
@@ -39,11 +35,6 @@ use Rattle.mesh_exec.proofs.Running.{is_both}
 
 abbrev Rows : Type 0
 Rows = List (List Cell)
-
--- the second of a cell is its time value
-pub second_is : (cell : Cell) (r : Option ℤ) → MatchOption r ((t : ℤ) → ¬ IsTimeValue cell t) (λ t. IsTimeValue cell t) → r ≡ time_of cell
-second_is cell None never = sym (no_second cell never)
-second_is cell (Some t) is = sym ((time_value cell t).1 is)
 
 -- rows that are picked by their seconds
 pub rows_by_seconds : (u : Bounds) (second : List Cell → Option ℤ) (rows : Rows) → rows_in u rows (map second rows) ≡ filter (λ row. is_within u (second row)) rows

@@ -1,44 +1,15 @@
 // The rows of a run, cut to its due parts.
-ghost use Rattle.std.specs.Prelude.{◌≡◌, IfOk, map, slice_get};
-ghost use Rattle.mesh_eval.specs.Frames.{cell_or_null};
-ghost use Rattle.mesh_seconds.specs.Times.{is_within, time_of};
+ghost use Rattle.std.specs.Prelude.{◌≡◌, IfOk, map};
 ghost use Rattle.mesh_exec.specs.Cuts.{cut_to, rows_in, second_in, seconds_of};
 
 use mesh_base::{Due, Own};
 use mesh_columns::columns_of;
-use mesh_days::time_value;
 use mesh_list::{Duplicate, Memory, Seq};
-use mesh_values::{Bounds, Cell, Column, Kind, Row, Rows, Str, same_text};
+use mesh_seconds::{is_within, second_in};
+use mesh_values::{Bounds, Column, Kind, Row, Rows, Str};
 use std::alloc::Global;
 
 pub(crate) type Seconds = Seq<Option<i64>>;
-
-fn second_of(cell: &Cell) -> Option<i64>
-    ensures { result ≡ time_of cell.now }
-{
-    time_value(cell)
-}
-
-fn second_at(row: &Row, at: usize) -> Option<i64>
-    ensures { result ≡ time_of (cell_or_null (slice_get row.now at)) }
-{
-    match row.get(at) {
-        None => None,
-        Some(cell) => second_of(cell),
-    }
-}
-
-/// The second of a row by the column of that name, where it has one.
-fn second_in(columns: &[Column], time: &Str, row: &Row) -> Option<i64>
-    ensures { result ≡ second_in columns.now time.now row.now }
-{
-    for (i, column) in columns.iter().enumerate() {
-        if same_text(column.name.as_slice(), time.as_slice()) {
-            return second_at(row, i);
-        }
-    }
-    None
-}
 
 fn seconds_by(
     alloc: Global,
@@ -65,15 +36,6 @@ pub(crate) fn seconds_of(alloc: Global, own: &Own, rows: &[Row]) -> Result<Secon
             seconds_by(alloc, columns.as_slice(), time, rows)
         }
         Kind::Full | Kind::View | Kind::Seed => Ok(Seq::new(alloc)),
-    }
-}
-
-fn is_within(u: Bounds, second: Option<i64>) -> bool
-    ensures { result ≡ is_within u second }
-{
-    match second {
-        None => false,
-        Some(t) => u.start <= t && t < u.end,
     }
 }
 

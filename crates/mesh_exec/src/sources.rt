@@ -1,22 +1,19 @@
 // The sources of due models are looked at before anything is changed.
 ghost use Rattle.std.specs.Prelude.{◌≡◌, IfOk, IsTrue, None, map};
-ghost use Rattle.std.specs.List.{find};
 ghost use Rattle.std.specs.Option.{option_map};
-ghost use Rattle.mesh_values.specs.Picked.{same_text};
-ghost use Rattle.mesh_values.specs.declared.values.Column.{Column};
 ghost use Rattle.mesh_house.specs.Sources.{are_plain};
 ghost use Rattle.mesh_layer.specs.Shows.{Finds};
-ghost use Rattle.mesh_scratch.specs.Sources.{has_shape, is_of_type, source_named};
+ghost use Rattle.mesh_scratch.specs.Sources.{has_shape, source_named};
 ghost use Rattle.mesh_exec.specs.Works.{part_of};
 ghost use Rattle.mesh_exec.specs.Sources.{breach, breach_by, first_by_name, kind_of, lack_of, model_breach, first_lack, part_lack};
 
 use crate::works::Work;
 use mesh_base::Decl;
 use mesh_house::Warehouse;
-use mesh_layer::ShowFault;
+use mesh_layer::{ShowFault, has_shape};
 use mesh_list::{Duplicate, Memory};
 use mesh_tokens::FaultKind;
-use mesh_values::{ColType, Column, Columns, Name, Str, has_two_underscores, same_text};
+use mesh_values::{Columns, Name, Str, has_two_underscores};
 use std::alloc::Global;
 
 /// A source that isn't there, or is there with another shape.
@@ -31,28 +28,6 @@ pub struct Breach {
 pub struct Lack {
     pub model: Name,
     pub kind: FaultKind,
-}
-
-/// Whether a column of that name is there, and the first of them has this type.
-fn is_of_type(columns: &[Column], name: &Str, kind: ColType) -> bool
-    ensures { result ≡ is_of_type kind (find (λ (c : Column). same_text c.name name.now) columns.now) }
-{
-    for column in columns {
-        if same_text(column.name.as_slice(), name.as_slice()) {
-            return column.kind == kind;
-        }
-    }
-    false
-}
-
-fn has_shape(declared: &[Column], columns: &[Column]) -> bool
-    ensures { result ≡ has_shape declared.now columns.now }
-{
-    let mut each = true;
-    for column in declared {
-        each = each && is_of_type(columns, &column.name, column.kind);
-    }
-    each
 }
 
 /// What a declared source lacks, by the columns that are there.

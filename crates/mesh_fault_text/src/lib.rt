@@ -7,4 +7,4 @@ mod line;
 mod pieces;
 
 pub use line::fault_line;
-pub use pieces::{put, put_name, put_number};
+pub use pieces::{name_text, put, put_name, put_number};

@@ -1,11 +1,12 @@
 // Words, numbers, names and fingerprints, written at the end of what is written so far.
-ghost use Rattle.std.specs.Prelude.{◌≡◌, ◌++◌, codes, OnOk};
+ghost use Rattle.std.specs.Prelude.{◌≡◌, ◌++◌, codes, IfOk, OnOk};
 ghost use Rattle.std.specs.Fmt.{decimal};
 ghost use Rattle.hex.specs.Hex.{encode_lower};
 ghost use Rattle.mesh_fault_text.specs.Lines.{◌·◌, name_text, names_text};
 
-use mesh_list::Memory;
-use mesh_values::Name;
+use mesh_list::{Memory, Seq};
+use mesh_values::{Name, Str};
+use std::alloc::Global;
 
 /// These bytes, at the end of what is written so far.
 pub fn put(out: &mut Vec<u8>, bytes: &[u8]) -> Result<(), Memory>
@@ -38,6 +39,15 @@ pub fn put_name(out: &mut Vec<u8>, name: &Name) -> Result<(), Memory>
     put(out, name.schema.as_slice())?;
     put(out, b".")?;
     put(out, name.model.as_slice())
+}
+
+/// The same as a text of its own.
+pub fn name_text(alloc: Global, name: &Name) -> Result<Str, Memory>
+    ensures { IfOk result (λ text. text ≡ name_text name.now) }
+{
+    let mut out = Vec::new(alloc);
+    put_name(&mut out, name)?;
+    Ok(Seq::from_vec(out))
 }
 
 /// Each name behind a space.

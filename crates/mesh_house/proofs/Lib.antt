@@ -1,9 +1,7 @@
 pub mod Along
-pub mod Days
 pub mod Each
 pub mod After
 pub mod Lists
-pub mod Rows
 pub mod Runs
 pub mod Tested
 pub mod Undone

@@ -10,8 +10,6 @@ pub mod Objects
 pub mod Sources
 -- Step: what each kind of change makes of a world.
 pub mod Step
--- Times: the second that a cell stands for, and the rows that lie in a range of seconds.
-pub mod Times
 -- Runs: what a call that makes a list of changes leaves of a house, whole or stopped.
 pub mod Runs
 -- World: what a world has, and what is read of it.

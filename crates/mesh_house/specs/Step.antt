@@ -22,7 +22,7 @@ use Rattle.mesh_house.specs.declared.world.World.{World}
 use Rattle.mesh_house.specs.declared.world.Change.{Change}
 use Rattle.mesh_house.specs.declared.world.Change.TheVariants.{Moment, Load, PutSnapshot, MakeTable, MakeView, ReplaceRows, WriteRange, RecordRange, RecordMarks, SetPending, PointView, DropView, Finalize, Expire, ForgetVersion, DropObject, DeleteSnapshot, DeleteEnv, ForgetUnits, Migrate}
 use Rattle.mesh_house.specs.World.{view_name, object_at, source_at}
-use Rattle.mesh_house.specs.Times.{rewritten}
+use Rattle.mesh_seconds.specs.Rows.{rewritten}
 
 -- the world with this book
 abbrev pub with_book : World → Book → World

@@ -16,7 +16,6 @@ mod reads;
 mod same;
 mod sources;
 mod step;
-mod times;
 mod world;
 
 pub use fails::{Fail, Fails};

@@ -8,12 +8,12 @@ ghost use Rattle.mesh_house.specs.Step.{with_object, with_book, kept_rows, load,
 
 use crate::objects::{Body, Object, Objects};
 use crate::sources::SourceTables;
-use crate::times::rewrite;
 use crate::world::{Change, ViewOf, World};
 use mesh_base::{Input, Marks, Own, Ref, Refs, Snapshot};
 use mesh_book::{Book, Version};
 use mesh_list::{Duplicate, Memory, Seq, Sorted, both, together};
 use mesh_moves::{forget_units, migrate};
+use mesh_seconds::rewrite;
 use mesh_values::{Columns, Name, Pairs, Rows, Str, has_two_underscores};
 use std::alloc::Global;
 use std::mem::drop;

@@ -14,5 +14,5 @@ mod walk;
 
 pub use faults::ShowFault;
 pub use shown::{LONGEST_CHAIN, ask, object_rows, show, view_tables};
-pub use sources::{picked_rows, source_tables};
+pub use sources::{has_shape, picked_rows, source_tables};
 pub use views::view_in;

@@ -7,18 +7,9 @@ ghost use Rattle.mesh_shown.specs.Shown.{stored_relations, selects_there, ctes_t
 ghost use Rattle.mesh_layer.specs.Lost.{stored_query};
 ghost use Rattle.mesh_layer.specs.Read.{is_target};
 
-use mesh_base::{Decl, Defn, FromItem, Own, Query, Rel, Select, Selects};
+use mesh_base::{Defn, FromItem, Own, Query, Rel, Select, Selects};
+use mesh_rules::is_declared;
 use mesh_values::{Name, Pair};
-
-fn is_declared(sources: &[Decl], name: &Name) -> bool
-    ensures { result ≡ is_declared sources.now name.now }
-{
-    let mut found = false;
-    for source in sources {
-        found = found || source.name.compare(name).is_eq();
-    }
-    found
-}
 
 fn is_target(targets: &[Pair], name: &Name) -> bool
     ensures { result ≡ is_target targets.now name.now }

@@ -89,7 +89,8 @@ fn is_of_type(columns: &[Column], name: &Str, kind: ColType) -> bool
     false
 }
 
-fn has_shape(declared: &[Column], columns: &[Column]) -> bool
+/// Whether each declared column is there, with its type.
+pub fn has_shape(declared: &[Column], columns: &[Column]) -> bool
     ensures { result ≡ has_shape declared.now columns.now }
 {
     let mut each = true;

@@ -13,20 +13,10 @@ ghost use Rattle.mesh_plan.specs.Plans.{removed};
 use mesh_base::{Node, Ref, Snapshot};
 use mesh_book::Book;
 use mesh_list::{Duplicate, Memory, Seq};
+use mesh_plan_text::kind_word;
 use mesh_values::{Kind, Name, Pair, Pairs};
 use std::alloc::Global;
 use std::collections::BTreeSet;
-
-fn kind_word(kind: &Kind) -> &'static [u8]
-    ensures { result.now ≡ kind_word kind.now }
-{
-    match kind {
-        Kind::Full => b"FULL",
-        Kind::View => b"VIEW",
-        Kind::Seed => b"SEED",
-        Kind::Incremental { .. } => b"INCREMENTAL_BY_TIME_RANGE",
-    }
-}
 
 fn names_of(alloc: Global, nodes: &[Node]) -> Result<BTreeSet<Name>, Memory>
     ensures { IfOk result (λ set. (name : Name) → contains name_cmp set name ≡ has_node nodes.now name) }

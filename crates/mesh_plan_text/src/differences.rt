@@ -51,7 +51,8 @@ fn category_word(category: Category) -> &'static [u8]
     }
 }
 
-fn kind_word(kind: &Kind) -> &'static [u8]
+/// The word of a kind, as a model says it.
+pub fn kind_word(kind: &Kind) -> &'static [u8]
     ensures { result.now ≡ kind_word kind.now }
 {
     match kind {

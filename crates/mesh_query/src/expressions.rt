@@ -11,13 +11,13 @@ ghost use Rattle.mesh_query.specs.Answers.{Answers, AnswersOn};
 ghost use Rattle.mesh_query.specs.Rests.{behind_is, behind_between, behind_in, unopened, one_alone};
 
 use crate::brackets::{opened, shut};
-use crate::lists::{begun, boxed, pushed};
+use crate::lists::{added, begun, boxed, given_up, multiplied, pushed};
 use crate::literals::{column, date, function_at, literal};
 use crate::nodes::Nodes;
 use mesh_list::{Boxed, Seq};
 use mesh_surface::{
-    AddExpr, AddStep, AndExpr, Args, Arm, CatExpr, Function, MulExpr, MulStep, NotExpr, OrExpr,
-    Post, Pred, Primary, Test, Unary,
+    AddExpr, AndExpr, Args, Arm, CatExpr, Function, MulExpr, NotExpr, OrExpr, Post, Pred, Primary,
+    Test, Unary,
 };
 use mesh_tokens::Token;
 use mesh_words::{
@@ -270,13 +270,11 @@ fn sum(
     let mut rest = Seq::new(alloc);
     'sums: while let Some(sign) = add_sign(tokens, at) {
         nodes.meet();
-        let (part, next) = product(alloc, tokens, nodes, depth, at + 1)?;
-        rest.push(AddStep {
-            at: place(tokens, at),
-            sign,
-            part,
-        })?;
-        at = next;
+        let part = product(alloc, tokens, nodes, depth, at + 1);
+        match added(&mut rest, place(tokens, at), sign, part) {
+            Ok(next) => at = next,
+            Err(fault) => return Err(given_up(first, rest, fault)),
+        }
     }
     let whole = AddExpr {
         at: place(tokens, from),
@@ -301,13 +299,11 @@ fn product(
     let mut rest = Seq::new(alloc);
     'products: while let Some(sign) = mul_sign(tokens, at) {
         nodes.meet();
-        let (part, next) = unary(alloc, tokens, nodes, depth, at + 1)?;
-        rest.push(MulStep {
-            at: place(tokens, at),
-            sign,
-            part,
-        })?;
-        at = next;
+        let part = unary(alloc, tokens, nodes, depth, at + 1);
+        match multiplied(&mut rest, place(tokens, at), sign, part) {
+            Ok(next) => at = next,
+            Err(fault) => return Err(given_up(first, rest, fault)),
+        }
     }
     let whole = MulExpr {
         at: place(tokens, from),
@@ -355,8 +351,10 @@ fn post(
     'casts: while is_sign(tokens, at, b"::") {
         nodes.meet();
         let kind = column_type(tokens, at + 1);
-        let next = pushed(&mut casts, kind)?;
-        at = next;
+        match pushed(&mut casts, kind) {
+            Ok(next) => at = next,
+            Err(fault) => return Err(given_up(value, casts, fault)),
+        }
     }
     let whole = Post {
         at: place(tokens, from),

@@ -1,9 +1,12 @@
 // Lists that are begun with one element, and what is made of a phrase that has been read: want of memory and the fault of
 // the phrase are one answer.
 ghost use Rattle.std.specs.Prelude.{◌≡◌, [], ◌∷◌, ◌++◌, IfOk, MatchResult};
+ghost use Rattle.mesh_surface.specs.declared.expressions.AddStep.{roll-AddStep};
+ghost use Rattle.mesh_surface.specs.declared.expressions.MulStep.{roll-MulStep};
 ghost use Rattle.mesh_words.specs.declared.fault.Fault.TheVariants.{Memory as OutOfMemory};
 
 use mesh_list::{Boxed, Memory, Seq};
+use mesh_surface::{AddSign, AddStep, MulExpr, MulSign, MulStep, Unary};
 use mesh_words::Fault;
 use std::alloc::Global;
 
@@ -50,4 +53,39 @@ pub fn boxed<T: Drop>(
     let (item, at) = found?;
     let item = Boxed::new(alloc, item)?;
     Ok((item, at))
+}
+
+/// The place behind a part of a sum that has been read, which goes to the steps with its sign.
+pub fn added(
+    steps: &mut Seq<AddStep>,
+    at: u64,
+    sign: AddSign,
+    found: Result<(MulExpr, usize), Fault>,
+) -> Result<usize, Fault>
+    ensures { MatchResult result (λ next. MatchResult found (λ x. (steps.new ≡ steps.old ++ roll-AddStep (record { at = at; sign = sign; part = x.0 }) ∷ []) × (next ≡ x.1)) (λ _. ⊥)) (λ e. MatchResult found (λ _. e ≡ OutOfMemory) (λ f. e ≡ f)) }
+{
+    let (part, next) = found?;
+    steps.push(AddStep { at, sign, part })?;
+    Ok(next)
+}
+
+/// The place behind a part of a product that has been read, which goes to the steps with its sign.
+pub fn multiplied(
+    steps: &mut Seq<MulStep>,
+    at: u64,
+    sign: MulSign,
+    found: Result<(Unary, usize), Fault>,
+) -> Result<usize, Fault>
+    ensures { MatchResult result (λ next. MatchResult found (λ x. (steps.new ≡ steps.old ++ roll-MulStep (record { at = at; sign = sign; part = x.0 }) ∷ []) × (next ≡ x.1)) (λ _. ⊥)) (λ e. MatchResult found (λ _. e ≡ OutOfMemory) (λ f. e ≡ f)) }
+{
+    let (part, next) = found?;
+    steps.push(MulStep { at, sign, part })?;
+    Ok(next)
+}
+
+/// The fault for which what was read so far is given up: a large value is dropped here, and not where it was read.
+pub fn given_up<T: Drop, U: Drop>(_first: T, _rest: U, fault: Fault) -> Fault
+    ensures { result ≡ fault }
+{
+    fault
 }

@@ -1,5 +1,5 @@
 -- What a definition and its parents have to be, and which lists of models are a proper project.
-use Rattle.std.specs.Prelude.{ℕ, ℤ, Bool, true, false, ◌&&◌, ◌||◌, not, nat_le, nat_eq, List, [], ◌∷◌, ◌++◌, length, Some, None, if◌then◌else◌}
+use Rattle.std.specs.Prelude.{ℕ, ℤ, Bool, true, false, ◌&&◌, ◌||◌, not, nat_le, nat_eq, List, [], ◌∷◌, ◌++◌, length, Some, None}
 use Rattle.std.specs.List.{list_all, list_any, slice_get, flat_map, ends_with}
 use Rattle.std.specs.Option.{is_some}
 use Rattle.std.specs.declared.option.Option.{Option}
@@ -153,7 +153,3 @@ is_proper nodes =
 -- what a project is seen as
 pub record ProjectNodes : Type 0 where
   pub nodes : List Node
-
--- the project of these nodes, where they are a proper one
-abbrev pub project_of : List Node → Option ProjectNodes
-project_of nodes = if is_proper nodes then Some (record { nodes = nodes }) else None

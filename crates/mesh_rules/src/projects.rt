@@ -1,8 +1,7 @@
 // Projects: the models of a folder, each after its parents.
-ghost use Rattle.std.specs.Prelude.{◌≡◌, IsTrue, IfOk};
-ghost use Rattle.mesh_rules.specs.Proper.{is_proper, project_of};
+ghost use Rattle.std.specs.Prelude.{◌≡◌, IsTrue};
+ghost use Rattle.mesh_rules.specs.Proper.{is_proper};
 
-use crate::proper::is_proper;
 use mesh_base::{Node, Nodes};
 use mesh_list::{Duplicate, Memory, Same};
 use std::marker::Model;
@@ -32,16 +31,6 @@ impl Model for Project {
 }
 
 impl Project {
-    /// The project of these nodes, and none where they aren't a proper one.
-    pub fn new(nodes: Nodes) -> Result<Option<Project>, Memory>
-        ensures { IfOk result (λ made. made ≡ project_of nodes) }
-    {
-        if is_proper(nodes.as_slice())? {
-            return Ok(Some(Project { nodes }));
-        }
-        Ok(None)
-    }
-
     /// Each project is proper.
     pub fn as_slice(&self) -> &[Node]
         ensures nodes { result.now ≡ self.now.nodes }

@@ -168,9 +168,13 @@ pub(crate) fn in_turn<A: Drop, B: Drop>(
 ) -> Result<(A, B), ReadFault>
     ensures { Gives result (in_turn a b) }
 {
-    let x = a?;
-    let y = b?;
-    Ok((x, y))
+    match a {
+        Ok(x) => Ok((x, b?)),
+        Err(fault) => {
+            drop(b);
+            Err(fault)
+        }
+    }
 }
 
 pub(crate) fn case_over(

@@ -1,5 +1,6 @@
 -- The second that a cell stands for is its time value.
 use Rattle.std.proofs.Common.{◌≡◌, Some, None, ℤ, ◌↔◌, sym, ◌∙◌, ap, refl}
+use Rattle.std.specs.Prelude.{MatchOption}
 use Rattle.std.specs.declared.option.Option.{Option}
 use Rattle.std.specs.Option.{option_map}
 use Rattle.mesh_values.specs.declared.values.Cell.{Cell}
@@ -29,3 +30,16 @@ its_time (Truth b) t h = absurd h
 
 pub time_value : (cell : Cell) (t : ℤ) → (time_of cell ≡ Some t) ↔ IsTimeValue cell t
 time_value cell t = (is_time cell t, its_time cell t)
+
+-- a cell without a time value stands for no second
+pub no_second : (cell : Cell) → ((t : ℤ) → ¬ IsTimeValue cell t) → time_of cell ≡ None
+no_second cell never = at (time_of cell) refl
+  where
+    at : (o : Option ℤ) → o ≡ time_of cell → o ≡ None
+    at None e = refl
+    at (Some t) e = absurd (never t ((time_value cell t).0 (sym e)))
+
+-- what tells the time value of a cell, where it has one, tells its second
+pub second_is : (cell : Cell) (r : Option ℤ) → MatchOption r ((t : ℤ) → ¬ IsTimeValue cell t) (λ t. IsTimeValue cell t) → r ≡ time_of cell
+second_is cell None never = sym (no_second cell never)
+second_is cell (Some t) is = sym ((time_value cell t).1 is)

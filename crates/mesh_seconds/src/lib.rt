@@ -1,8 +1,10 @@
 //! The second that a cell stands for, and which rows lie in a range of seconds by their time column. Its contract is its
-//! definitions, in `Times`, with the law that the second of a cell is its time value. It stands on `mesh_casts` and
-//! `mesh_days`.
+//! definitions, in `Times` and `Rows`, with the law that the second of a cell is its time value: `second_in`, `is_within`
+//! and `lies_in` answer just what these say, and `rewrite` leaves just those rows. It stands on `mesh_casts` and `mesh_days`.
 #![tactic(auto)]
 
 mod laws;
+mod rows;
 
 pub use laws::seconds_are_time_values;
+pub use rows::{is_within, lies_in, rewrite, second_in};

@@ -35,7 +35,7 @@ use Rattle.mesh_house.specs.declared.world.World.{World}
 use Rattle.mesh_house.specs.declared.world.Change.TheVariants.{WriteRange}
 use Rattle.mesh_house.specs.Objects.{is_physical, object_name}
 use Rattle.mesh_house.specs.Step.{step, written_at, written_body, written_object}
-use Rattle.mesh_house.specs.Times.{rewritten}
+use Rattle.mesh_seconds.specs.Rows.{rewritten}
 use Rattle.mesh_house.specs.World.{body_of, object_at, rows_of, version_of}
 use Rattle.mesh_house.proofs.Tested.{all-exchanged}
 use Rattle.mesh_listed.specs.Closing.{closing, IsSnapshot}

@@ -60,8 +60,8 @@ macro_long at (b ∷ bs) = either (begins_word b) _ _ (λ _. either (nat_le (wor
 piece_long : (at b : ℕ) (bs : List ℕ) → Long (piece_at at b bs)
 unfolding piece_at word_at number_at text_at
 piece_long at b bs = either (is_blank b) _ _ (λ _. omega arith)
-    (λ _. either (begins_word b) _ _ (λ w. either (nat_le (word_len (b ∷ bs)) longest_name) _ _ (λ _. some_word b bs w) (λ _. tt))
-    (λ _. either (is_digit b) _ _ (λ d. either (nat_le (decimal (take (digits_len (b ∷ bs)) (b ∷ bs))) greatest) _ _ (λ _. some_digits b bs d) (λ _. tt))
+    (λ _. either (begins_word b) _ _ (λ w. either (nat_le (word_len (b ∷ bs)) longest_name) _ _ (λ _. some_word (b ∷ bs) (omega arith) w) (λ _. tt))
+    (λ _. either (is_digit b) _ _ (λ d. either (nat_le (decimal (take (digits_len (b ∷ bs)) (b ∷ bs))) greatest) _ _ (λ _. some_digits (b ∷ bs) (omega arith) d) (λ _. tt))
     (λ _. either (b == 39) _ _ (λ _. text_long at bs (text_len bs))
     (λ _. either (b == 64) _ _ (λ _. macro_long at bs) (λ _. sign_long at b bs)))))
 

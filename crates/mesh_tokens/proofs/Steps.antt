@@ -8,7 +8,7 @@ use Rattle.mesh_tokens.specs.declared.faults.ReadFault.{ReadFault}
 use Rattle.mesh_tokens.specs.declared.tokens.Token.{Token}
 use Rattle.mesh_tokens.specs.declared.tokens.TokenKind.{TokenKind}
 use Rattle.mesh_tokens.specs.Letters.{begins_word, is_digit, decimal_after}
-use Rattle.mesh_tokens.specs.Pieces.{Piece, piece_at, piece_of, word_len, digits_len, greatest, text_len}
+use Rattle.mesh_tokens.specs.Pieces.{Piece, piece_at, piece_of, word_len, digits_len, greatest, note_len, text_len}
 use Rattle.mesh_tokens.specs.Gives.{Gives, Refuses}
 use Rattle.mesh_tokens.specs.declared.faults.ReadFault.TheVariants as faults
 use Rattle.mesh_tokens.specs.Text.{tokens, tokens_from, with_piece, largest_file}
@@ -71,11 +71,13 @@ word_begins b h = by_letter (is_letter b) (nat_le 48 b && nat_le b 57) (b == 95)
     by_letter false true u h = refl
     by_letter false false u h = h
 
-pub some_word : (b : ℕ) (bs : List ℕ) → begins_word b ≡ true → 1 ≤ word_len (b ∷ bs)
-some_word b bs h = rw (word_begins b h) (omega arith)
+pub some_word : (bs : List ℕ) → 1 ≤ length bs → begins_word (get_or bs 0 0) ≡ true → 1 ≤ word_len bs
+some_word [] some h = absurd (omega arith)
+some_word (b ∷ bs) some h = rw (word_begins b h) (omega arith)
 
-pub some_digits : (b : ℕ) (bs : List ℕ) → is_digit b ≡ true → 1 ≤ digits_len (b ∷ bs)
-some_digits b bs h = rw h (omega arith)
+pub some_digits : (bs : List ℕ) → 1 ≤ length bs → is_digit (get_or bs 0 0) ≡ true → 1 ≤ digits_len bs
+some_digits [] some h = absurd (omega arith)
+some_digits (b ∷ bs) some h = rw h (omega arith)
 
 -- digits say too much where the number in front of them does, or with the first of them
 pub too_many_digits : (n : ℕ) (rest : List ℕ) → 1 ≤ length rest → 922337203685477580 < n → greatest < decimal_after n rest
@@ -87,25 +89,25 @@ too_great_digit n d [] some is big = absurd (omega arith)
 too_great_digit n d (b ∷ bs) some is big = let more : 10 * n + (b - 48) ≤ decimal_after n (b ∷ bs) = digits_grow (10 * n + (b - 48)) bs in omega (more, big, is, arith)
 
 -- a text passes over each byte that is no quote, and over two quotes; a quote without another one closes it
-pub passes_byte : (bs : List ℕ) (at x : ℕ) → at < length bs → x ≡ get_or bs at 0 → (x == 39) ≡ false → text_len (drop at bs) ≡ option_map suc (text_len (drop (suc at) bs))
+passes_byte : (bs : List ℕ) (at x : ℕ) → at < length bs → x ≡ get_or bs at 0 → (x == 39) ≡ false → text_len (drop at bs) ≡ option_map suc (text_len (drop (suc at) bs))
 passes_byte [] at x lt here other = absurd (omega arith)
 passes_byte (b ∷ []) zero x lt here other = rw (ap (λ (k : ℕ). k == 39) (sym here) ∙ other) refl
 passes_byte (b ∷ c ∷ bs) zero x lt here other = rw (ap (λ (k : ℕ). k == 39) (sym here) ∙ other) refl
 passes_byte (b ∷ bs) (suc at) x lt here other = passes_byte bs at x (omega arith) here other
 
-pub passes_pair : (bs : List ℕ) (at x y : ℕ) → suc at < length bs → x ≡ get_or bs at 0 → y ≡ get_or bs (suc at) 0 → (x == 39) ≡ true → (y == 39) ≡ true → text_len (drop at bs) ≡ option_map (λ n. 2 + n) (text_len (drop (suc (suc at)) bs))
+passes_pair : (bs : List ℕ) (at x y : ℕ) → suc at < length bs → x ≡ get_or bs at 0 → y ≡ get_or bs (suc at) 0 → (x == 39) ≡ true → (y == 39) ≡ true → text_len (drop at bs) ≡ option_map (λ n. 2 + n) (text_len (drop (suc (suc at)) bs))
 passes_pair [] at x y lt here next one two = absurd (omega arith)
 passes_pair (b ∷ []) at x y lt here next one two = absurd (omega arith)
 passes_pair (b ∷ c ∷ bs) zero x y lt here next one two = rw (ap (λ (k : ℕ). k == 39) (sym here) ∙ one, ap (λ (k : ℕ). k == 39) (sym next) ∙ two) refl
 passes_pair (b ∷ bs) (suc at) x y lt here next one two = passes_pair bs at x y (omega arith) here next one two
 
-pub closes_last : (bs : List ℕ) (at x : ℕ) → suc at ≡ length bs → x ≡ get_or bs at 0 → (x == 39) ≡ true → text_len (drop at bs) ≡ Some 0
+closes_last : (bs : List ℕ) (at x : ℕ) → suc at ≡ length bs → x ≡ get_or bs at 0 → (x == 39) ≡ true → text_len (drop at bs) ≡ Some 0
 closes_last [] at x last here one = absurd (omega arith)
 closes_last (b ∷ []) zero x last here one = rw (ap (λ (k : ℕ). k == 39) (sym here) ∙ one) refl
 closes_last (b ∷ c ∷ bs) zero x last here one = absurd (omega (last, arith))
 closes_last (b ∷ bs) (suc at) x last here one = closes_last bs at x (omega (last, arith)) here one
 
-pub closes_here : (bs : List ℕ) (at x y : ℕ) → suc at < length bs → x ≡ get_or bs at 0 → y ≡ get_or bs (suc at) 0 → (x == 39) ≡ true → (y == 39) ≡ false → text_len (drop at bs) ≡ Some 0
+closes_here : (bs : List ℕ) (at x y : ℕ) → suc at < length bs → x ≡ get_or bs at 0 → y ≡ get_or bs (suc at) 0 → (x == 39) ≡ true → (y == 39) ≡ false → text_len (drop at bs) ≡ Some 0
 closes_here [] at x y lt here next one other = absurd (omega arith)
 closes_here (b ∷ []) at x y lt here next one other = absurd (omega arith)
 closes_here (b ∷ c ∷ bs) zero x y lt here next one other = rw (ap (λ (k : ℕ). k == 39) (sym here) ∙ one, ap (λ (k : ℕ). k == 39) (sym next) ∙ other) refl
@@ -150,6 +152,63 @@ text_has_quote bs at x y all lt here after one two so_far =
 
     first : at + 1 ≡ suc at
     first = omega arith
+
+-- the length that is found at a place
+found_at : (at : ℕ) (o all : Option ℕ) → o ≡ Some 0 → option_map (λ n. at + n) o ≡ all → Some at ≡ all
+found_at at o all found so_far = ap Some same ∙ ap (option_map (λ n. at + n)) (sym found) ∙ so_far
+  where
+    same : at ≡ at + 0
+    same = omega arith
+
+pub text_ends : (bs : List ℕ) (at x : ℕ) (all : Option ℕ) → at + 1 ≡ length bs → x ≡ get_or bs at 0 → (x == 39) ≡ true → option_map (λ n. at + n) (text_len (drop at bs)) ≡ all → Some at ≡ all
+text_ends bs at x all last here one so_far = found_at at (text_len (drop at bs)) all (closes_last bs at x (omega arith) here one) so_far
+
+pub text_closes : (bs : List ℕ) (at x y : ℕ) (all : Option ℕ) → at + 1 < length bs → x ≡ get_or bs at 0 → y ≡ get_or bs (at + 1) 0 → (x == 39) ≡ true → (y == 39) ≡ false → option_map (λ n. at + n) (text_len (drop at bs)) ≡ all → Some at ≡ all
+text_closes bs at x y all lt here after one other so_far =
+    found_at at (text_len (drop at bs)) all (closes_here bs at x y (omega arith) here (subst (λ (k : ℕ). y ≡ get_or bs k 0) first after) one other) so_far
+  where
+    first : at + 1 ≡ suc at
+    first = omega arith
+
+-- a comment goes on over each byte that closes it not with the next one, and no last byte closes it
+note_passes : (bs : List ℕ) (at x y : ℕ) → suc at < length bs → x ≡ get_or bs at 0 → y ≡ get_or bs (suc at) 0 → ((x == 42) && (y == 47)) ≡ false
+    → note_len (drop at bs) ≡ option_map suc (note_len (drop (suc at) bs))
+note_passes [] at x y lt here next other = absurd (omega arith)
+note_passes (b ∷ []) at x y lt here next other = absurd (omega arith)
+note_passes (b ∷ c ∷ bs) zero x y lt here next other = rw (ap₂ (λ (k m : ℕ). (k == 42) && (m == 47)) (sym here) (sym next) ∙ other) refl
+note_passes (b ∷ bs) (suc at) x y lt here next other = note_passes bs at x y (omega arith) here next other
+
+note_stops : (bs : List ℕ) (at x y : ℕ) → suc at < length bs → x ≡ get_or bs at 0 → y ≡ get_or bs (suc at) 0 → ((x == 42) && (y == 47)) ≡ true → note_len (drop at bs) ≡ Some 0
+note_stops [] at x y lt here next one = absurd (omega arith)
+note_stops (b ∷ []) at x y lt here next one = absurd (omega arith)
+note_stops (b ∷ c ∷ bs) zero x y lt here next one = rw (ap₂ (λ (k m : ℕ). (k == 42) && (m == 47)) (sym here) (sym next) ∙ one) refl
+note_stops (b ∷ bs) (suc at) x y lt here next one = note_stops bs at x y (omega arith) here next one
+
+note_last : (bs : List ℕ) (at : ℕ) → suc at ≡ length bs → note_len (drop at bs) ≡ None
+note_last [] at last = absurd (omega arith)
+note_last (b ∷ []) zero last = refl
+note_last (b ∷ c ∷ bs) zero last = absurd (omega (last, arith))
+note_last (b ∷ bs) (suc at) last = note_last bs at (omega (last, arith))
+
+pub note_ends : (bs : List ℕ) (at : ℕ) (all : Option ℕ) → at + 1 ≡ length bs → option_map (λ n. at + n) (note_len (drop at bs)) ≡ all → None ≡ all
+note_ends bs at all last so_far = ap (option_map (λ n. at + n)) (sym (note_last bs at (omega (last, arith)))) ∙ so_far
+
+pub note_closes : (bs : List ℕ) (at x y : ℕ) (all : Option ℕ) → at + 1 < length bs → x ≡ get_or bs at 0 → y ≡ get_or bs (at + 1) 0 → ((x == 42) && (y == 47)) ≡ true
+    → option_map (λ n. at + n) (note_len (drop at bs)) ≡ all → Some at ≡ all
+note_closes bs at x y all lt here after one so_far =
+    found_at at (note_len (drop at bs)) all (note_stops bs at x y (omega arith) here (subst (λ (k : ℕ). y ≡ get_or bs k 0) first after) one) so_far
+  where
+    first : at + 1 ≡ suc at
+    first = omega arith
+
+pub note_goes_on : (bs : List ℕ) (at x y : ℕ) (all : Option ℕ) → at + 1 < length bs → x ≡ get_or bs at 0 → y ≡ get_or bs (at + 1) 0 → ((x == 42) && (y == 47)) ≡ false
+    → option_map (λ n. at + n) (note_len (drop at bs)) ≡ all → option_map (λ n. (at + 1) + n) (note_len (drop (at + 1) bs)) ≡ all
+note_goes_on bs at x y all lt here after other so_far =
+    ap (λ (k : ℕ). option_map (λ n. (at + 1) + n) (note_len (drop k bs))) next ∙ one_more at (note_len (drop (suc at) bs))
+    ∙ ap (option_map (λ n. at + n)) (sym (note_passes bs at x y (omega arith) here (subst (λ (k : ℕ). y ≡ get_or bs k 0) next after) other)) ∙ so_far
+  where
+    next : at + 1 ≡ suc at
+    next = omega arith
 
 -- a text that is no larger than a file is read from its first byte
 pub read_from_first : (bytes : List ℕ) → length bytes ≤ largest_file → tokens bytes ≡ tokens_from [] 0 0 bytes

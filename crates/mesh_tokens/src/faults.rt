@@ -6,7 +6,7 @@ use mesh_list::Memory;
 use mesh_values::{CronFault, Name, Names, Str};
 
 /// What is wrong, in the order of the printed faults M1 to M20, of which M17 has two.
-#[derive(Drop, PartialEq, Eq)]
+#[derive(Drop)]
 pub enum FaultKind {
     Syntax,
     TooLarge { what: Str, limit: u64 },
@@ -32,7 +32,7 @@ pub enum FaultKind {
 }
 
 /// `at` is a place in the text's bytes.
-#[derive(Drop, PartialEq, Eq)]
+#[derive(Drop)]
 pub enum ReadFault {
     Fault { at: u64, kind: FaultKind },
     Memory,

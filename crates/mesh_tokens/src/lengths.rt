@@ -1,5 +1,5 @@
 // How far the pieces of a text go.
-ghost use Rattle.std.specs.Prelude.{◌≡◌, ◌≤◌, ◌<◌, ◌+◌, length, IfSome};
+ghost use Rattle.std.specs.Prelude.{◌≡◌, ◌≤◌, ◌<◌, ◌+◌, ◌==◌, ◌&&◌, length, IfSome};
 ghost use Rattle.std.specs.Str.Lossy.{utf8_valid_len};
 ghost use Rattle.mesh_tokens.specs.Pieces.{digits_len, line_len, note_len, text_len, word_len};
 
@@ -66,24 +66,27 @@ pub(crate) fn text_len(bytes: &[u8]) -> Option<usize>
     None
 }
 
+// A star and a slash.
+fn closes_note(first: u8, second: u8) -> bool
+    ensures { result ≡ ((first == 42) && (second == 47)) }
+{
+    first == b'*' && second == b'/'
+}
+
 /// The bytes in front of the star and the slash that close a comment.
 pub(crate) fn note_len(bytes: &[u8]) -> Option<usize>
     ensures value { result ≡ note_len bytes.now }
     ensures within { IfSome result (λ n. n + 1 < length bytes.now) }
 {
-    let mut rest = bytes;
-    let mut passed = 0;
-    while let [first, after @ ..] = rest {
-        match after {
-            [] => return None,
-            [second, ..] => {
-                if *first == b'*' && *second == b'/' {
-                    return Some(passed);
-                }
-                passed += 1;
-                rest = after;
-            }
+    let mut at = 0;
+    while at < bytes.len() {
+        if at + 1 == bytes.len() {
+            return None;
         }
+        if closes_note(bytes[at], bytes[at + 1]) {
+            return Some(at);
+        }
+        at += 1;
     }
     None
 }

@@ -1,7 +1,8 @@
 // The piece that a text begins with: a blank, a comment or a token.
-ghost use Rattle.std.specs.Prelude.{◌≡◌, ◌≤◌, ◌<◌, ◌+◌, ◌^◌, IfOk, MatchOption, length};
+ghost use Rattle.std.specs.Prelude.{◌≡◌, ◌≤◌, ◌<◌, ◌+◌, ◌^◌, IfOk, MatchOption, Some, length};
 ghost use Rattle.mesh_tokens.specs.declared.faults.FaultKind.TheVariants.{Syntax};
 ghost use Rattle.mesh_tokens.specs.declared.faults.ReadFault.TheVariants.{Fault};
+ghost use Rattle.mesh_tokens.specs.declared.tokens.TokenKind.TheVariants.{Text};
 ghost use Rattle.mesh_tokens.specs.Gives.{Gives};
 ghost use Rattle.mesh_tokens.specs.Letters.{decimal, lowered};
 ghost use Rattle.mesh_tokens.specs.Pieces.{greatest, last_at, line_at, long_sign, macro_at, note_at, number_at, pair_at, piece_at, piece_of, sign_at, text_at, too_large, unquoted, word_at, word_len, digits_len};
@@ -51,8 +52,9 @@ fn no_token(at: usize) -> ReadFault
 
 #[tactic(auto, unfolding(crate::specs::Pieces::word_at))]
 fn word_at(alloc: Global, at: usize, bytes: &[u8]) -> Result<Piece, ReadFault>
+    requires { 1 ≤ word_len bytes.now }
     ensures gives { Gives result (word_at at bytes.now) }
-    ensures within { IfOk result (λ piece. (piece.1 ≡ word_len bytes.now) × (piece.1 ≤ length bytes.now)) }
+    ensures within { IfOk result (λ piece. (1 ≤ piece.1) × (piece.1 ≤ length bytes.now)) }
 {
     let end = word_len(bytes);
     if end as u64 > LONGEST_NAME {
@@ -82,8 +84,9 @@ fn decimal(digits: &[u8]) -> Option<u64>
 
 #[tactic(auto, unfolding(crate::specs::Pieces::number_at))]
 fn number_at(alloc: Global, at: usize, bytes: &[u8]) -> Result<Piece, ReadFault>
+    requires { 1 ≤ digits_len bytes.now }
     ensures gives { Gives result (number_at at bytes.now) }
-    ensures within { IfOk result (λ piece. (piece.1 ≡ digits_len bytes.now) × (piece.1 ≤ length bytes.now)) }
+    ensures within { IfOk result (λ piece. (1 ≤ piece.1) × (piece.1 ≤ length bytes.now)) }
 {
     let end = digits_len(bytes);
     match decimal(&bytes[..end]) {
@@ -136,6 +139,14 @@ fn unquoted(alloc: Global, bytes: &[u8]) -> Result<Str, Memory>
     Ok(made)
 }
 
+// A text, whose bytes between the quotes these are, and its length with both quotes.
+fn text_said(alloc: Global, body: &[u8], end: usize) -> Result<Piece, Memory>
+    requires { end < 2 ^ 63 }
+    ensures { IfOk result (λ piece. piece ≡ (Some (Text (unquoted body.now)), 2 + end)) }
+{
+    Ok((Some(TokenKind::Text(unquoted(alloc, body)?)), end + 2))
+}
+
 #[tactic(auto, unfolding(crate::specs::Pieces::text_at))]
 fn text_at(alloc: Global, at: usize, bytes: &[u8]) -> Result<Piece, ReadFault>
     requires { at + length bytes.now < 2 ^ 63 }
@@ -147,10 +158,10 @@ fn text_at(alloc: Global, at: usize, bytes: &[u8]) -> Result<Piece, ReadFault>
         Some(end) => {
             let body = &bytes[..end];
             let valid = valid_len(body);
-            if valid != body.len() {
+            if valid != end {
                 return Err(no_token(at + 1 + valid));
             }
-            Ok((Some(TokenKind::Text(unquoted(alloc, body)?)), end + 2))
+            Ok(text_said(alloc, body, end)?)
         }
     }
 }
@@ -196,7 +207,19 @@ fn long_sign(alloc: Global, first: u8, second: u8) -> Result<TokenKind, Memory>
     Ok(TokenKind::Sign(copied(alloc, &[first, second])?))
 }
 
-#[tactic(auto, unfolding(crate::specs::Pieces::pair_at))]
+#[tactic(auto, unfolding(crate::specs::Pieces::last_at))]
+fn last_at(alloc: Global, at: usize, first: u8) -> Result<Piece, ReadFault>
+    ensures gives { Gives result (last_at at first) }
+    ensures within { IfOk result (λ piece. piece.1 ≡ 1) }
+{
+    if is_sign(first) {
+        Ok((Some(TokenKind::Sign(copied(alloc, &[first])?)), 1))
+    } else {
+        Err(no_token(at))
+    }
+}
+
+#[tactic(auto, unfolding(crate::specs::Pieces::pair_at, crate::specs::Pieces::last_at))]
 fn pair_at(alloc: Global, at: usize, first: u8, second: u8, rest: &[u8]) -> Result<Piece, ReadFault>
     requires { at + length rest.now < 2 ^ 63 }
     ensures gives { Gives result (pair_at at first second rest.now) }
@@ -208,22 +231,8 @@ fn pair_at(alloc: Global, at: usize, first: u8, second: u8, rest: &[u8]) -> Resu
         note_at(at, rest)
     } else if is_long_sign(first, second) {
         Ok((Some(long_sign(alloc, first, second)?), 2))
-    } else if is_sign(first) {
-        Ok((Some(TokenKind::Sign(copied(alloc, &[first])?)), 1))
     } else {
-        Err(no_token(at))
-    }
-}
-
-#[tactic(auto, unfolding(crate::specs::Pieces::last_at))]
-fn last_at(alloc: Global, at: usize, first: u8) -> Result<Piece, ReadFault>
-    ensures gives { Gives result (last_at at first) }
-    ensures within { IfOk result (λ piece. piece.1 ≡ 1) }
-{
-    if is_sign(first) {
-        Ok((Some(TokenKind::Sign(copied(alloc, &[first])?)), 1))
-    } else {
-        Err(no_token(at))
+        last_at(alloc, at, first)
     }
 }
 

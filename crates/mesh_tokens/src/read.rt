@@ -1,14 +1,14 @@
 // Reads the tokens of a text.
-ghost use Rattle.std.specs.Prelude.{◌≡◌, true, ℕ, List, Ok};
+ghost use Rattle.std.specs.Prelude.{◌≡◌, ◌<◌, ◌+◌, ◌^◌, true, ℕ, List, Ok, OnOk};
 ghost use Rattle.mesh_tokens.specs.declared.tokens.Token.{Token};
 ghost use Rattle.mesh_tokens.specs.Gives.{Gives};
 ghost use Rattle.mesh_tokens.specs.Pieces.{too_large};
-ghost use Rattle.mesh_tokens.specs.Text.{file_word, in_order, largest_file, tokens};
+ghost use Rattle.mesh_tokens.specs.Text.{file_word, in_order, largest_file, tokens, with_piece};
 
 use crate::faults::{FaultKind, ReadFault};
 use crate::pieces::{copied, piece_at};
-use crate::tokens::{Token, Tokens};
-use mesh_list::Seq;
+use crate::tokens::{Token, TokenKind, Tokens};
+use mesh_list::{Memory, Seq};
 use mesh_values::LARGEST_FILE;
 use std::alloc::Global;
 
@@ -23,6 +23,21 @@ fn file_too_large(alloc: Global) -> Result<Tokens, ReadFault>
             limit: LARGEST_FILE,
         },
     })
+}
+
+// Puts a piece of so many bytes at this place behind the tokens before it, if it is a token.
+fn put(made: &mut Tokens, at: usize, length: usize, kind: Option<TokenKind>) -> Result<(), Memory>
+    requires { at + length < 2 ^ 63 }
+    ensures { OnOk result (made.new ≡ with_piece made.old at (kind, length)) }
+{
+    match kind {
+        None => Ok(()),
+        Some(kind) => made.push(Token {
+            start: at as u64,
+            end: (at + length) as u64,
+            kind,
+        }),
+    }
 }
 
 /// The tokens of a model file or of a query (at most 1,048,576 bytes of UTF-8), each with its place in bytes. Blanks
@@ -41,13 +56,7 @@ pub fn tokens_of(alloc: Global, bytes: &[u8]) -> Result<Tokens, ReadFault>
     while at < bytes.len() {
         let (_, rest) = bytes.split_at(at);
         let (kind, length) = piece_at(alloc, at, rest)?;
-        if let Some(kind) = kind {
-            made.push(Token {
-                start: at as u64,
-                end: (at + length) as u64,
-                kind,
-            })?;
-        }
+        put(&mut made, at, length, kind)?;
         at += length;
     }
     Ok(made)

@@ -1,14 +1,18 @@
 // Functions and aggregates, over their arguments.
-ghost use Rattle.std.specs.Prelude.{◌≡◌, IfOk};
-ghost use Rattle.mesh_tokens.specs.Gives.{Gives};
-ghost use Rattle.mesh_types.specs.Forms.{call, unary, alternatives, aggregate, only, counted, summed, extreme, called, starred, distinct};
+ghost use Rattle.std.specs.Prelude.{◌≡◌, ◌∷◌, [], IfOk};
+ghost use Rattle.std.specs.declared.option.Option.TheVariants.{Some};
+ghost use Rattle.mesh_values.specs.declared.values.ColType.TheVariants.{Int};
+ghost use Rattle.mesh_base.specs.declared.expressions.Expr.{CountAll};
+ghost use Rattle.mesh_base.specs.declared.expressions.AggKind.TheVariants.{Count};
+ghost use Rattle.mesh_tokens.specs.Gives.{Gives, ◌>>=◌ as ◌onto◌};
+ghost use Rattle.mesh_types.specs.Forms.{call, unary, alternatives, aggregate, only, counted, summed, extreme, called, with_parts, starred, distinct};
 
-use crate::faults::{mismatch, unwritten};
+use crate::faults::unwritten;
 use crate::kinds::{are_one_kind, first_kind, may_be};
 use crate::lists::{all_marks, exprs_of, kinds_of};
-use crate::typed::{Typed, Typeds, with_parts};
+use crate::typed::{Typed, Typeds, judged, with_parts};
 use mesh_base::{AggKind, Expr, Func};
-use mesh_list::{Memory, Seq};
+use mesh_list::{Memory, Seq, together};
 use mesh_surface::Function;
 use mesh_tokens::ReadFault;
 use mesh_values::ColType;
@@ -23,8 +27,7 @@ fn call(
 ) -> Result<Typed, Memory>
     ensures { IfOk result (λ made. made ≡ call at kind func ts) }
 {
-    let marks = all_marks(&ts)?;
-    let args = exprs_of(ts)?;
+    let (marks, args) = together(all_marks(&ts), exprs_of(ts))?;
     with_parts(alloc, at, kind, Expr::Call { func, args }, marks)
 }
 
@@ -42,22 +45,15 @@ fn unary(
         [t] => t.kind,
         _ => return Err(unwritten(at)),
     };
-    if may_be(from, kind) {
-        Ok(call(alloc, at, Some(to), func, ts)?)
-    } else {
-        Err(mismatch(at))
-    }
+    judged(may_be(from, kind), at, call(alloc, at, Some(to), func, ts))
 }
 
 fn alternatives(alloc: Global, at: u64, func: Func, ts: Typeds) -> Result<Typed, ReadFault>
     ensures { Gives result (alternatives at func ts) }
 {
     let kinds = kinds_of(&ts)?;
-    if are_one_kind(kinds.as_slice()) {
-        Ok(call(alloc, at, first_kind(kinds.as_slice()), func, ts)?)
-    } else {
-        Err(mismatch(at))
-    }
+    let made = call(alloc, at, first_kind(kinds.as_slice()), func, ts);
+    judged(are_one_kind(kinds.as_slice()), at, made)
 }
 
 fn aggregate(
@@ -84,19 +80,28 @@ fn counted(alloc: Global, at: u64, kind: AggKind, t: Typed) -> Result<Typed, Rea
     Ok(aggregate(alloc, at, kind, Some(ColType::Int), t)?)
 }
 
-fn summed(alloc: Global, at: u64, t: Typed) -> Result<Typed, ReadFault>
-    ensures { Gives result (summed at t) }
+fn count(alloc: Global, at: u64, ts: Typeds) -> Result<Typed, ReadFault>
+    ensures { Gives result (only at ts onto counted at Count) }
 {
-    if may_be(ColType::Int, t.kind) {
-        Ok(aggregate(alloc, at, AggKind::Sum, Some(ColType::Int), t)?)
-    } else {
-        Err(mismatch(at))
-    }
+    counted(alloc, at, AggKind::Count, only(at, ts)?)
 }
 
-fn extreme(alloc: Global, at: u64, kind: AggKind, t: Typed) -> Result<Typed, ReadFault>
-    ensures { Gives result (extreme at kind t) }
+fn summed(alloc: Global, at: u64, ts: Typeds) -> Result<Typed, ReadFault>
+    ensures { Gives result (only at ts onto summed at) }
 {
+    let t = only(at, ts)?;
+    let fits = may_be(ColType::Int, t.kind);
+    judged(
+        fits,
+        at,
+        aggregate(alloc, at, AggKind::Sum, Some(ColType::Int), t),
+    )
+}
+
+fn extreme(alloc: Global, at: u64, kind: AggKind, ts: Typeds) -> Result<Typed, ReadFault>
+    ensures { Gives result (only at ts onto extreme at kind) }
+{
+    let t = only(at, ts)?;
     let of = t.kind;
     Ok(aggregate(alloc, at, kind, of, t)?)
 }
@@ -129,11 +134,20 @@ pub fn called(alloc: Global, at: u64, function: Function, ts: Typeds) -> Result<
         Function::Lower => unary(alloc, at, Func::Lower, ColType::Text, ColType::Text, ts),
         Function::Nullif => alternatives(alloc, at, Func::Nullif, ts),
         Function::Coalesce => alternatives(alloc, at, Func::Coalesce, ts),
-        Function::Count => counted(alloc, at, AggKind::Count, only(at, ts)?),
-        Function::Sum => summed(alloc, at, only(at, ts)?),
-        Function::Min => extreme(alloc, at, AggKind::Min, only(at, ts)?),
-        Function::Max => extreme(alloc, at, AggKind::Max, only(at, ts)?),
+        Function::Count => count(alloc, at, ts),
+        Function::Sum => summed(alloc, at, ts),
+        Function::Min => extreme(alloc, at, AggKind::Min, ts),
+        Function::Max => extreme(alloc, at, AggKind::Max, ts),
     }
+}
+
+// The place of COUNT(*) is its mark.
+fn count_all(alloc: Global, at: u64) -> Result<Typed, Memory>
+    ensures { IfOk result (λ made. made ≡ with_parts at (Some Int) CountAll (at ∷ [])) }
+{
+    let mut mark = Seq::new(alloc);
+    mark.push(at)?;
+    with_parts(alloc, at, Some(ColType::Int), Expr::CountAll, mark)
 }
 
 /// A function of `*`, which is COUNT alone.
@@ -141,11 +155,7 @@ pub fn starred(alloc: Global, at: u64, function: Function) -> Result<Typed, Read
     ensures { Gives result (starred at function) }
 {
     match function {
-        Function::Count => {
-            let mut mark = Seq::new(alloc);
-            mark.push(at)?;
-            Ok(with_parts(alloc, at, Some(ColType::Int), Expr::CountAll, mark)?)
-        }
+        Function::Count => Ok(count_all(alloc, at)?),
         _ => Err(unwritten(at)),
     }
 }

@@ -6,14 +6,13 @@ ghost use Rattle.mesh_tokens.specs.Walk.{all_of};
 ghost use Rattle.mesh_types.specs.Forms.{test, arm, when, arm_marks, arm_kind, else_or_null, choice, case_of, cased};
 ghost use Rattle.mesh_types.specs.Sizes.{IsSmall};
 
-use crate::faults::mismatch;
 use crate::forms::compared;
 use crate::kinds::{are_one_kind, first_kind, may_be};
 use crate::lists::with_marks;
 use crate::sizes::is_small;
-use crate::typed::{Arms, Typed, copied, leaf, with_parts};
+use crate::typed::{Arms, Typed, copied, judged, leaf, with_made};
 use mesh_base::{Expr, Op, When, Whens};
-use mesh_list::{Memory, Seq};
+use mesh_list::{Memory, Seq, together};
 use mesh_tokens::ReadFault;
 use mesh_values::{Cell, ColType};
 use std::alloc::Global;
@@ -23,11 +22,8 @@ fn test(alloc: Global, at: u64, operand: &Option<Typed>, t: Typed) -> Result<Typ
 {
     match operand {
         None => {
-            if may_be(ColType::Bool, t.kind) {
-                Ok(t)
-            } else {
-                Err(mismatch(at))
-            }
+            let fits = may_be(ColType::Bool, t.kind);
+            judged(fits, at, Ok(t))
         }
         Some(operand) => compared(alloc, Op::Eq, at, copied(operand)?, t),
     }
@@ -55,6 +51,13 @@ fn tested(alloc: Global, at: u64, operand: &Option<Typed>, arms: Arms) -> Result
         made.push(arm(alloc, at, operand, a)?)?;
     }
     Ok(made)
+}
+
+// The operand is dropped once each WHEN has its copy.
+fn tested_by(alloc: Global, at: u64, operand: Option<Typed>, arms: Arms) -> Result<Arms, ReadFault>
+    ensures { Gives result (all_of (map (arm at operand) arms)) }
+{
+    tested(alloc, at, &operand, arms)
 }
 
 fn kinds_of(arms: &Arms, otherwise: Option<ColType>) -> Result<Seq<Option<ColType>>, Memory>
@@ -106,20 +109,22 @@ fn choice(
         marks,
         ..
     } = otherwise;
-    let marks = with_marks(marks_of(&arms)?, &marks)?;
-    let whens = whens(arms)?;
-    with_parts(alloc, at, kind, Expr::Case { whens, otherwise }, marks)
+    let (first, whens) = together(marks_of(&arms), whens(arms))?;
+    with_made(
+        alloc,
+        at,
+        kind,
+        Expr::Case { whens, otherwise },
+        with_marks(first, &marks),
+    )
 }
 
 fn case_of(alloc: Global, at: u64, otherwise: Typed, arms: Arms) -> Result<Typed, ReadFault>
     ensures { Gives result (case_of at otherwise arms) }
 {
     let kinds = kinds_of(&arms, otherwise.kind)?;
-    if are_one_kind(kinds.as_slice()) {
-        Ok(choice(alloc, at, first_kind(kinds.as_slice()), arms, otherwise)?)
-    } else {
-        Err(mismatch(at))
-    }
+    let made = choice(alloc, at, first_kind(kinds.as_slice()), arms, otherwise);
+    judged(are_one_kind(kinds.as_slice()), at, made)
 }
 
 fn else_or_null(alloc: Global, at: u64, otherwise: Option<Typed>) -> Result<Typed, Memory>
@@ -142,8 +147,8 @@ fn written_out(
     requires { IsSmall operand arms otherwise }
     ensures { Gives result (cased at operand arms otherwise) }
 {
-    let arms = tested(alloc, at, &operand, arms)?;
     let otherwise = else_or_null(alloc, at, otherwise)?;
+    let arms = tested_by(alloc, at, operand, arms)?;
     case_of(alloc, at, otherwise, arms)
 }
 

@@ -3,13 +3,13 @@ ghost use Rattle.std.specs.Prelude.{◌≡◌, IfOk};
 ghost use Rattle.mesh_tokens.specs.Gives.{Gives};
 ghost use Rattle.mesh_types.specs.Forms.{over_two, uniform, multiplied, sum_kind, sum_op, added, negated, denied, null_test, turned, compare_op, compared_as_they_are, compared, cast};
 
-use crate::dates::as_date;
+use crate::dates::dated;
 use crate::faults::mismatch;
 use crate::kinds::{are_alike, is_date, may_be, may_cast};
 use crate::lists::with_marks;
-use crate::typed::{Typed, with_parts};
+use crate::typed::{Typed, judged, with_made, with_parts};
 use mesh_base::{Expr, Op};
-use mesh_list::Memory;
+use mesh_list::{Memory, together};
 use mesh_surface::{AddSign, Cmp, MulSign};
 use mesh_tokens::ReadFault;
 use mesh_values::ColType;
@@ -35,13 +35,12 @@ fn over_two(
         marks: behind,
         ..
     } = right;
-    let marks = with_marks(before, &behind)?;
-    with_parts(
+    with_made(
         alloc,
         at,
         Some(kind),
         Expr::Binary { op, left, right },
-        marks,
+        with_marks(before, &behind),
     )
 }
 
@@ -57,11 +56,8 @@ pub fn uniform(
 ) -> Result<Typed, ReadFault>
     ensures { Gives result (uniform kind op at left right) }
 {
-    if may_be(kind, left.kind) && may_be(kind, right.kind) {
-        Ok(over_two(alloc, at, kind, op, left, right)?)
-    } else {
-        Err(mismatch(at))
-    }
+    let fits = may_be(kind, left.kind) && may_be(kind, right.kind);
+    judged(fits, at, over_two(alloc, at, kind, op, left, right))
 }
 
 /// `*`, `/` and `%`.
@@ -154,11 +150,8 @@ pub fn negated(alloc: Global, at: u64, t: Typed) -> Result<Typed, ReadFault>
         marks,
         ..
     } = t;
-    if may_be(ColType::Int, kind) {
-        Ok(with_parts(alloc, at, Some(ColType::Int), Expr::Neg(expr), marks)?)
-    } else {
-        Err(mismatch(at))
-    }
+    let made = with_parts(alloc, at, Some(ColType::Int), Expr::Neg(expr), marks);
+    judged(may_be(ColType::Int, kind), at, made)
 }
 
 /// NOT before its operand.
@@ -172,11 +165,8 @@ pub fn denied(alloc: Global, at: u64, t: Typed) -> Result<Typed, ReadFault>
         marks,
         ..
     } = t;
-    if may_be(ColType::Bool, kind) {
-        Ok(with_parts(alloc, at, Some(ColType::Bool), Expr::Not(expr), marks)?)
-    } else {
-        Err(mismatch(at))
-    }
+    let made = with_parts(alloc, at, Some(ColType::Bool), Expr::Not(expr), marks);
+    judged(may_be(ColType::Bool, kind), at, made)
 }
 
 /// IS NULL, which asks for no type.
@@ -227,11 +217,12 @@ fn compared_as_they_are(
 ) -> Result<Typed, ReadFault>
     ensures { Gives result (compared_as_they_are op at left right) }
 {
-    if are_alike(left.kind, right.kind) {
-        Ok(over_two(alloc, at, ColType::Bool, op, left, right)?)
-    } else {
-        Err(mismatch(at))
-    }
+    let fits = are_alike(left.kind, right.kind);
+    judged(
+        fits,
+        at,
+        over_two(alloc, at, ColType::Bool, op, left, right),
+    )
 }
 
 /// A comparison. Beside a date, a text literal of a day is that date.
@@ -245,13 +236,10 @@ pub fn compared(
 ) -> Result<Typed, ReadFault>
     ensures { Gives result (compared op at left right) }
 {
-    if is_date(&left) {
-        compared_as_they_are(alloc, op, at, left, as_date(right)?)
-    } else if is_date(&right) {
-        compared_as_they_are(alloc, op, at, as_date(left)?, right)
-    } else {
-        compared_as_they_are(alloc, op, at, left, right)
-    }
+    let turn_right = is_date(&left);
+    let turn_left = !turn_right && is_date(&right);
+    let (left, right) = together(dated(turn_left, left), dated(turn_right, right))?;
+    compared_as_they_are(alloc, op, at, left, right)
 }
 
 /// CAST, and `::`.
@@ -265,9 +253,6 @@ pub fn cast(alloc: Global, at: u64, to: ColType, t: Typed) -> Result<Typed, Read
         marks,
         ..
     } = t;
-    if may_cast(to, kind) {
-        Ok(with_parts(alloc, at, Some(to), Expr::Cast { to, value }, marks)?)
-    } else {
-        Err(mismatch(at))
-    }
+    let made = with_parts(alloc, at, Some(to), Expr::Cast { to, value }, marks);
+    judged(may_cast(to, kind), at, made)
 }

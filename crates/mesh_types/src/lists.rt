@@ -29,6 +29,18 @@ pub(crate) fn with_marks(marks: Seq<u64>, more: &Seq<u64>) -> Result<Seq<u64>, M
     }
 }
 
+/// The marks of three parts, one behind the other.
+pub(crate) fn three_marks(
+    first: Seq<u64>,
+    second: Seq<u64>,
+    third: &Seq<u64>,
+) -> Result<Seq<u64>, Memory>
+    ensures { IfOk result (λ made. made ≡ first ++ (second ++ third.now)) }
+{
+    let rest = with_marks(second, third)?;
+    with_marks(first, &rest)
+}
+
 pub(crate) fn all_marks(ts: &Typeds) -> Result<Seq<u64>, Memory>
     ensures { IfOk result (λ made. made ≡ all_marks ts.now) }
 {

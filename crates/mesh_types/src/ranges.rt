@@ -6,10 +6,9 @@ ghost use Rattle.mesh_types.specs.Kinds.{is_date};
 ghost use Rattle.mesh_types.specs.Forms.{range, within, between, are_all_alike, member, among, one_of};
 
 use crate::dates::{dated, dated_all};
-use crate::faults::mismatch;
 use crate::kinds::{are_alike, is_date};
-use crate::lists::{all_marks, exprs_of, with_marks};
-use crate::typed::{Typed, Typeds, with_parts};
+use crate::lists::{all_marks, exprs_of, three_marks, with_marks};
+use crate::typed::{Typed, Typeds, judged, with_made};
 use mesh_base::Expr;
 use mesh_list::{Memory, together};
 use mesh_tokens::ReadFault;
@@ -34,24 +33,20 @@ fn range(alloc: Global, at: u64, value: Typed, low: Typed, high: Typed) -> Resul
         marks: third,
         ..
     } = high;
-    let marks = with_marks(first, &with_marks(second, &third)?)?;
-    with_parts(
+    with_made(
         alloc,
         at,
         Some(ColType::Bool),
         Expr::Between { value, low, high },
-        marks,
+        three_marks(first, second, &third),
     )
 }
 
 fn within(alloc: Global, at: u64, value: Typed, low: Typed, high: Typed) -> Result<Typed, ReadFault>
     ensures { Gives result (within at value low high) }
 {
-    if are_alike(value.kind, low.kind) && are_alike(value.kind, high.kind) {
-        Ok(range(alloc, at, value, low, high)?)
-    } else {
-        Err(mismatch(at))
-    }
+    let fits = are_alike(value.kind, low.kind) && are_alike(value.kind, high.kind);
+    judged(fits, at, range(alloc, at, value, low, high))
 }
 
 /// BETWEEN. Where one of the three is a date, the text literals of days among them are dates.
@@ -92,25 +87,21 @@ fn member(alloc: Global, at: u64, value: Typed, of: Typeds) -> Result<Typed, Mem
         marks,
         ..
     } = value;
-    let marks = with_marks(marks, &all_marks(&of)?)?;
-    let of = exprs_of(of)?;
-    with_parts(
+    let (more, of) = together(all_marks(&of), exprs_of(of))?;
+    with_made(
         alloc,
         at,
         Some(ColType::Bool),
         Expr::OneOf { value, of },
-        marks,
+        with_marks(marks, &more),
     )
 }
 
 fn among(alloc: Global, at: u64, value: Typed, of: Typeds) -> Result<Typed, ReadFault>
     ensures { Gives result (among at value of) }
 {
-    if are_all_alike(value.kind, of.as_slice()) {
-        Ok(member(alloc, at, value, of)?)
-    } else {
-        Err(mismatch(at))
-    }
+    let fits = are_all_alike(value.kind, of.as_slice());
+    judged(fits, at, member(alloc, at, value, of))
 }
 
 /// IN. Where the value or a member is a date, the text literals of days among them are dates.

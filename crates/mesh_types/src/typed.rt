@@ -1,9 +1,15 @@
 // Expressions whose columns and types are known.
-ghost use Rattle.std.specs.Prelude.{◌≡◌, IfOk};
+ghost use Rattle.std.specs.Prelude.{◌≡◌, IfOk, Ok};
+ghost use Rattle.mesh_tokens.specs.Gives.{Gives};
+ghost use Rattle.mesh_tokens.specs.Walk.{provided};
+ghost use Rattle.mesh_types.specs.Faults.{mismatch};
+ghost use Rattle.mesh_types.specs.declared.typed.Typed.{Typed};
 ghost use Rattle.mesh_types.specs.Forms.{leaf, with_parts};
 
+use crate::faults::mismatch;
 use mesh_base::Expr;
-use mesh_list::{Boxed, Duplicate, Memory, Seq, together};
+use mesh_list::{Boxed, Duplicate, Memory, Seq, both, together};
+use mesh_tokens::ReadFault;
 use mesh_values::ColType;
 use std::alloc::Global;
 
@@ -42,6 +48,32 @@ pub(crate) fn with_parts(
     })
 }
 
+/// The same with marks for which memory may be wanting.
+pub(crate) fn with_made(
+    alloc: Global,
+    at: u64,
+    kind: Option<ColType>,
+    expr: Expr,
+    marks: Result<Seq<u64>, Memory>,
+) -> Result<Typed, Memory>
+    ensures { IfOk result (λ made. (marks ≡ Ok made.marks) × (made ≡ with_parts at kind expr made.marks)) }
+{
+    let (expr, marks) = together(Boxed::new(alloc, expr), marks)?;
+    Ok(Typed {
+        at,
+        kind,
+        expr,
+        marks,
+    })
+}
+
+/// What was made, where the types that it asks for stand there.
+pub(crate) fn judged(fits: bool, at: u64, made: Result<Typed, Memory>) -> Result<Typed, ReadFault>
+    ensures { (t : Typed) → IfOk made (λ it. it ≡ t) → Gives result (provided fits t (mismatch at)) }
+{
+    if fits { Ok(made?) } else { Err(mismatch(at)) }
+}
+
 /// A literal or a macro, which has no mark.
 pub fn leaf(alloc: Global, at: u64, kind: Option<ColType>, expr: Expr) -> Result<Typed, Memory>
     ensures { IfOk result (λ made. made ≡ leaf at kind expr) }
@@ -52,7 +84,6 @@ pub fn leaf(alloc: Global, at: u64, kind: Option<ColType>, expr: Expr) -> Result
 pub(crate) fn copied(t: &Typed) -> Result<Typed, Memory>
     ensures { IfOk result (λ made. made ≡ t.now) }
 {
-    let marks = t.marks.copy()?;
-    let expr = t.expr.get().copy()?;
+    let (marks, expr) = both(&t.marks, t.expr.get())?;
     with_parts(t.expr.alloc(), t.at, t.kind, expr, marks)
 }

@@ -4,8 +4,6 @@ pub mod Drawing
 pub mod Placing
 -- Ascending: rows in ascending order.
 pub mod Ascending
--- Seconds: cells without a second.
-pub mod Seconds
 -- Models: the rows of a job that is made for a model.
 pub mod Models
 -- Crossing: what threads share.

@@ -5,8 +5,9 @@ ghost use Rattle.mesh_seconds.specs.Times.{lies_in};
 ghost use Rattle.mesh_changes.specs.Changes.{ascending};
 ghost use Rattle.mesh_wave.specs.Waves.{counts};
 
-use crate::times::{counts, lies_in};
+use crate::times::counts;
 use mesh_list::{Duplicate, Memory, Seq};
+use mesh_seconds::lies_in;
 use mesh_values::{Bounds, Column, Row, Rows, Str, sort_rows};
 use std::alloc::Global;
 

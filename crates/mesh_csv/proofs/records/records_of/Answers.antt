@@ -29,11 +29,10 @@ loop-found-init c =
 pub loop-found-preserved : goal.loop-found-preserved
 loop-found-preserved c =
     let inv = c.loop-found.invariant in
-    let s = rw (c.in-Some.is, c.in-Ok.is) at ((c.next.ensures.steps inv.2 inv.0).0 inv.1) in
-    let good : is_ok c.push.result ≡ true = search rules in
-    let items = rw good at c.push.ensures.items in
-    let m = rows-more (λ (s : Bor (List ℕ)). Some s.now) c.loop-found.found-iterator.rdr c.next.new.self.rdr (fields_of c.in-Ok.fields) default_config st.StartRecord (strip_bom c.args.text.now) inv.4 c.loop-found.list.items inv.3 inv.5 inv.6 s.0 in
-    (s.0.3 ∙ inv.0, inl s.1, s.2, s.0.2 ∙ inv.3, m.0, m.1, rw (items, c.new-in-loop-found.ensures) m.2)
+    let kept = c.in_ok-put.ensures in
+    let s = rw (c.in-Some.is, kept.1) at ((c.next.ensures.steps inv.2 inv.0).0 inv.1) in
+    let m = rows-more (λ (s : Bor (List ℕ)). Some s.now) c.loop-found.found-iterator.rdr c.next.new.self.rdr (fields_of kept.0) default_config st.StartRecord (strip_bom c.args.text.now) inv.4 c.loop-found.list.items inv.3 inv.5 inv.6 s.0 in
+    (s.0.3 ∙ inv.0, inl s.1, s.2, s.0.2 ∙ inv.3, m.0, m.1, rw kept.2 m.2)
 
 pub returns : goal.returns
 returns c =

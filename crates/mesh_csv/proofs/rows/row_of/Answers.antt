@@ -8,5 +8,5 @@ returns-in_default c = row_short c.args.kinds.now c.args.fields.now c.loop-i.i c
 
 pub loop-i-preserved : goal.loop-i-preserved
 loop-i-preserved c =
-    rw c.in_ok-push.ensures.ok (row_goes _ c.args.kinds.now c.args.fields.now c.loop-i.i c.in-Some.field.now c.loop-i.row c.in_ok-cell_of.field-0 (row_of c.args.kinds.now c.args.fields.now)
-    c.loop-i-test.true (sym c.in-Some.ensures) c.in_ok-cell_of.ensures c.loop-i.invariant)
+    rw c.in_ok-push_made.ensures.2 (row_goes _ c.args.kinds.now c.args.fields.now c.loop-i.i c.in-Some.field.now c.loop-i.row c.in_ok-push_made.ensures.0 (row_of c.args.kinds.now c.args.fields.now)
+    c.loop-i-test.true (sym c.in-Some.ensures) (rw c.in_ok-push_made.ensures.1 at c.cell_of.ensures) c.loop-i.invariant)

@@ -8,5 +8,5 @@ returns-in_default c = columns_short c.args.names.now c.args.kinds.now c.loop-i.
 
 pub loop-i-preserved : goal.loop-i-preserved
 loop-i-preserved c =
-    rw c.in_ok-push.ensures.ok (column_goes c.args.names.now c.args.kinds.now c.loop-i.i c.index-names-i.result c.in-Some.kind.now c.loop-i.columns c.in_ok-column.field-0 (columns_of c.args.names.now c.args.kinds.now)
-    c.loop-i-test.true c.index-names-i.is (sym c.in-Some.ensures.value) c.in_ok-column.ensures c.loop-i.invariant)
+    rw c.in_ok-push_made.ensures.2 (column_goes c.args.names.now c.args.kinds.now c.loop-i.i c.index-names-i.result c.in-Some.kind.now c.loop-i.columns c.in_ok-push_made.ensures.0 (columns_of c.args.names.now c.args.kinds.now)
+    c.loop-i-test.true c.index-names-i.is (sym c.in-Some.ensures.value) (rw c.in_ok-push_made.ensures.1 at c.column.ensures) c.loop-i.invariant)

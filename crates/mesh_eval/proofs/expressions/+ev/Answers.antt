@@ -50,7 +50,7 @@ ev_node-returns-in_ok-x-in-OneOf t c =
     let x = c.get-in-OneOf.result.now in
     let xs = c.as_slice.result.now in
     let v = c.in_ok-x-in-OneOf in
-    named c.ev_one_of.result (one_of v.x (Ev_each xs s)) (Ev_node c.args.e.now s) c.ev_one_of.ensures
+    named c.ev_one_of-found.result (one_of v.x (Ev_each xs s)) (Ev_node c.args.e.now s) c.ev_one_of-found.ensures
     (ap (λ y. one_of y (Ev_each xs s)) v.ensures ∙ of-one_of c.args.e.now c.in-OneOf.value x c.in-OneOf.of xs s c.in-OneOf.is c.get-in-OneOf.ensures c.as_slice.ensures)
 
 pub ev_node-returns-in-Cast : goal.ev_node-returns-in-Cast

@@ -115,14 +115,13 @@ pub sum-sums-preserved : goal.sum-sums-preserved
 sum-sums-preserved t c =
     let before = c.sums.invariant in
     let sign = c.in-Some.ensures in
-    let part = c.in_ok-part.ensures in
-    rw (c.in_ok-push.ensures.ok, c.place.ensures) (omega (arith, before.0, part.0), goes_on (λ x. x) (refl, λ z. refl) before.1 (sum_on c.in-Some.sign c.in_ok-part.part sign.2 (read_from c.meet.ensures part.1)))
+    with_read _ _ _ c.product-part.result c.in-Ok.ensures c.product-part.ensures (λ x q p. rw (q.0, q.1, c.place.ensures) (omega (arith, before.0, p.0), goes_on (λ x. x) (refl, λ z. refl) before.1 (sum_on c.in-Some.sign x.0 sign.2 (read_from c.meet.ensures p.1))))
 
-pub sum-returns-in_err-part : goal.sum-returns-in_err-part
-sum-returns-in_err-part t c =
+pub sum-returns-in-Err : goal.sum-returns-in-Err
+sum-returns-in-Err t c =
     let before = c.sums.invariant in
     let sign = c.in-Some.ensures in
-    told _ _ c.from_residual-in_err-part.result c.from_residual-in_err-part.ensures (fails_in _ c.args.tokens.now _ before.1 (fails_in _ c.args.tokens.now _ (sum_begun c.in-Some.sign sign.2) (failed_from _ _ _ _ _ _ _ c.meet.ensures c.in_err-part.ensures)))
+    rw c.given_up.ensures (fails_in _ c.args.tokens.now _ before.1 (fails_in _ c.args.tokens.now _ (sum_begun c.in-Some.sign sign.2) (failed_from _ _ _ _ _ _ _ c.meet.ensures (unread _ _ c.product-part.result c.in-Err.ensures c.product-part.ensures tt))))
 
 pub sum-returns : goal.sum-returns
 sum-returns t c =
@@ -141,14 +140,13 @@ pub product-products-preserved : goal.product-products-preserved
 product-products-preserved t c =
     let before = c.products.invariant in
     let sign = c.in-Some.ensures in
-    let part = c.in_ok-part.ensures in
-    rw (c.in_ok-push.ensures.ok, c.place.ensures) (omega (arith, before.0, part.0), goes_on (λ x. x) (refl, λ z. refl) before.1 (product_on c.in-Some.sign c.in_ok-part.part sign.2 (read_from c.meet.ensures part.1)))
+    with_read _ _ _ c.unary-part.result c.in-Ok.ensures c.unary-part.ensures (λ x q p. rw (q.0, q.1, c.place.ensures) (omega (arith, before.0, p.0), goes_on (λ x. x) (refl, λ z. refl) before.1 (product_on c.in-Some.sign x.0 sign.2 (read_from c.meet.ensures p.1))))
 
-pub product-returns-in_err-part : goal.product-returns-in_err-part
-product-returns-in_err-part t c =
+pub product-returns-in-Err : goal.product-returns-in-Err
+product-returns-in-Err t c =
     let before = c.products.invariant in
     let sign = c.in-Some.ensures in
-    told _ _ c.from_residual-in_err-part.result c.from_residual-in_err-part.ensures (fails_in _ c.args.tokens.now _ before.1 (fails_in _ c.args.tokens.now _ (product_begun c.in-Some.sign sign.2) (failed_from _ _ _ _ _ _ _ c.meet.ensures c.in_err-part.ensures)))
+    rw c.given_up.ensures (fails_in _ c.args.tokens.now _ before.1 (fails_in _ c.args.tokens.now _ (product_begun c.in-Some.sign sign.2) (failed_from _ _ _ _ _ _ _ c.meet.ensures (unread _ _ c.unary-part.result c.in-Err.ensures c.unary-part.ensures tt))))
 
 pub product-returns : goal.product-returns
 product-returns t c =
@@ -167,13 +165,13 @@ pub post-casts-preserved : goal.post-casts-preserved
 post-casts-preserved t c =
     let before = c.casts.invariant in
     let sign = c.is_sign.ensures.taken c.casts-test.true in
-    with_read _ _ _ c.column_type-kind.result c.in_ok-next.ensures c.column_type-kind.ensures (λ x q p. rw (q.0, q.1) (omega (arith, before.0, p.0), goes_on (λ x. x) (refl, λ z. refl) before.1 (counted c.meet.ensures (cast_on sign.2 p.2))))
+    with_read _ _ _ c.column_type-kind.result c.in-Ok.ensures c.column_type-kind.ensures (λ x q p. rw (q.0, q.1) (omega (arith, before.0, p.0), goes_on (λ x. x) (refl, λ z. refl) before.1 (counted c.meet.ensures (cast_on sign.2 p.2))))
 
-pub post-returns-in_err-next : goal.post-returns-in_err-next
-post-returns-in_err-next t c =
+pub post-returns-in-Err : goal.post-returns-in-Err
+post-returns-in-Err t c =
     let before = c.casts.invariant in
     let sign = c.is_sign.ensures.taken c.casts-test.true in
-    told _ _ c.from_residual-in_err-next.result c.from_residual-in_err-next.ensures (fails_in _ c.args.tokens.now _ before.1 (lacks c.args.tokens.now (c.casts.at + 1) _ (counted c.meet.ensures (past_sign (codes "::") started sign.2)) (unread _ _ c.column_type-kind.result c.in_err-next.ensures c.column_type-kind.ensures tt)))
+    rw c.given_up.ensures (fails_in _ c.args.tokens.now _ before.1 (lacks c.args.tokens.now (c.casts.at + 1) _ (counted c.meet.ensures (past_sign (codes "::") started sign.2)) (unread _ _ c.column_type-kind.result c.in-Err.ensures c.column_type-kind.ensures tt)))
 
 pub post-returns : goal.post-returns
 post-returns t c =

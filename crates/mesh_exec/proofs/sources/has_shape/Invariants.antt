@@ -1,6 +1,0 @@
-use Rattle.std.proofs.Common.{◌≡◌, take}
-use Rattle.mesh_scratch.specs.Sources.{has_shape}
-use Rattle.mesh_exec.proofs.sources.has_shape.Given as goal
-
-abbrev pub invariant-loop-column : goal.invariant-loop-column
-invariant-loop-column l = l.each ≡ has_shape (take l.column-index l.declared) l.columns

@@ -1,6 +1,0 @@
-use Rattle.std.proofs.Common.{◌≡◌, ◌++◌, take}
-use Rattle.mesh_rules.specs.Proper.{from_names}
-use Rattle.mesh_rules.proofs.well_formed.add_select_names.Given as goal
-
-abbrev pub invariant-loop-f : goal.invariant-loop-f
-invariant-loop-f l = l.names ≡ l.initial.names ++ from_names (take l.f-index l.f-items)

@@ -1,0 +1,95 @@
+// The second of a row by its time column, and the rows of a table that lie in a range of seconds.
+ghost use Rattle.std.specs.Prelude.{◌≡◌, OnOk, OnErr, slice_get};
+ghost use Rattle.mesh_values.specs.Picked.{cell_of};
+ghost use Rattle.mesh_seconds.specs.Times.{time_of, is_within, lies_in};
+ghost use Rattle.mesh_seconds.specs.Rows.{or_null, rewritten};
+
+use mesh_days::time_value;
+use mesh_list::{Memory, Seq};
+use mesh_values::{Bounds, Cell, Column, Row, Rows, Str, same_text};
+use std::mem;
+
+// The second that a cell stands for.
+fn second_of(cell: &Cell) -> Option<i64>
+    ensures { result ≡ time_of cell.now }
+{
+    time_value(cell)
+}
+
+// The second of the cell at a place, none where there is no cell.
+fn second_at(row: &Row, at: usize) -> Option<i64>
+    ensures { result ≡ time_of (or_null (slice_get row.now at)) }
+{
+    match row.get(at) {
+        None => None,
+        Some(cell) => second_of(cell),
+    }
+}
+
+/// The second of a row by the column of that name, where it has one. Of two columns of one name the first counts.
+pub fn second_in(columns: &[Column], time: &Str, row: &Row) -> Option<i64>
+    ensures { result ≡ time_of (cell_of columns.now row.now time.now) }
+{
+    for (i, column) in columns.iter().enumerate() {
+        if same_text(column.name.as_slice(), time.as_slice()) {
+            return second_at(row, i);
+        }
+    }
+    None
+}
+
+/// Whether there is a second, and it is one of the interval's.
+pub fn is_within(u: Bounds, second: Option<i64>) -> bool
+    ensures { result ≡ is_within u second }
+{
+    match second {
+        None => false,
+        Some(t) => u.start <= t && t < u.end,
+    }
+}
+
+/// Whether a row lies in an interval, by its time column.
+pub fn lies_in(columns: &[Column], time: &Str, u: Bounds, row: &Row) -> bool
+    ensures { result ≡ lies_in columns.now time.now u row.now }
+{
+    is_within(u, second_in(columns, time, row))
+}
+
+// Takes the rows that lie in the seconds out, and puts others at the end. At `Err` nothing has changed.
+fn write(
+    rows: &mut Vec<Row>,
+    mut more: Vec<Row>,
+    columns: &[Column],
+    time: &Str,
+    start: i64,
+    end: i64,
+) -> Result<(), Memory>
+    ensures ok { OnOk result (rows.new.items ≡ rewritten columns.now time.now start end more.items rows.old.items) }
+    ensures err { OnErr result (rows.new.items ≡ rows.old.items) }
+{
+    let u = Bounds { start, end };
+    rows.reserve(more.len())?;
+    rows.retain(|row| !lies_in(columns, time, u, row));
+    rows.append(&mut more)?;
+    Ok(())
+}
+
+/// Takes the rows that lie in the seconds out, and puts others at the end. At `Err` nothing has changed. The rows that
+/// stay are not copied.
+pub fn rewrite(
+    rows: &mut Rows,
+    more: Rows,
+    columns: &[Column],
+    time: &Str,
+    start: i64,
+    end: i64,
+) -> Result<(), Memory>
+    ensures ok { OnOk result (rows.new ≡ rewritten columns.now time.now start end more rows.old) }
+    ensures err { OnErr result (rows.new ≡ rows.old) }
+{
+    let nothing = Seq::new(rows.alloc());
+    let mut list = mem::replace(rows, nothing).into_vec();
+    let done = write(&mut list, more.into_vec(), columns, time, start, end);
+    *rows = Seq::from_vec(list);
+    done
+}
