@@ -12,6 +12,7 @@ use mesh_base::Forget;
 use mesh_book::{Book, Version, Versions};
 use mesh_list::{Duplicate, Memory, Same, Seq};
 use mesh_values::{Bounds, Name, Spans};
+use std::mem::drop;
 
 // Seconds of one object that are still to be forgotten.
 #[derive(Drop)]
@@ -106,9 +107,9 @@ fn forget_spans(versions: &mut Versions, object: &Name, spans: &[Bounds]) -> Res
     match version_of(versions, object)? {
         None => Ok(()),
         Some(mut version) => {
-            version.ranges.forget_each(spans)?;
-            versions.exchange(version);
-            Ok(())
+            let forgotten = version.ranges.forget_each(spans);
+            drop(versions.exchange(version));
+            forgotten
         }
     }
 }
@@ -120,7 +121,7 @@ fn forget_marks(versions: &mut Versions, object: &Name) -> Result<(), Memory>
         None => Ok(()),
         Some(mut version) => {
             version.marks = None;
-            versions.exchange(version);
+            drop(versions.exchange(version));
             Ok(())
         }
     }

@@ -49,10 +49,12 @@ fn renamed_refs(moves: &Moves, refs: &Refs) -> Result<Refs, Memory>
 fn renamed_snapshot(moves: &Moves, s: &Snapshot) -> Result<Snapshot, Memory>
     ensures { IfOk result (λ made. made ≡ renamed_snapshot (renames_of moves.now) s.now) }
 {
-    let (own, object) = both(&s.own, &s.object)?;
-    let (key, parents) = together(
-        renamed(moves, &s.name, s.fingerprint),
-        renamed_refs(moves, &s.parents),
+    let ((own, object), (key, parents)) = together(
+        both(&s.own, &s.object),
+        together(
+            renamed(moves, &s.name, s.fingerprint),
+            renamed_refs(moves, &s.parents),
+        ),
     )?;
     let fingerprint = key.fingerprint;
     Ok(Snapshot {
