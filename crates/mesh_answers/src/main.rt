@@ -22,24 +22,31 @@
 //! - `distinct .. | TEXT` shows one of each of a seed's rows, as `distinct_rows` of `mesh_index` keeps them;
 //! - `places .. | TEXT` shows, for each of a seed's rows, its places among the rows of the last table, and the first of them,
 //!   as an `Index` of `mesh_index` finds them;
-//! - `.. | TEXT` shows the rows of a query.
+//! - `.. | TEXT` shows the rows of a query;
+//! - `waves` computes jobs by several workers (`mesh_wave`): none, two of which one waits for the other at a gate, and 256, and
+//!   shows how many lists of rows there are, and whether each stands at the place of its job.
 //!
 //! `bench/eval.py` runs the program where its own cases lie.
 #![tactic(auto)]
 
 mod asked;
 mod cut;
+mod gates;
+mod jobs;
 mod shown;
 mod stage;
+mod waves;
 mod words;
 
 use crate::asked::Asked;
 use crate::stage::Stage;
+use crate::waves::put_waves;
 use mesh_base::Inputs;
 use mesh_cases::{Trouble, cases_of, file_of, filled, halves, printed};
 use mesh_io::DirFolder;
 use std::alloc::Global;
 use std::process::ExitCode;
+use std::thread::Threads;
 
 /// Runs a line of the file of queries that are resolved.
 fn ask(alloc: Global, asked: &mut Asked, report: &mut Vec<u8>, line: &[u8]) -> Result<(), Trouble> {
@@ -65,11 +72,30 @@ fn resolved(alloc: Global, data: &mut DirFolder, report: &mut Vec<u8>) -> Result
     Ok(())
 }
 
+/// Runs a line of the file of cases that have rows.
+fn case<R: Threads + Sync>(
+    rt: &R,
+    alloc: Global,
+    stage: &mut Stage,
+    line: &[u8],
+) -> Result<(), Trouble> {
+    if line == b"waves".as_slice() {
+        stage.report.extend_from_slice(b"waves\n")?;
+        return put_waves(rt, alloc, &mut stage.report);
+    }
+    stage.run(alloc, line)
+}
+
 /// Runs the cases that have rows.
-fn run(alloc: Global, data: &mut DirFolder, stage: &mut Stage) -> Result<(), Trouble> {
+fn run<R: Threads + Sync>(
+    rt: &R,
+    alloc: Global,
+    data: &mut DirFolder,
+    stage: &mut Stage,
+) -> Result<(), Trouble> {
     let file = file_of(alloc, data, b"cases.txt")?;
     for line in cases_of(alloc, file.as_slice())? {
-        stage.run(alloc, line)?;
+        case(rt, alloc, stage, line)?;
     }
     resolved(alloc, data, &mut stage.report)
 }
@@ -81,6 +107,6 @@ fn main(rt: HostRuntime) -> ExitCode {
         report: Vec::new(rt.alloc()),
     };
     let mut data = DirFolder::new(&rt);
-    let done = run(rt.alloc(), &mut data, &mut stage);
+    let done = run(&rt, rt.alloc(), &mut data, &mut stage);
     printed(&rt, stage.report.as_slice(), done)
 }

@@ -16,7 +16,8 @@ use Rattle.mesh_printed.specs.declared.refusals.Refusal.{Refusal}
 use Rattle.mesh_printed.specs.declared.refusals.Refusal.TheVariants.{Model, Warehouse, Input}
 use Rattle.mesh_commands.specs.Answers.{Answers, IsAsked}
 use Rattle.mesh_commands.proofs.Answering.{alone_itself, answers_so, refused_alone, refused_first, wanting_first, within}
-use Rattle.mesh_applying.specs.Loaded.{IsProject, OfProject, of_load}
+use Rattle.mesh_commands.specs.Loads.{of_load}
+use Rattle.mesh_applying.specs.Loaded.{IsProject, OfProject}
 
 module _ {T : Type 0} (dir : List ℕ) (gives : List Node → World → Result T Refusal → Type 0) (old new : FolderTold) (a : Told) where
   -- what is answered of the project of the files

@@ -6,17 +6,9 @@ use Rattle.mesh_tokens.specs.declared.faults.FaultKind.{FaultKind}
 use Rattle.mesh_base.specs.declared.snapshots.Node.{Node}
 use Rattle.mesh_rules.specs.Proper.{ProjectNodes}
 use Rattle.mesh_io.specs.declared.files.File.{File}
-use Rattle.mesh_files.specs.declared.faults.LoadFault.{LoadFault}
-use Rattle.mesh_files.specs.declared.faults.LoadFault.TheVariants as load
 use Rattle.mesh_project.specs.Project.{IsFirstFault, Loads}
 use Rattle.mesh_printed.specs.declared.refusals.Refusal.{Refusal}
-use Rattle.mesh_printed.specs.declared.refusals.Refusal.TheVariants.{Model, Input, Memory}
-
--- a fault of loading, as a command tells it
-abbrev pub of_load : LoadFault → Refusal
-of_load (load.Fault file at kind) = Model file at kind
-of_load load.Folder = Input
-of_load load.Memory = Memory
+use Rattle.mesh_printed.specs.declared.refusals.Refusal.TheVariants.{Model}
 
 -- a project, which is that of the files where the folder tells them
 pub record IsProject (files : Option (List File)) (dir : List ℕ) (of : List Node → Type 0) : Type 0 where

@@ -12,12 +12,11 @@ ghost use Rattle.mesh_applying.specs.Applying.{ApplyGives, ApplyMakes};
 ghost use Rattle.mesh_applying.specs.Loaded.{IsProject, OfProject};
 ghost use Rattle.mesh_applying.specs.Made.{ApplyTells, HasBook, IsPlanFor, MakesBy};
 
-use crate::loaded::of_load;
 use crate::planned::planned;
 use crate::promote::make_plan;
 use mesh_base::Restate;
 use mesh_book::Book;
-use mesh_commands::present_book;
+use mesh_commands::{of_load, present_book};
 use mesh_house::Warehouse;
 use mesh_io::Folder;
 use mesh_list::{Memory, Seq};

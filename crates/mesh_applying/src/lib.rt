@@ -8,7 +8,6 @@
 mod applying;
 mod faults;
 mod listing;
-mod loaded;
 mod migrating;
 mod planned;
 mod promote;
@@ -16,7 +15,6 @@ mod running;
 mod views;
 
 pub use applying::apply;
-pub use loaded::of_load;
 pub use migrating::migrate;
 pub use planned::plan;
 pub use running::run;

@@ -16,10 +16,9 @@ ghost use Rattle.mesh_applying.specs.Loaded.{OfProject};
 ghost use Rattle.mesh_applying.specs.Planning.{IsPlanned, IsStray, PlanRefused, has_named, no_model};
 
 use crate::faults::of_plan;
-use crate::loaded::of_load;
 use mesh_base::{Node, Restate};
 use mesh_book::Book;
-use mesh_commands::present_book;
+use mesh_commands::{of_load, present_book};
 use mesh_fault_text::name_text;
 use mesh_house::Warehouse;
 use mesh_io::Folder;

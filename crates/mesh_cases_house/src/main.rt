@@ -25,9 +25,9 @@
 //!   and `drop_view`, `finalize`, `expire`, `forget_version`, `drop_object`, `delete_snapshot` and `delete_env` with what
 //!   they are of. The world is printed as the house has it after the change. Where the world's own step makes another one
 //!   of it, a complaint follows;
-//! - `also CHANGE` keeps a change for `make_all`, which makes those kept, one after another, and prints the world. Where
-//!   a copy of them isn't equal to them, a complaint follows;
-//! - `alike` prints whether the changes kept are all the same, and makes none of them;
+//! - `also CHANGE` keeps a change for `make_all`, which makes a copy of those kept, one after another, and prints the
+//!   world;
+//! - `alike` prints whether the changes kept all forget the same or all go by the same map, and makes none of them;
 //! - `version N` has the book go on with that version, and `fingerprints` prints its version, and the fingerprints of its
 //!   snapshots, of their parents and in the lists of its environments;
 //! - `fail change N before`, `fail change N after` and `fail read N` have one call of the next ones fail, counted from 0;

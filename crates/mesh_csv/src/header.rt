@@ -3,10 +3,9 @@ ghost use Rattle.std.specs.Prelude.{◌≡◌, ◌+◌, ◌++◌, ◌∷◌, [],
 ghost use Rattle.mesh_values.specs.Picked.{same_text};
 ghost use Rattle.mesh_csv.specs.Headers.{bad_row, long_name, many_columns, lowered, is_among, name_fault, names_fault, header_fault, header_names};
 
-use crate::lists::push_made;
 use crate::records::Record;
 use mesh_casts::lower_case;
-use mesh_list::{Duplicate, Memory, Seq};
+use mesh_list::{Duplicate, Memory, Seq, push_made};
 use mesh_tokens::{FaultKind, ReadFault};
 use mesh_values::{LONGEST_NAME, MOST_COLUMNS, Str, Strs, is_identifier};
 use std::alloc::Global;

@@ -7,7 +7,6 @@
 mod fields;
 mod header;
 mod laws;
-mod lists;
 mod records;
 mod rows;
 mod seed;

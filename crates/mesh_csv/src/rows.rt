@@ -5,9 +5,8 @@ ghost use Rattle.mesh_csv.specs.Seeds.{unread_field, record_fault, records_fault
 
 use crate::fields::{cell_of, is_read};
 use crate::header::bad_row;
-use crate::lists::push_made;
 use crate::records::Record;
-use mesh_list::{Memory, Seq};
+use mesh_list::{Memory, Seq, push_made};
 use mesh_tokens::ReadFault;
 use mesh_values::{ColType, Row, Rows};
 use std::alloc::Global;

@@ -6,11 +6,10 @@ ghost use Rattle.mesh_tokens.specs.Gives.{Gives};
 ghost use Rattle.mesh_csv.specs.Seeds.{declared, declared_kind, are_declared, shape_fault, kinds_found, kinds_declared, kinds, column, columns_of, unless, records_fault, seed_rows, seed_under, seed_of, seed_text};
 
 use crate::header::{bad_row, header_fault, header_names};
-use crate::lists::push_made;
 use crate::records::{Record, records_of};
 use crate::rows::{records_fault, rows_of};
 use crate::types::kind_found;
-use mesh_list::{Duplicate, Memory, Seq, together};
+use mesh_list::{Duplicate, Memory, Seq, push_made, together};
 use mesh_tokens::ReadFault;
 use mesh_values::{ColType, Column, Columns, Seed, Str};
 use std::alloc::Global;

@@ -4,10 +4,9 @@ ghost use Rattle.std.specs.List.{fold, list_any};
 ghost use Rattle.mesh_meaning.specs.Aggregates.{distinct, same_cell, known, is_number, addend, total, smaller, larger, agg_value};
 
 use crate::cells::is_null;
-use crate::lists::push_made;
 use mesh_base::AggKind;
 use mesh_index::distinct_rows;
-use mesh_list::{Duplicate, Memory};
+use mesh_list::{Duplicate, Memory, push_made};
 use mesh_values::{Cell, Row, Rows, cell_cmp};
 use std::alloc::Global;
 

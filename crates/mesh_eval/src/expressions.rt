@@ -13,11 +13,10 @@ ghost use Rattle.mesh_eval.specs.Joined.{shown};
 use crate::aggregates::aggregate;
 use crate::cells::{call, equal, is_null, is_true, lies_between, negate, not, operate, or};
 use crate::frames::{Frame, Members, cell_at, column};
-use crate::lists::push_made;
 use crate::macros::bound;
 use mesh_base::{AggKind, Expr, Func, Item, Op, When};
 use mesh_casts::cast;
-use mesh_list::{Duplicate, Memory, together};
+use mesh_list::{Duplicate, Memory, push_made, together};
 use mesh_values::{Bounds, Cell, ColType, Columns, Row};
 use std::alloc::Global;
 

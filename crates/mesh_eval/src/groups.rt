@@ -9,10 +9,9 @@ ghost use Rattle.mesh_meaning.specs.Sel.{holds, same_row, key_list, group_of, gr
 use crate::expressions::{ev, is_met, item_row, key_list};
 use crate::frames::{Frame, Members};
 use crate::joined::JoinedRows;
-use crate::lists::push_made;
 use mesh_base::{Expr, Select};
 use mesh_index::Index;
-use mesh_list::Memory;
+use mesh_list::{Memory, push_made};
 use mesh_values::{Bounds, Cell, Columns, Row, Rows};
 use std::alloc::Global;
 

@@ -10,7 +10,6 @@ mod frames;
 mod groups;
 mod joined;
 mod joins;
-mod lists;
 mod macros;
 mod queries;
 mod tables;

@@ -16,18 +16,10 @@ use crate::works::{Work, model_at};
 use mesh_base::{Due, Entry, Forgets, Marks, Node, Ref, Refs, Snapshot};
 use mesh_columns::columns_of;
 use mesh_house::{Change, Changes};
-use mesh_list::{Duplicate, Memory, Seq, both};
+use mesh_list::{Duplicate, Memory, Seq, both, push_made};
 use mesh_rules::Plan;
 use mesh_values::{Kind, LIFETIME, Name, Pair, Pairs, Rows, Str};
 use std::alloc::Global;
-
-/// Puts the change of an answer at the end, where it has one.
-fn push_made(changes: &mut Changes, change: Result<Change, Memory>) -> Result<(), Memory>
-    ensures { OnOk result ((made : Change) × (change ≡ Ok made) × (changes.new ≡ changes.old ++ made ∷ [])) }
-{
-    let made = change?;
-    changes.push(made)
-}
 
 fn push_target(targets: &mut Pairs, node: &Node, entry: &Entry) -> Result<(), Memory>
     ensures { OnOk result (targets.new ≡ targets.old ++ target_of (model_of node.now entry.now) ∷ []) }

@@ -8,7 +8,7 @@ ghost use Rattle.mesh_exec.specs.Runs.{up_to};
 
 use crate::runs::{Run, last_end};
 use mesh_base::{Defn, Due, Job, Jobs, Node, Query};
-use mesh_list::{Duplicate, Memory, Seq, both};
+use mesh_list::{Duplicate, Memory, Seq, both, push_made};
 use mesh_values::{Bounds, Kind, Str};
 use std::alloc::Global;
 
@@ -33,13 +33,6 @@ fn whole_job(pool: u32, q: &Query) -> Result<Job, Memory>
         bounds: Bounds { start: 0, end: 0 },
         time: None,
     })
-}
-
-fn push_made(jobs: &mut Jobs, job: Result<Job, Memory>) -> Result<(), Memory>
-    ensures { OnOk result ((made : Job) × (job ≡ Ok made) × (jobs.new ≡ jobs.old ++ made ∷ [])) }
-{
-    let made = job?;
-    jobs.push(made)
 }
 
 /// The job of a due part, or of those from it up to an end, where their rows are computed.

@@ -94,18 +94,45 @@ pub(crate) fn grown(
 ) -> Result<Decl, ReadFault>
     ensures { Gives result (grown row source column.now kind.now role.now) }
 {
+    let column = match column_name(alloc, row, source.columns.as_slice(), column) {
+        Ok(column) => column,
+        Err(fault) => {
+            drop(source);
+            return Err(fault);
+        }
+    };
+    let kind = match column_type(alloc, row, kind) {
+        Ok(kind) => kind,
+        Err(fault) => {
+            drop(source);
+            drop(column);
+            return Err(fault);
+        }
+    };
     let Decl {
         name,
         columns,
         time,
     } = source;
-    let column = column_name(alloc, row, columns.as_slice(), column)?;
-    let kind = column_type(alloc, row, kind)?;
-    let time = time_of(row, time, &column, role)?;
-    let columns = with_column(columns, column, kind)?;
-    Ok(Decl {
-        name,
-        columns,
-        time,
-    })
+    let time = match time_of(row, time, &column, role) {
+        Ok(time) => time,
+        Err(fault) => {
+            drop(name);
+            drop(columns);
+            drop(column);
+            return Err(fault);
+        }
+    };
+    match with_column(columns, column, kind) {
+        Ok(columns) => Ok(Decl {
+            name,
+            columns,
+            time,
+        }),
+        Err(_) => {
+            drop(name);
+            drop(time);
+            Err(ReadFault::Memory)
+        }
+    }
 }

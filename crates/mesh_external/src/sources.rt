@@ -96,23 +96,40 @@ pub(crate) fn declare(
 ) -> Result<Sources, ReadFault>
     ensures { Gives result (declare row sources fields.now) }
 {
+    let mut sources = sources;
     if fields.len() != 4 {
+        drop(sources);
         return Err(bad_row(row, 0));
     }
-    let name = source_name(alloc, row, fields.field(0))?;
-    let mut sources = sources;
+    let name = match source_name(alloc, row, fields.field(0)) {
+        Ok(name) => name,
+        Err(fault) => {
+            drop(sources);
+            return Err(fault);
+        }
+    };
     let found = sources.remove(&name);
-    let source = or_undeclared(alloc, found, &name)?;
-    let more = grown(
-        alloc,
-        row,
-        source,
-        fields.field(1),
-        fields.field(2),
-        fields.field(3),
-    )?;
-    sources.place(Source::new(more))?;
-    Ok(sources)
+    let source = or_undeclared(alloc, found, &name);
+    drop(name);
+    let Ok(source) = source else {
+        drop(sources);
+        return Err(ReadFault::Memory);
+    };
+    let (column, kind, role) = (fields.field(1), fields.field(2), fields.field(3));
+    let more = match grown(alloc, row, source, column, kind, role) {
+        Ok(more) => more,
+        Err(fault) => {
+            drop(sources);
+            return Err(fault);
+        }
+    };
+    match sources.place(Source::new(more)) {
+        Ok(()) => Ok(sources),
+        Err(_) => {
+            drop(sources);
+            Err(ReadFault::Memory)
+        }
+    }
 }
 
 /// The declarations, in the same order.

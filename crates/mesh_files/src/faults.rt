@@ -11,7 +11,7 @@ use std::alloc::Global;
 
 /// The first fault of the project's files, where it stands, or the folder failed, or memory ran out. `file` is a path in
 /// the project, and `-` for a fault of no one file; `at` is a place in its bytes.
-#[derive(Drop, PartialEq, Eq)]
+#[derive(Drop)]
 pub enum LoadFault {
     Fault { file: Str, at: u64, kind: FaultKind },
     Folder,

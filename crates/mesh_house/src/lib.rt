@@ -14,7 +14,6 @@ mod memory;
 mod objects;
 mod reads;
 mod same;
-mod same_changes;
 mod sources;
 mod step;
 mod world;

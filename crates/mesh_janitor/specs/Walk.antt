@@ -13,9 +13,9 @@ use Rattle.mesh_base.specs.declared.snapshots.Snapshot.{Snapshot}
 use Rattle.mesh_book.specs.Changes.{with_refs}
 use Rattle.mesh_book.specs.WellFormed.{is_listed}
 use Rattle.mesh_house.specs.declared.world.Change.{Change}
-use Rattle.mesh_house.specs.declared.world.Change.TheVariants.{DeleteSnapshot, DropObject, DropView, ForgetVersion}
+use Rattle.mesh_house.specs.declared.world.Change.TheVariants.{DeleteSnapshot, DropObject, ForgetVersion}
 use Rattle.mesh_changes.specs.Changes.{name_itself}
-use Rattle.mesh_changes.specs.Environments.{is_over, view_in}
+use Rattle.mesh_changes.specs.Environments.{is_over}
 
 -- what is wanted after an environment that stays, or goes
 abbrev pub env_after : ℤ → Env → List Ref → List Ref
@@ -75,9 +75,6 @@ deletes_of p rank s = if nat_eq s.rank rank && p s then deletes s ∷ [] else []
 abbrev pub deletes_by : (Snapshot → Bool) → ℕ → List Snapshot → List Change
 deletes_by p zero all = []
 deletes_by p (suc rank) all = flat_map (deletes_of p rank) all ++ deletes_by p rank all
-
-abbrev pub drops : List ℕ → Name → Change
-drops env name = DropView (view_in env name)
 
 abbrev pub forgets : Name → Change
 forgets name = ForgetVersion name

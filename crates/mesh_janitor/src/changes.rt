@@ -6,19 +6,18 @@ ghost use Rattle.mesh_base.specs.Keys.{ref_name};
 ghost use Rattle.mesh_base.specs.declared.snapshots.Snapshot.{Snapshot};
 ghost use Rattle.mesh_book.specs.WellFormed.{is_well_formed_book};
 ghost use Rattle.mesh_house.specs.declared.world.Change.{Change};
-ghost use Rattle.mesh_house.specs.declared.world.Change.TheVariants.{DeleteEnv, DeleteSnapshot, DropObject, DropView, ForgetVersion, Moment, SetPending};
+ghost use Rattle.mesh_house.specs.declared.world.Change.TheVariants.{DeleteEnv, DeleteSnapshot, DropObject, ForgetVersion, Moment, SetPending};
 ghost use Rattle.mesh_changes.specs.Changes.{names_by_order};
-ghost use Rattle.mesh_changes.specs.Environments.{view_in};
 ghost use Rattle.mesh_changes.specs.Kept.{both_lists, gone_snapshots, gone_tables, is_kept, leaving, removes, sweeps};
-ghost use Rattle.mesh_janitor.specs.Walk.{deletes, deletes_by, deletes_of, discards, drops, forgets, goes, stays, with_names};
+ghost use Rattle.mesh_janitor.specs.Walk.{deletes, deletes_by, deletes_of, discards, forgets, goes, stays, with_names};
 
 use crate::kept::{is_over, rank_limit, stays, wanted};
 use crate::tables::gone_tables;
 use mesh_base::{Env, Ref, Snapshot};
 use mesh_book::Book;
 use mesh_house::{Change, Changes};
-use mesh_layer::view_in;
-use mesh_list::{Duplicate, Memory, Register, Seq, Sorted};
+use mesh_list::{Duplicate, Memory, Register, Seq, Sorted, push_made};
+use mesh_promote::push_drops;
 use mesh_values::{Name, Str};
 use std::alloc::Global;
 
@@ -29,14 +28,6 @@ pub(crate) struct Sweep {
     pub environments: u64,
     pub objects: u64,
     pub snapshots: u64,
-}
-
-/// Puts the change of an answer at the end, where it has one.
-fn push_made(changes: &mut Changes, change: Result<Change, Memory>) -> Result<(), Memory>
-    ensures { OnOk result ((made : Change) × (change ≡ Ok made) × (changes.new ≡ changes.old ++ made ∷ [])) }
-{
-    let made = change?;
-    changes.push(made)
 }
 
 fn emptied(alloc: Global, env: &Env) -> Result<Change, Memory>
@@ -54,14 +45,6 @@ fn deleting(env: &Env) -> Result<Change, Memory>
 {
     Ok(Change::DeleteEnv {
         env: env.name.copy()?,
-    })
-}
-
-fn dropping(alloc: Global, env: &Str, model: &Name) -> Result<Change, Memory>
-    ensures { IfOk result (λ change. change ≡ DropView (view_in env.now model.now)) }
-{
-    Ok(Change::DropView {
-        view: view_in(alloc, env, model)?,
     })
 }
 
@@ -109,15 +92,6 @@ fn models(alloc: Global, env: &Env) -> Result<Sorted<Name>, Memory>
     add_names(env.previous.as_slice(), &mut names)?;
     add_names(env.list.as_slice(), &mut names)?;
     Ok(names)
-}
-
-fn push_drops(alloc: Global, changes: &mut Changes, env: &Str, names: &[Name]) -> Result<(), Memory>
-    ensures { OnOk result (changes.new ≡ changes.old ++ map (drops env.now) names.now) }
-{
-    for name in names {
-        push_made(changes, dropping(alloc, env, name))?;
-    }
-    Ok(())
 }
 
 // An environment goes with its views.

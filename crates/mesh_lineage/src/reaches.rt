@@ -2,7 +2,6 @@
 ghost use Rattle.std.specs.Prelude.{◌≡◌, ◌&&◌, ◌∷◌, [], IfOk};
 ghost use Rattle.std.specs.List.{slice_get};
 ghost use Rattle.std.specs.Option.{option_copied, option_to_list};
-ghost use Rattle.mesh_values.specs.Kinds.{is_incremental};
 ghost use Rattle.mesh_values.specs.Names.{name_cmp};
 ghost use Rattle.mesh_values.specs.NameOrder.{names_total, names_exact};
 ghost use Rattle.mesh_steady.specs.Steady.{has_timed_source};
@@ -11,7 +10,7 @@ ghost use Rattle.mesh_lineage.specs.Reaches.{are_timeless, least_reached, model_
 
 use mesh_base::{Decl, Own};
 use mesh_list::{Duplicate, Keyed, Memory, both};
-use mesh_values::{Kind, Name, Str};
+use mesh_values::{Kind, Name, Str, is_incremental};
 use std::cmp::Ordering;
 
 /// How an incremental model may read a relation: as it is, not at all, or bound to the unit by this column.
@@ -72,15 +71,6 @@ impl Keyed for Link {
     ghost total = { names_total };
 
     ghost exact = { names_exact };
-}
-
-fn is_incremental(kind: &Kind) -> bool
-    ensures { result ≡ is_incremental kind.now }
-{
-    match kind {
-        Kind::Incremental { .. } => true,
-        Kind::Full | Kind::View | Kind::Seed => false,
-    }
 }
 
 fn has_timed_source(own: &Own) -> bool

@@ -108,9 +108,10 @@ impl<T: Drop> Seq<T> {
     pub fn append(&mut self, more: Seq<T>) -> Result<(), Memory>
         ensures { OnOk result (self.new ≡ self.old ++ more) }
     {
-        for item in more.into_vec() {
-            self.push(item)?;
+        let mut rest = more.into_vec();
+        match self.items.append(&mut rest) {
+            Ok(()) => Ok(()),
+            Err(_) => Err(Memory),
         }
-        Ok(())
     }
 }

@@ -2,7 +2,6 @@
 ghost use Rattle.std.specs.Prelude.{◌≡◌, ◌∷◌, [], ℤ, pos, negsuc, ◌≤ℤ◌, length, map, IfOk, if◌then◌else◌};
 ghost use Rattle.std.specs.List.{All, slice_get};
 ghost use Rattle.std.specs.Option.{option_to_list};
-ghost use Rattle.mesh_values.specs.Kinds.{is_incremental};
 ghost use Rattle.mesh_days.specs.Moments.{IsMoment};
 ghost use Rattle.mesh_time.specs.Ranges.{unit_size};
 ghost use Rattle.mesh_scratch.specs.Closures.{closures};
@@ -12,7 +11,7 @@ ghost use Rattle.mesh_marks.specs.Least.{IsHorizon, lesser, least_over, least_at
 use mesh_base::{Node, Own};
 use mesh_list::{Memory, Seq};
 use mesh_time::floor;
-use mesh_values::{Kind, Unit};
+use mesh_values::{Unit, is_incremental};
 use std::alloc::Global;
 use std::marker::Model;
 
@@ -41,15 +40,6 @@ impl Horizons {
         ensures bound { All IsHorizon self.now }
     {
         self.list.as_slice()
-    }
-}
-
-fn is_incremental(kind: &Kind) -> bool
-    ensures { result ≡ is_incremental kind.now }
-{
-    match kind {
-        Kind::Incremental { .. } => true,
-        Kind::Full | Kind::View | Kind::Seed => false,
     }
 }
 

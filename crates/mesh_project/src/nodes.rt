@@ -3,7 +3,6 @@ ghost use Rattle.std.specs.Prelude.{◌≡◌, ◌++◌, [], map, not, IfOk, IsE
 ghost use Rattle.std.specs.List.{AllByRecursion, slice_get};
 ghost use Rattle.std.specs.Option.{is_some, option_copied};
 ghost use Rattle.sha2.specs.Sha256.{sha256};
-ghost use Rattle.mesh_values.specs.Kinds.{is_incremental};
 ghost use Rattle.mesh_canon_text.specs.Text.{node_text};
 ghost use Rattle.mesh_files.specs.Loading.{Gives, in_file};
 ghost use Rattle.mesh_files.specs.declared.faults.LoadFault.TheVariants as fault;
@@ -22,7 +21,7 @@ use mesh_fingerprint::fingerprint;
 use mesh_list::{Duplicate, Memory, Seq, Sorted};
 use mesh_order::Ranked;
 use mesh_resolve::{Known, own_of};
-use mesh_values::{Kind, Rows};
+use mesh_values::{Kind, Rows, is_incremental};
 use std::alloc::Global;
 
 // The model at a place.
@@ -144,15 +143,6 @@ fn node_over(
         rank,
         fingerprint,
     })
-}
-
-fn is_incremental(kind: &Kind) -> bool
-    ensures { result ≡ is_incremental kind.now }
-{
-    match kind {
-        Kind::Incremental { .. } => true,
-        _ => false,
-    }
 }
 
 // The models that a model's query names, among those before it.

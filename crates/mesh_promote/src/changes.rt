@@ -12,17 +12,9 @@ use mesh_base::{Ref, Refs};
 use mesh_book::Book;
 use mesh_house::{Change, Changes};
 use mesh_layer::view_in;
-use mesh_list::{Duplicate, Memory, Seq, both};
+use mesh_list::{Duplicate, Memory, Seq, both, push_made};
 use mesh_values::{LIFETIME, Name, Names, Str, same_text};
 use std::alloc::Global;
-
-/// Puts the change of an answer at the end, where it has one.
-fn push_made(changes: &mut Changes, change: Result<Change, Memory>) -> Result<(), Memory>
-    ensures { OnOk result ((made : Change) × (change ≡ Ok made) × (changes.new ≡ changes.old ++ made ∷ [])) }
-{
-    let made = change?;
-    changes.push(made)
-}
 
 /// Production stays, and another environment stays for a week.
 fn expiry(env: &Str, t: i64) -> Option<i64>
@@ -89,7 +81,13 @@ fn push_points(
     Ok(())
 }
 
-fn push_drops(alloc: Global, changes: &mut Changes, env: &Str, names: &[Name]) -> Result<(), Memory>
+/// The changes that take the views of these models out of an environment.
+pub fn push_drops(
+    alloc: Global,
+    changes: &mut Changes,
+    env: &Str,
+    names: &[Name],
+) -> Result<(), Memory>
     ensures { OnOk result (changes.new ≡ changes.old ++ map (drops env.now) names.now) }
 {
     for name in names {

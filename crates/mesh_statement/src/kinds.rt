@@ -325,12 +325,18 @@ fn entries_from(
         if rest.is_empty() {
             return Ok(entries);
         }
-        let left = one_entry(alloc, file, at, kind, &mut entries, rest)?;
-        rest = left;
+        match one_entry(alloc, file, at, kind, &mut entries, rest) {
+            Ok(left) => rest = left,
+            Err(fault) => {
+                drop(entries);
+                return Err(fault);
+            }
+        }
     }
     if rest.is_empty() {
         Ok(entries)
     } else {
+        drop(entries);
         Err(bad(alloc, at, b"kind"))
     }
 }

@@ -177,7 +177,18 @@ pub fn read_statement<'a>(
     let (before, rest) = model_word(tokens)?;
     let (before, rest) = expect(b"(", before, rest)?;
     let mut parts = no_parts(alloc);
-    let (before, rest) = properties(alloc, file, &mut parts, before, rest)?;
-    let (before, rest) = expect(b";", before, rest)?;
-    Ok((parts, before, rest))
+    let (before, rest) = match properties(alloc, file, &mut parts, before, rest) {
+        Ok(found) => found,
+        Err(fault) => {
+            drop(parts);
+            return Err(fault);
+        }
+    };
+    match expect(b";", before, rest) {
+        Ok((before, rest)) => Ok((parts, before, rest)),
+        Err(fault) => {
+            drop(parts);
+            Err(fault)
+        }
+    }
 }

@@ -9,7 +9,7 @@ use crate::queries::{
     Surface, SurfaceCte, SurfaceFrom, SurfaceItem, SurfaceJoin, SurfaceRel, SurfaceSelect,
     SurfaceUnion,
 };
-use mesh_list::{Boxed, Duplicate, Memory, Seq, both, together};
+use mesh_list::{Boxed, Duplicate, Memory, Seq, both, push_made, together};
 use mesh_values::{ColType, Str};
 use std::alloc::Global;
 
@@ -25,7 +25,7 @@ fn or_copied(e: &OrExpr) -> Result<OrExpr, Memory>
 {
     let mut parts = Seq::new(e.parts.alloc());
     for part in e.parts.as_slice() {
-        pushed(&mut parts, and_copied(part))?;
+        push_made(&mut parts, and_copied(part))?;
     }
     Ok(OrExpr { at: e.at, parts })
 }
@@ -36,7 +36,7 @@ fn and_copied(e: &AndExpr) -> Result<AndExpr, Memory>
 {
     let mut parts = Seq::new(e.parts.alloc());
     for part in e.parts.as_slice() {
-        pushed(&mut parts, not_copied(part))?;
+        push_made(&mut parts, not_copied(part))?;
     }
     Ok(AndExpr { at: e.at, parts })
 }
@@ -101,7 +101,7 @@ fn cat_copied(e: &CatExpr) -> Result<CatExpr, Memory>
 {
     let mut parts = Seq::new(e.parts.alloc());
     for part in e.parts.as_slice() {
-        pushed(&mut parts, add_copied(part))?;
+        push_made(&mut parts, add_copied(part))?;
     }
     Ok(CatExpr { at: e.at, parts })
 }
@@ -309,16 +309,9 @@ fn values_copied(values: &Seq<OrExpr>) -> Result<Seq<OrExpr>, Memory>
 {
     let mut made = Seq::new(values.alloc());
     for value in values.as_slice() {
-        pushed(&mut made, or_copied(value))?;
+        push_made(&mut made, or_copied(value))?;
     }
     Ok(made)
-}
-
-fn pushed<T: Drop>(made: &mut Seq<T>, item: Result<T, Memory>) -> Result<(), Memory>
-    ensures { OnOk result ((x : T) × (item ≡ Ok x) × (made.new ≡ made.old ++ x ∷ [])) }
-{
-    let item = item?;
-    made.push(item)
 }
 
 fn boxed<T: Drop>(alloc: Global, value: Result<T, Memory>) -> Result<Boxed<T>, Memory>

@@ -26,11 +26,19 @@ fn some_seconds(alloc: Global, gone: &[Bounds]) -> Result<Vec<Bounds>, Memory>
 {
     let mut all = Vec::new(alloc);
     for span in gone {
-        if span.start < span.end {
-            all.push(*span)?;
-        }
+        push_some(&mut all, span)?;
     }
     Ok(all)
+}
+
+// Puts one that has a second behind the others.
+fn push_some(all: &mut Vec<Bounds>, span: &Bounds) -> Result<(), Memory>
+    ensures { IfOk result (λ _. all.new.items ≡ all.old.items ++ filter (λ b. lt_z b.start b.end) (span.now ∷ [])) }
+{
+    if span.start < span.end {
+        all.push(*span)?;
+    }
+    Ok(())
 }
 
 // Those that have a second, by their starts.

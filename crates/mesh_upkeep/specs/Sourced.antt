@@ -16,18 +16,10 @@ use Rattle.mesh_csv.specs.Seeds.{seed_text}
 use Rattle.mesh_fault_text.specs.Lines.{name_text}
 use Rattle.mesh_io.specs.declared.files.File.{File}
 use Rattle.mesh_files.specs.declared.faults.LoadFault.{LoadFault}
-use Rattle.mesh_files.specs.declared.faults.LoadFault.TheVariants.{Fault, Folder, Memory}
+use Rattle.mesh_files.specs.declared.faults.LoadFault.TheVariants.{Fault}
 use Rattle.mesh_files.specs.Loading.{◌>>=◌, in_file}
 use Rattle.mesh_files.specs.Models.{file_within}
 use Rattle.mesh_files.specs.Project.{sources_in}
-use Rattle.mesh_printed.specs.declared.refusals.Refusal.{Refusal}
-use Rattle.mesh_printed.specs.declared.refusals.Refusal.TheVariants as refusal
-
--- a fault of loading, as a command tells it
-abbrev pub of_load : LoadFault → Refusal
-of_load (Fault file at kind) = refusal.Model file at kind
-of_load Folder = refusal.Input
-of_load Memory = refusal.Memory
 
 -- the declared source of that name
 abbrev pub declared_as : Name → List Decl → Option Decl

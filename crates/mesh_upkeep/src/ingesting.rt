@@ -7,8 +7,8 @@ ghost use Rattle.mesh_printed.specs.Reports.{ingested_line};
 ghost use Rattle.mesh_printed.specs.declared.refusals.Refusal.TheVariants.{Input, Memory as NoMemory};
 ghost use Rattle.mesh_upkeep.specs.Ingesting.{Fits, IngestGives, IngestMakes, LoadGives, LoadMakes, MayLoad, other_shape};
 
-use crate::sourced::{of_load, source_rows};
-use mesh_commands::as_refusal;
+use crate::sourced::source_rows;
+use mesh_commands::{as_refusal, of_load};
 use mesh_fault_text::name_text;
 use mesh_house::{Change, Warehouse};
 use mesh_io::Folder;

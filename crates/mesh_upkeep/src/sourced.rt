@@ -6,7 +6,7 @@ ghost use Rattle.mesh_values.specs.Names.{name_cmp};
 ghost use Rattle.mesh_fault_text.specs.Lines.{name_text};
 ghost use Rattle.mesh_files.specs.Loading.{Asks, Gives};
 ghost use Rattle.mesh_files.specs.declared.faults.LoadFault.TheVariants as fault;
-ghost use Rattle.mesh_upkeep.specs.Sourced.{columns_named, declared_as, file_rows, in_order, of_load, seed_in, source_in, source_rows, undeclared};
+ghost use Rattle.mesh_upkeep.specs.Sourced.{columns_named, declared_as, file_rows, in_order, seed_in, source_in, source_rows, undeclared};
 
 use mesh_base::Decl;
 use mesh_csv::{bad_row, read_seed};
@@ -15,21 +15,9 @@ use mesh_files::{LoadFault, in_file, read_sources, read_within};
 use mesh_io::Folder;
 use mesh_layer::picked_rows;
 use mesh_list::{Duplicate, Memory};
-use mesh_printed::Refusal;
 use mesh_tokens::FaultKind;
 use mesh_values::{Columns, LARGEST_SOURCE, Name, Seed, Str};
 use std::alloc::Global;
-
-/// A fault of loading, as a command tells it.
-pub(crate) fn of_load(fault: LoadFault) -> Refusal
-    ensures { result ≡ of_load fault }
-{
-    match fault {
-        LoadFault::Fault { file, at, kind } => Refusal::Model { file, at, kind },
-        LoadFault::Folder => Refusal::Input,
-        LoadFault::Memory => Refusal::Memory,
-    }
-}
 
 fn is_named(source: &Decl, name: &Name) -> bool
     ensures { result ≡ is_eq (name_cmp source.now.name name.now) }

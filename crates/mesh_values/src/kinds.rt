@@ -1,4 +1,7 @@
 // How the rows of a model are kept.
+ghost use Rattle.std.specs.Prelude.{◌≡◌};
+ghost use Rattle.mesh_values.specs.Kinds.{is_incremental};
+
 use crate::values::Str;
 use mesh_list::{Duplicate, Memory, Same};
 
@@ -14,6 +17,16 @@ pub enum Kind {
     /// For each unit of the schedule, the query's rows whose time column lies in it. A unit is computed again with each of
     /// the next `lookback` units of the schedule.
     Incremental { time: Str, lookback: u32 },
+}
+
+/// Whether a model is computed unit by unit.
+pub fn is_incremental(kind: &Kind) -> bool
+    ensures { result ≡ is_incremental kind.now }
+{
+    match kind {
+        Kind::Incremental { .. } => true,
+        Kind::Full | Kind::View | Kind::Seed => false,
+    }
 }
 
 impl Duplicate for Kind {

@@ -17,7 +17,7 @@ mod times;
 mod values;
 
 pub use crons::{Cron, CronFault};
-pub use kinds::Kind;
+pub use kinds::{Kind, is_incremental};
 pub use limits::{
     DEEPEST_NESTING, FEWEST_WORKERS, FIRST_DATE, FIRST_MOMENT, LARGEST_EXPRESSION, LARGEST_FILE,
     LARGEST_NUMBER, LARGEST_SCRIPT, LARGEST_SEED, LARGEST_SOURCE, LARGEST_WAVE, LAST_DATE,

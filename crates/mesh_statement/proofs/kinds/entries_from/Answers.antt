@@ -1,5 +1,4 @@
 use Rattle.std.proofs.Common.{length, ◌-◌, sym, arith}
-use Rattle.std.proofs.lemmas.Result.{err_from_is_err_and}
 use Rattle.mesh_statement.specs.Faults.{bad}
 use Rattle.mesh_statement.specs.Kinds.{entries_from, no_entries, kind_word}
 use Rattle.mesh_statement.proofs.EntrySteps.{all_read, entry_read, entry_refused, too_many, is_no_length, some_length, refused_is}
@@ -10,16 +9,15 @@ returns-then-is_empty c =
     all_read (length c.args.tokens.now - c.loop.counter) c.args.file.now (bad c.args.at kind_word) c.args.kind c.loop.entries c.loop.rest.now (entries_from c.args.file.now (length c.args.tokens.now) (bad c.args.at kind_word) c.args.kind no_entries c.args.tokens.now)
     (is_no_length c.loop.rest.now (sym c.if-is_empty.ensures)) c.loop.invariant
 
-pub returns-in_err-left : goal.returns-in_err-left
-returns-in_err-left c =
-    let p = err_from_is_err_and c.from_residual.result c.from_residual.ensures.1 in
-    rw (p.1, p.2) (entry_refused c.in_err-left.field-0.0 (length c.args.tokens.now) c.loop.counter c.args.file.now (bad c.args.at kind_word) c.args.kind c.loop.entries c.loop.rest.now (entries_from c.args.file.now (length c.args.tokens.now) (bad c.args.at kind_word) c.args.kind no_entries c.args.tokens.now)
-    c.loop-test.true (some_length c.loop.rest.now (sym c.if-is_empty.ensures)) c.in_err-left.ensures c.loop.invariant)
+pub returns-in-Err : goal.returns-in-Err
+returns-in-Err c =
+    entry_refused c.in-Err.fault (length c.args.tokens.now) c.loop.counter c.args.file.now (bad c.args.at kind_word) c.args.kind c.loop.entries c.loop.rest.now (entries_from c.args.file.now (length c.args.tokens.now) (bad c.args.at kind_word) c.args.kind no_entries c.args.tokens.now)
+    c.loop-test.true (some_length c.loop.rest.now (sym c.if-is_empty.ensures)) c.in-Err.ensures c.loop.invariant
 
 pub loop-preserved : goal.loop-preserved
 loop-preserved c =
-    entry_read (length c.args.tokens.now) c.loop.counter c.args.file.now (bad c.args.at kind_word) c.args.kind c.loop.entries c.one_entry.new.entries c.loop.rest.now c.in_ok-left.left.now (entries_from c.args.file.now (length c.args.tokens.now) (bad c.args.at kind_word) c.args.kind no_entries c.args.tokens.now)
-    c.loop-test.true (some_length c.loop.rest.now (sym c.if-is_empty.ensures)) c.in_ok-left.ensures c.loop.invariant
+    entry_read (length c.args.tokens.now) c.loop.counter c.args.file.now (bad c.args.at kind_word) c.args.kind c.loop.entries c.one_entry.new.entries c.loop.rest.now c.in-Ok.left.now (entries_from c.args.file.now (length c.args.tokens.now) (bad c.args.at kind_word) c.args.kind no_entries c.args.tokens.now)
+    c.loop-test.true (some_length c.loop.rest.now (sym c.if-is_empty.ensures)) c.in-Ok.ensures c.loop.invariant
 
 pub returns-then-is_empty-2 : goal.returns-then-is_empty-2
 returns-then-is_empty-2 c =

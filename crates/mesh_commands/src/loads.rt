@@ -1,6 +1,6 @@
-// The project in a folder.
+// Why files of a project weren't read, as a command tells it.
 ghost use Rattle.std.specs.Prelude.{◌≡◌};
-ghost use Rattle.mesh_applying.specs.Loaded.{of_load};
+ghost use Rattle.mesh_commands.specs.Loads.{of_load};
 
 use mesh_files::LoadFault;
 use mesh_printed::Refusal;
