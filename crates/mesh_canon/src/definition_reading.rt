@@ -163,7 +163,6 @@ fn own(alloc: Global, form: Form, bytes: &[u8]) -> Result<(Own, &[u8]), CanonFau
     let cron = made(&fields)?;
     let (sources, rest) = list_then(alloc, rest, b" ")?;
     let (defn, rest) = body(alloc, rest)?;
-    let rest = expect(rest, b")")?;
     let made = Own {
         name,
         kind,
@@ -173,7 +172,13 @@ fn own(alloc: Global, form: Form, bytes: &[u8]) -> Result<(Own, &[u8]), CanonFau
         sources,
         defn,
     };
-    Ok((made, rest))
+    match expect(rest, b")") {
+        Ok(rest) => Ok((made, rest)),
+        Err(fault) => {
+            drop(made);
+            Err(fault)
+        }
+    }
 }
 
 #[tactic(auto, unfolding(crate::specs::Reading::own_in))]
@@ -183,7 +188,10 @@ fn whole_own(alloc: Global, form: Form, bytes: &[u8]) -> Result<Own, CanonFault>
     let (made, rest) = own(alloc, form, bytes)?;
     match rest {
         [] => Ok(made),
-        [_, ..] => Err(CanonFault::NotCanonical),
+        [_, ..] => {
+            drop(made);
+            Err(CanonFault::NotCanonical)
+        }
     }
 }
 
@@ -208,11 +216,19 @@ fn read_by(alloc: Global, form: Form, text: &[u8]) -> Result<Own, CanonFault>
         return Err(CanonFault::Memory);
     }
     let made = whole_own(alloc, form, text)?;
-    let again = own_by(alloc, form, &made)?;
-    if is_same(again.as_slice(), text) {
-        Ok(made)
-    } else {
-        Err(CanonFault::NotCanonical)
+    match own_by(alloc, form, &made) {
+        Ok(again) => {
+            if is_same(again.as_slice(), text) {
+                Ok(made)
+            } else {
+                drop(made);
+                Err(CanonFault::NotCanonical)
+            }
+        }
+        Err(_) => {
+            drop(made);
+            Err(CanonFault::Memory)
+        }
     }
 }
 

@@ -113,8 +113,13 @@ fn expr_then<'a>(
     ensures { Gives (λ x. (x.0, x.1.now)) result (then_at sign.now (expr_at depth) bytes.now) }
 {
     let (value, rest) = expr(alloc, depth, bytes)?;
-    let rest = expect(rest, sign)?;
-    Ok((value, rest))
+    match expect(rest, sign) {
+        Ok(rest) => Ok((value, rest)),
+        Err(fault) => {
+            drop(value);
+            Err(fault)
+        }
+    }
 }
 
 #[cycle(read)]
@@ -215,8 +220,13 @@ fn when(alloc: Global, depth: usize, bytes: &[u8]) -> Result<(When, &[u8]), Cano
 {
     let rest = expect(bytes, b"(when ")?;
     let (test, rest) = expr_then(alloc, depth, rest, b" ")?;
-    let (value, rest) = expr_then(alloc, depth, rest, b")")?;
-    Ok((When { test, value }, rest))
+    match expr_then(alloc, depth, rest, b")") {
+        Ok((value, rest)) => Ok((When { test, value }, rest)),
+        Err(fault) => {
+            drop(test);
+            Err(fault)
+        }
+    }
 }
 
 #[cycle(read)]
@@ -315,8 +325,13 @@ pub(crate) fn option_then<'a>(
     ensures { Gives (λ x. (x.0, x.1.now)) result (then_at sign.now option_at bytes.now) }
 {
     let (value, rest) = option(alloc, bytes)?;
-    let rest = expect(rest, sign)?;
-    Ok((value, rest))
+    match expect(rest, sign) {
+        Ok(rest) => Ok((value, rest)),
+        Err(fault) => {
+            drop(value);
+            Err(fault)
+        }
+    }
 }
 
 // An expression, or `none`.

@@ -61,8 +61,13 @@ fn rel_then_space(alloc: Global, bytes: &[u8]) -> Result<(Rel, &[u8]), CanonFaul
     ensures { Gives (λ x. (x.0, x.1.now)) result (then_at (codes " ") rel_at bytes.now) }
 {
     let (rel, rest) = rel(alloc, bytes)?;
-    let rest = expect(rest, b" ")?;
-    Ok((rel, rest))
+    match expect(rest, b" ") {
+        Ok(rest) => Ok((rel, rest)),
+        Err(fault) => {
+            drop(rel);
+            Err(fault)
+        }
+    }
 }
 
 impl Readable for FromItem {
@@ -75,8 +80,13 @@ impl Readable for FromItem {
             return Err(CanonFault::NotCanonical);
         };
         let (rel, rest) = rel_then_space(alloc, rest)?;
-        let (on, rest) = option_then(alloc, rest, b")")?;
-        Ok((FromItem { join, rel, on }, rest))
+        match option_then(alloc, rest, b")") {
+            Ok((on, rest)) => Ok((FromItem { join, rel, on }, rest)),
+            Err(fault) => {
+                drop(rel);
+                Err(fault)
+            }
+        }
     }
 }
 
@@ -111,8 +121,13 @@ fn filters(alloc: Global, bytes: &[u8]) -> Result<((Option<Expr>, Exprs), &[u8])
     ensures { Gives (λ x. (x.0, x.1.now)) result (filters_at bytes.now) }
 {
     let (filter, rest) = option_then(alloc, bytes, b" ")?;
-    let (keys, rest) = list_then(alloc, rest, b" ")?;
-    Ok(((filter, keys), rest))
+    match list_then(alloc, rest, b" ") {
+        Ok((keys, rest)) => Ok(((filter, keys), rest)),
+        Err(fault) => {
+            drop(filter);
+            Err(fault)
+        }
+    }
 }
 
 impl Readable for Select {
@@ -123,17 +138,24 @@ impl Readable for Select {
         let ((distinct, grouped), rest) = modes(bytes)?;
         let ((items, from), rest) = tables(alloc, rest)?;
         let ((filter, keys), rest) = filters(alloc, rest)?;
-        let (having, rest) = option_then(alloc, rest, b")")?;
-        let made = Select {
-            distinct,
-            grouped,
-            items,
-            from,
-            filter,
-            keys,
-            having,
-        };
-        Ok((made, rest))
+        match option_then(alloc, rest, b")") {
+            Ok((having, rest)) => Ok((
+                Select {
+                    distinct,
+                    grouped,
+                    items,
+                    from,
+                    filter,
+                    keys,
+                    having,
+                },
+                rest,
+            )),
+            Err(fault) => {
+                drop(filter);
+                Err(fault)
+            }
+        }
     }
 }
 

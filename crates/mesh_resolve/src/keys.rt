@@ -100,7 +100,9 @@ fn key_meant(alloc: Global, sight: &Sight, outputs: &[Output], e: &OrExpr) -> Re
     ensures { Gives result (key sight.now outputs.now e.now) }
 {
     let name = lone_name(e)?;
-    match item_meant(sight, outputs, &name) {
+    let meant = item_meant(sight, outputs, &name);
+    drop(name);
+    match meant {
         Some(item) => {
             let expr = item.copy()?;
             Ok(Key::Item { at: e.at, expr })

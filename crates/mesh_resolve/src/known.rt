@@ -82,7 +82,7 @@ impl Commons {
         match self.places.insert(name, place) {
             Ok(_) => Ok(()),
             Err(_) => {
-                self.list.pop();
+                drop(self.list.pop());
                 Err(Memory)
             }
         }

@@ -11,7 +11,7 @@ use crate::queries::resolve;
 use crate::sources::sources_read;
 use mesh_base::{Defn, Own, Sources};
 use mesh_columns::select_columns;
-use mesh_list::{Duplicate, Seq, both};
+use mesh_list::{Duplicate, Memory, Seq, both};
 use mesh_model::ModelText;
 use mesh_surface::Surface;
 use mesh_tokens::ReadFault;
@@ -114,14 +114,19 @@ pub fn own_of(
     ensures { Gives result (own m.now seed known.now) }
 {
     let (defn, sources) = body_of(alloc, known, m, seed)?;
-    let (name, kind) = both(&m.name, &m.kind)?;
-    Ok(Own {
-        name,
-        kind,
-        cron: m.cron,
-        unit: m.unit,
-        start: m.start,
-        sources,
-        defn,
-    })
+    match both(&m.name, &m.kind) {
+        Ok((name, kind)) => Ok(Own {
+            name,
+            kind,
+            cron: m.cron,
+            unit: m.unit,
+            start: m.start,
+            sources,
+            defn,
+        }),
+        Err(Memory) => {
+            drop(defn);
+            Err(ReadFault::Memory)
+        }
+    }
 }

@@ -71,11 +71,18 @@ fn two_part(known: &Catalog, at: u64, schema: &Str, name: &Str) -> Result<(Rel, 
     let (schema, model) = both(schema, name)?;
     let full = Name { schema, model };
     match known.columns(&full) {
-        Some(columns) => {
-            let columns = columns.copy()?;
-            Ok((Rel::Named(full), columns))
+        Some(columns) => match columns.copy() {
+            Ok(columns) => Ok((Rel::Named(full), columns)),
+            Err(Memory) => {
+                drop(full);
+                Err(ReadFault::Memory)
+            }
+        },
+        None => {
+            let shown = dotted(&full.schema, &full.model);
+            drop(full);
+            Err(unknown_relation(at, shown?))
         }
-        None => Err(unknown_relation(at, dotted(&full.schema, &full.model)?)),
     }
 }
 

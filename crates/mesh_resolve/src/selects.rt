@@ -15,7 +15,7 @@ use crate::known::Commons;
 use crate::outputs::{Output, items};
 use crate::relations::{condition, drawn_from};
 use mesh_base::{Expr, FromItem, Item, Select};
-use mesh_list::{Memory, Seq};
+use mesh_list::{Memory, Seq, together};
 use mesh_scope::Sight;
 use mesh_surface::{OrExpr, SurfaceSelect};
 use mesh_tokens::ReadFault;
@@ -140,20 +140,26 @@ fn resolved_as(
         from,
         filter,
         outputs,
+        keys: before,
         having,
-        ..
     } = w;
-    let items = resolved_items(alloc, outputs)?;
-    let from = from_items(alloc, from)?;
-    Ok(Select {
-        distinct,
-        grouped,
-        items,
-        from,
-        filter: expr_of(filter),
-        keys,
-        having: expr_of(having),
-    })
+    drop(before);
+    match together(resolved_items(alloc, outputs), from_items(alloc, from)) {
+        Ok((items, from)) => Ok(Select {
+            distinct,
+            grouped,
+            items,
+            from,
+            filter: expr_of(filter),
+            keys,
+            having: expr_of(having),
+        }),
+        Err(Memory) => {
+            drop(filter);
+            drop(having);
+            Err(Memory)
+        }
+    }
 }
 
 fn stands(alloc: Global, grouped: bool, keys: &[Expr], w: &Walked) -> Result<(), ReadFault>
@@ -183,8 +189,14 @@ pub(crate) fn select(
     ensures { Gives result (select known.now ctes.now s.now) }
 {
     let w = parts_of(alloc, known, ctes, s)?;
-    let keys = right_keys(alloc, &w)?;
-    let grouped = is_grouped(&w);
-    let made = resolved_as(alloc, s.distinct, grouped, keys, w)?;
-    Ok(made)
+    match right_keys(alloc, &w) {
+        Ok(keys) => {
+            let grouped = is_grouped(&w);
+            Ok(resolved_as(alloc, s.distinct, grouped, keys, w)?)
+        }
+        Err(fault) => {
+            drop(w);
+            Err(fault)
+        }
+    }
 }

@@ -125,7 +125,7 @@ fn place(list: &mut Vec<Decl>, d: Decl) -> Result<(), Memory>
         return Ok(());
     }
     if list[at].name.compare(&d.name).is_eq() {
-        list[at] = d;
+        drop(std::mem::replace(&mut list[at], d));
         return Ok(());
     }
     list.insert(at, d)?;

@@ -7,7 +7,7 @@ use Rattle.mesh_tokens.specs.declared.faults.ReadFault.TheVariants as faults
 use Rattle.mesh_types.specs.declared.typed.Typed.{Typed}
 use Rattle.mesh_types.specs.Forms.{Read, cased}
 use Rattle.mesh_scope.specs.Expressions.{chain, then_right}
-use Rattle.mesh_scope.specs.Steps.{over, next_part, whole, in_turn, case_over}
+use Rattle.mesh_scope.specs.Steps.{over, next_part, whole, in_turn, of_both, case_over}
 
 -- an answer that wants memory may stand for anything
 wants_memory : {Y : Type 0} (answer read : Result Y ReadFault) → Gives answer (Err faults.Memory) → Gives answer read
@@ -21,7 +21,7 @@ over_given form (Ok x) read answer is gives = subst (λ s. Gives answer (s >>= f
 over_given form (Err (faults.Fault at kind)) read answer is gives = subst (λ s. Gives answer (s >>= form)) (sym is) gives
 over_given form (Err faults.Memory) read answer is gives = wants_memory answer (read >>= form) gives
 
-under : {A B : Type 0} (form other : A → Result B ReadFault) (read : Result A ReadFault) (answer : Result B ReadFault)
+pub under : {A B : Type 0} (form other : A → Result B ReadFault) (read : Result A ReadFault) (answer : Result B ReadFault)
     → ((x : A) → Gives answer (form x) → Gives answer (other x)) → Gives answer (read >>= form) → Gives answer (read >>= other)
 under form other (Ok x) answer each gives = each x gives
 under form other (Err e) answer each gives = gives
@@ -37,6 +37,12 @@ pub turn_then : {A B C : Type 0} (a : Result A ReadFault) (b : Result B ReadFaul
 turn_then (Ok x) (Ok y) form = refl
 turn_then (Ok x) (Err e) form = refl
 turn_then (Err e) b form = refl
+
+pub both_given : {A B C : Type 0} (form : A → B → Result C ReadFault) (a c : Result A ReadFault) (b d : Result B ReadFault) (answer : Result C ReadFault)
+    → Gives a c → Gives b d → Gives answer (of_both form a b) → Gives answer (c >>= λ x. d >>= λ y. form x y)
+both_given form a c b d answer is also gives =
+    under (λ x. b >>= λ y. form x y) (λ x. d >>= λ y. form x y) c answer (λ x. over_given (λ y. form x y) b d answer also)
+    (over_given (λ x. b >>= λ y. form x y) a c answer is (subst (λ r. Gives answer r) (turn_then a b form) gives))
 
 pub case_given : (at : ℕ) (operand a : Result (Option Typed) ReadFault) (arms b : Result (List (Typed × Typed)) ReadFault) (otherwise d : Result (Option Typed) ReadFault) (answer : Read)
     → Gives operand a → Gives arms b → Gives otherwise d → Gives answer (case_over at operand arms otherwise) → Gives answer (case_over at a b d)

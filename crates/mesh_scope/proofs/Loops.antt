@@ -1,17 +1,17 @@
 -- The loops of the walk: one more operand, the first fault, and the end.
-use Rattle.std.proofs.Common.{◌≡◌, ℕ, ◌+◌, ◌<◌, ◌≤◌, List, [], length, take, map, get_or, Result, Ok, Err, Option, None, IsErrAnd, refl, sym, ap, subst, ◌∙◌}
+use Rattle.std.proofs.Common.{◌≡◌, ℕ, ◌+◌, ◌<◌, ◌≤◌, List, [], ◌∷◌, ◌++◌, length, take, map, get_or, Result, Ok, Err, Option, None, IsErrAnd, refl, sym, ap, subst, take_all, ◌∙◌}
 use Rattle.std.proofs.lemmas.Result.{err_from_is_err_and}
-use Rattle.std.proofs.lemmas.List.{map-id, take_more, get_or_default}
+use Rattle.std.proofs.lemmas.List.{map-id, map_more, take_more, get_or_default}
 use Rattle.mesh_tokens.specs.Gives.{◌>>=◌, Gives, Refuses}
-use Rattle.mesh_tokens.specs.Walk.{along, one_more}
+use Rattle.mesh_tokens.specs.Walk.{along}
 use Rattle.mesh_tokens.specs.declared.faults.ReadFault.{ReadFault}
 use Rattle.mesh_tokens.specs.declared.faults.ReadFault.TheVariants as faults
-use Rattle.mesh_tokens.proofs.Along.{along_snoc, one_more_of, fault_at, all_of_them}
+use Rattle.mesh_tokens.proofs.Along.{along_snoc, fault_at}
 use Rattle.mesh_types.specs.declared.typed.Typed.{Typed}
 use Rattle.mesh_types.specs.Forms.{Read}
 use Rattle.mesh_scope.specs.Expressions.{Behind, chain, steps, one_step}
-use Rattle.mesh_scope.specs.Steps.{over, next_part, whole}
-use Rattle.mesh_scope.proofs.Answered.{over_given, chained}
+use Rattle.mesh_scope.specs.Steps.{over, next_part, of_both, whole}
+use Rattle.mesh_scope.proofs.Answered.{over_given, under, both_given, chained}
 
 -- a function that ends with a fault
 pub stopped : {Y : Type 0} (answer read : Result Y ReadFault) (e : ReadFault) → IsErrAnd answer (λ y. y ≡ e) → Refuses e read → Gives answer read
@@ -32,72 +32,59 @@ pub nothing_yet : {S A : Type 0} (step : S → A → Result S ReadFault) (s : S)
 unfolding along
 nothing_yet step s = refl
 
--- a walk over operands
-module _ {S A X : Type 0} (form : S → A → Result S ReadFault) (f : X → Result A ReadFault) where
-  pub one_more_over : (s now next : S) (xs : List X) (i : ℕ) (x : X) (r : Result A ReadFault) → i < length xs → x ≡ get_or xs i x
-      → along (over form) s (map f (take i xs)) ≡ Ok now → Gives r (f x) → over form now r ≡ Ok next
-      → along (over form) s (map f (take (i + 1) xs)) ≡ Ok next
-  one_more_over s now next xs i x r lt is so_far given gives =
-      one_more_of (over form) f s now next xs i x lt is so_far (over_given (form now) r (f x) (Ok next) given gives)
+-- one more member of a list that is walked over
+grown : {S X A : Type 0} (step : S → A → Result S ReadFault) (f : X → A) (s : S) (xs : List X) (i : ℕ) (x : X) → i < length xs → x ≡ get_or xs i x
+    → along step s (map f (take (i + 1) xs)) ≡ (along step s (map f (take i xs)) >>= λ n. step n (f x))
+grown step f s xs i x lt is =
+    ap (along step s) (map_more f xs i x lt ∙ ap (λ y. map f (take i xs) ++ f y ∷ []) (sym is)) ∙ along_snoc step s (map f (take i xs)) (f x)
 
-  pub fault_over : (s now : S) (xs : List X) (i : ℕ) (x : X) (r : Result A ReadFault) (e : ReadFault) → i < length xs → x ≡ get_or xs i x
-      → along (over form) s (map f (take i xs)) ≡ Ok now → Gives r (f x) → Refuses e (over form now r)
-      → Refuses e (along (over form) s (map f xs))
-  fault_over s now xs i x r e lt is so_far given stops =
-      fault_at (over form) f s now xs i x e lt is so_far (over_given (form now) r (f x) (Err e) given stops)
+-- a walk over operands, by the answers so far
+module _ {S A X : Type 0} (form : S → A → Result S ReadFault) (f : X → Result A ReadFault) where
+  pub one_more_over : (s : S) (now next : Result S ReadFault) (xs : List X) (i : ℕ) (x : X) (r : Result A ReadFault) → i < length xs → x ≡ get_or xs i x
+      → Gives now (along (over form) s (map f (take i xs))) → Gives r (f x) → Gives next (of_both form now r)
+      → Gives next (along (over form) s (map f (take (i + 1) xs)))
+  one_more_over s now next xs i x r lt is so_far given gives =
+      subst (λ q. Gives next q) (sym (grown (over form) f s xs i x lt is))
+      (both_given form now (along (over form) s (map f (take i xs))) r (f x) next so_far given gives)
+
+  pub all_over : (s : S) (now : Result S ReadFault) (xs parts : List X) (i : ℕ) → xs ≡ parts → length xs ≤ i
+      → Gives now (along (over form) s (map f (take i xs))) → Gives now (along (over form) s (map f parts))
+  all_over s now xs parts i same le so_far = subst (λ l. Gives now (along (over form) s (map f l))) (take_all i xs le ∙ same) so_far
 
 -- a chain of parts
 module _ {X : Type 0} (at : ℕ) (form : Typed → Typed → Read) (f : X → Read) (read answer : Read) (parts : List X) (is : read ≡ chain at form (map f parts)) where
-  whole_walk : (xs : List X) → xs ≡ parts → (along (over (next_part form)) None (map f xs) >>= whole at) ≡ read
-  whole_walk xs same = sym (chained at form (map f xs)) ∙ ap (λ l. chain at form (map f l)) same ∙ sym is
-
-  pub chain_stops : (now : Option Typed) (xs : List X) (i : ℕ) (x : X) (r : Read) (e : ReadFault) → xs ≡ parts → i < length xs → x ≡ get_or xs i x
-      → along (over (next_part form)) None (map f (take i xs)) ≡ Ok now → Gives r (f x) → Refuses e (over (next_part form) now r)
-      → IsErrAnd answer (λ y. y ≡ e) → Gives answer read
-  chain_stops now xs i x r e same lt here so_far given stops ends =
-      stopped answer read e ends (subst (λ s. Refuses e s) (whole_walk xs same)
-      (refused_on e (along (over (next_part form)) None (map f xs)) (whole at) (fault_over (next_part form) f None now xs i x r e lt here so_far given stops)))
-
-  pub chain_ends : (now : Option Typed) (xs : List X) (i : ℕ) → xs ≡ parts → length xs ≤ i
-      → along (over (next_part form)) None (map f (take i xs)) ≡ Ok now → Gives answer (whole at now) → Gives answer read
+  pub chain_ends : (now : Result (Option Typed) ReadFault) (xs : List X) (i : ℕ) → xs ≡ parts → length xs ≤ i
+      → Gives now (along (over (next_part form)) None (map f (take i xs))) → Gives answer (now >>= whole at) → Gives answer read
   chain_ends now xs i same le so_far gives =
-      subst (λ s. Gives answer s) (ap (λ r. r >>= whole at) (sym (all_of_them (over (next_part form)) f None now xs i le so_far)) ∙ whole_walk xs same) gives
+      subst (λ s. Gives answer s) (sym (chained at form (map f parts)) ∙ sym is)
+      (over_given (whole at) now (along (over (next_part form)) None (map f parts)) answer (all_over (next_part form) f None now xs parts i same le so_far) gives)
 
 -- steps behind a first part
-pub no_first : (at : ℕ) (first : Read) (rs : List Behind) (read answer : Read) (e : ReadFault) → read ≡ steps at first rs → Refuses e first → IsErrAnd answer (λ y. y ≡ e) → Gives answer read
-no_first at first rs read answer e is stops ends =
-    stopped answer read e ends (subst (λ s. Refuses e s) (sym is) (refused_on e first (λ left. along (one_step at) left rs) stops))
+pub begun : {S A : Type 0} (step : S → A → Result S ReadFault) (r first : Result S ReadFault) → Gives r first → Gives r (first >>= λ s. along step s [])
+unfolding along
+begun step r (Ok s) is = is
+begun step r (Err e) is = is
+
+more_behind : {S X A : Type 0} (step : S → A → Result S ReadFault) (f : X → A) (first : Result S ReadFault) (xs : List X) (i : ℕ) (x : X) → i < length xs → x ≡ get_or xs i x
+    → (first >>= λ s. along step s (map f (take (i + 1) xs))) ≡ ((first >>= λ s. along step s (map f (take i xs))) >>= λ n. step n (f x))
+more_behind step f (Ok s) xs i x lt is = grown step f s xs i x lt is
+more_behind step f (Err e) xs i x lt is = refl
 
 module _ {X : Type 0} (at : ℕ) (f : X → Behind) (form : Typed → Typed → Read) where
-  pub one_more_step : (s now next : Typed) (xs : List X) (i : ℕ) (x : X) (operand r : Read) → i < length xs → x ≡ get_or xs i x
-      → along (one_step at) s (map f (take i xs)) ≡ Ok now → f x at now ≡ over form now operand → Gives r operand → over form now r ≡ Ok next
-      → along (one_step at) s (map f (take (i + 1) xs)) ≡ Ok next
-  one_more_step s now next xs i x operand r lt here so_far is given gives =
-      one_more_of (one_step at) f s now next xs i x lt here so_far (is ∙ over_given (form now) r operand (Ok next) given gives)
+  pub one_more_step : (first now next : Read) (xs : List X) (i : ℕ) (x : X) (operand r : Read) → i < length xs → x ≡ get_or xs i x
+      → Gives now (first >>= λ s. along (one_step at) s (map f (take i xs))) → ((left : Typed) → f x at left ≡ over form left operand) → Gives r operand
+      → Gives next (of_both form now r) → Gives next (first >>= λ s. along (one_step at) s (map f (take (i + 1) xs)))
+  one_more_step first now next xs i x operand r lt here so_far is given gives =
+      subst (λ q. Gives next q) (sym (more_behind (one_step at) f first xs i x lt here))
+      (under (λ l. operand >>= λ y. form l y) (λ l. f x at l) (first >>= λ s. along (one_step at) s (map f (take i xs))) next
+      (λ l g. subst (λ q. Gives next q) (sym (is l)) g)
+      (both_given form now (first >>= λ s. along (one_step at) s (map f (take i xs))) r operand next so_far given gives))
 
-  pub step_stops : (first read answer : Read) (parts : List X) (s now : Typed) (xs : List X) (i : ℕ) (x : X) (operand r : Read) (e : ReadFault)
-      → read ≡ steps at first (map f parts) → first ≡ Ok s → xs ≡ parts → i < length xs → x ≡ get_or xs i x
-      → along (one_step at) s (map f (take i xs)) ≡ Ok now → f x at now ≡ over form now operand → Gives r operand → Refuses e (over form now r)
-      → IsErrAnd answer (λ y. y ≡ e) → Gives answer read
-  step_stops first read answer parts s now xs i x operand r e layer begins same lt here so_far is given stops ends =
-      stopped answer read e ends (subst (λ q. Refuses e q)
-      (ap (λ l. along (one_step at) s (map f l)) same ∙ ap (λ q. q >>= λ left. along (one_step at) left (map f parts)) (sym begins) ∙ sym layer)
-      (fault_at (one_step at) f s now xs i x e lt here so_far
-      (subst (λ q. Refuses e q) (sym is) (over_given (form now) r operand (Err e) given stops))))
-
-pub steps_end : {X : Type 0} (at : ℕ) (f : X → Behind) (first read : Read) (parts : List X) (s now : Typed) (xs : List X) (i : ℕ)
-    → read ≡ steps at first (map f parts) → first ≡ Ok s → xs ≡ parts → length xs ≤ i
-    → along (one_step at) s (map f (take i xs)) ≡ Ok now → read ≡ Ok now
-steps_end at f first read parts s now xs i layer begins same le so_far =
-    layer ∙ ap (λ q. q >>= λ left. along (one_step at) left (map f parts)) begins ∙ ap (λ l. along (one_step at) s (map f l)) (sym same)
-    ∙ all_of_them (one_step at) f s now xs i le so_far
-
--- all of a list
-pub list_stops : {X A : Type 0} (f : X → Result A ReadFault) (parts : List X) (answer : Result (List A) ReadFault) (now : List A) (xs : List X) (i : ℕ) (x : X) (e : ReadFault)
-    → xs ≡ parts → i < length xs → x ≡ get_or xs i x → along one_more [] (map f (take i xs)) ≡ Ok now → Refuses e (one_more now (f x))
-    → IsErrAnd answer (λ y. y ≡ e) → Gives answer (along one_more [] (map f parts))
-list_stops f parts answer now xs i x e same lt here so_far stops ends =
-    stopped answer _ e ends (subst (λ l. Refuses e (along one_more [] (map f l))) same (fault_at one_more f [] now xs i x e lt here so_far stops))
+pub steps_end : {X : Type 0} (at : ℕ) (f : X → Behind) (first read answer : Read) (parts xs : List X) (i : ℕ)
+    → read ≡ steps at first (map f parts) → xs ≡ parts → length xs ≤ i
+    → Gives answer (first >>= λ s. along (one_step at) s (map f (take i xs))) → Gives answer read
+steps_end at f first read answer parts xs i layer same le so_far =
+    subst (λ q. Gives answer q) (ap (λ l. first >>= λ s. along (one_step at) s (map f l)) (take_all i xs le ∙ same) ∙ sym layer) so_far
 
 -- a walk over plain values
 module _ {S A : Type 0} (step : S → A → Result S ReadFault) where

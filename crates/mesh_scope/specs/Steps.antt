@@ -1,5 +1,5 @@
 -- The steps of the walk, over what its operands stand for: the fault of an operand comes before that of the form.
-use Rattle.std.specs.Prelude.{ℕ, Bool, List, Result, Ok, Err}
+use Rattle.std.specs.Prelude.{ℕ, Bool, List, [], ◌∷◌, ◌++◌, Result, Ok, Err}
 use Rattle.std.specs.declared.option.Option.{Option}
 use Rattle.std.specs.declared.option.Option.TheVariants.{None, Some}
 use Rattle.mesh_values.specs.declared.values.ColType.{ColType}
@@ -15,6 +15,10 @@ use Rattle.mesh_scope.specs.Expressions.{one_cast}
 -- what a state becomes by an operand
 abbrev pub over : {S A : Type 0} → (S → A → Result S ReadFault) → S → Result A ReadFault → Result S ReadFault
 over form left right = right >>= form left
+
+-- what comes of an operand
+abbrev pub after : {A B : Type 0} → (A → Result B ReadFault) → Result A ReadFault → Result B ReadFault
+after form r = r >>= form
 
 -- one more part of a chain, which is the first one where nothing is on its left
 abbrev pub next_part : (Typed → Typed → Read) → Option Typed → Typed → Result (Option Typed) ReadFault
@@ -33,6 +37,14 @@ all_cast at value casts = value >>= λ t. along (one_cast at) t casts
 -- one after the other
 abbrev pub in_turn : {A B : Type 0} → Result A ReadFault → Result B ReadFault → Result (A × B) ReadFault
 in_turn a b = a >>= λ x. b >>= λ y. Ok (x, y)
+
+-- what comes of two operands
+abbrev pub of_both : {A B C : Type 0} → (A → B → Result C ReadFault) → Result A ReadFault → Result B ReadFault → Result C ReadFault
+of_both form a b = in_turn a b >>= λ both. form both.0 both.1
+
+-- one more item of a list
+abbrev pub with_last : {A : Type 0} → List A → A → Result (List A) ReadFault
+with_last made x = Ok (made ++ x ∷ [])
 
 abbrev pub case_over : ℕ → Result (Option Typed) ReadFault → Result (List (Typed × Typed)) ReadFault → Result (Option Typed) ReadFault → Read
 case_over at operand arms otherwise = operand >>= λ operand. arms >>= λ arms. otherwise >>= λ otherwise. cased at operand arms otherwise

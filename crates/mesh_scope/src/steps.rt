@@ -5,10 +5,9 @@ ghost use Rattle.mesh_values.specs.declared.values.ColType.TheVariants.{Text};
 ghost use Rattle.mesh_values.specs.declared.values.Cell.TheVariants as cell;
 ghost use Rattle.mesh_base.specs.declared.expressions.Expr as expr;
 ghost use Rattle.mesh_tokens.specs.Gives.{Gives};
-ghost use Rattle.mesh_tokens.specs.Walk.{one_more};
 ghost use Rattle.mesh_types.specs.Forms.{leaf, uniform, added, multiplied, null_test, turned};
 ghost use Rattle.mesh_scope.specs.Expressions.{number};
-ghost use Rattle.mesh_scope.specs.Steps.{over, next_part, whole, all_cast, compared_with, between_both, among_all, cast_value, in_turn, case_over};
+ghost use Rattle.mesh_scope.specs.Steps.{after, of_both, with_last, next_part, whole, all_cast, compared_with, between_both, among_all, cast_value, in_turn, case_over};
 
 use mesh_base::{Expr, Op};
 use mesh_list::{Duplicate, Seq};
@@ -27,12 +26,12 @@ pub(crate) fn next_part(
     kind: ColType,
     op: Op,
     at: u64,
-    left: Option<Typed>,
+    left: Result<Option<Typed>, ReadFault>,
     right: Result<Typed, ReadFault>,
 ) -> Result<Option<Typed>, ReadFault>
-    ensures { Gives result (over (next_part (uniform kind op at)) left right) }
+    ensures { Gives result (of_both (next_part (uniform kind op at)) left right) }
 {
-    let right = right?;
+    let (left, right) = in_turn(left, right)?;
     match left {
         None => Ok(Some(right)),
         Some(left) => Ok(Some(uniform(alloc, kind, op, at, left, right)?)),
@@ -40,10 +39,10 @@ pub(crate) fn next_part(
 }
 
 // The chain, which begins at this place.
-pub(crate) fn whole(at: u64, chain: Option<Typed>) -> Result<Typed, ReadFault>
-    ensures { Gives result (whole at chain) }
+pub(crate) fn whole(at: u64, chain: Result<Option<Typed>, ReadFault>) -> Result<Typed, ReadFault>
+    ensures { Gives result (after (whole at) chain) }
 {
-    match chain {
+    match chain? {
         None => Err(unwritten(at)),
         Some(t) => Ok(t),
     }
@@ -53,24 +52,26 @@ pub(crate) fn next_term(
     alloc: Global,
     sign: AddSign,
     at: u64,
-    left: Typed,
+    left: Result<Typed, ReadFault>,
     right: Result<Typed, ReadFault>,
 ) -> Result<Typed, ReadFault>
-    ensures { Gives result (over (added sign at) left right) }
+    ensures { Gives result (of_both (added sign at) left right) }
 {
-    added(alloc, sign, at, left, right?)
+    let (left, right) = in_turn(left, right)?;
+    added(alloc, sign, at, left, right)
 }
 
 pub(crate) fn next_factor(
     alloc: Global,
     sign: MulSign,
     at: u64,
-    left: Typed,
+    left: Result<Typed, ReadFault>,
     right: Result<Typed, ReadFault>,
 ) -> Result<Typed, ReadFault>
-    ensures { Gives result (over (multiplied sign at) left right) }
+    ensures { Gives result (of_both (multiplied sign at) left right) }
 {
-    multiplied(alloc, sign, at, left, right?)
+    let (left, right) = in_turn(left, right)?;
+    multiplied(alloc, sign, at, left, right)
 }
 
 pub(crate) fn compared_with(
@@ -153,11 +154,14 @@ pub(crate) fn all_cast(
 }
 
 // One more item, where there is one.
-pub(crate) fn pushed<T: Drop>(made: Seq<T>, item: Result<T, ReadFault>) -> Result<Seq<T>, ReadFault>
-    ensures { Gives result (one_more made item) }
+pub(crate) fn pushed<T: Drop>(
+    made: Result<Seq<T>, ReadFault>,
+    item: Result<T, ReadFault>,
+) -> Result<Seq<T>, ReadFault>
+    ensures { Gives result (of_both with_last made item) }
 {
-    let mut made = made;
-    made.push(item?)?;
+    let (mut made, item) = in_turn(made, item)?;
+    made.push(item)?;
     Ok(made)
 }
 

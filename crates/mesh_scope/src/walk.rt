@@ -23,10 +23,10 @@ use std::alloc::Global;
 pub fn typed(alloc: Global, sight: &Sight, e: &OrExpr) -> Result<Typed, ReadFault>
     ensures { Gives result (typed sight.now e.now) }
 {
-    let mut left = None;
+    let mut left = Ok(None);
     for part in e.parts.as_slice() {
         let right = and_typed(alloc, sight, part);
-        left = next_part(alloc, ColType::Bool, Op::Or, e.at, left, right)?;
+        left = next_part(alloc, ColType::Bool, Op::Or, e.at, left, right);
     }
     whole(e.at, left)
 }
@@ -35,10 +35,10 @@ pub fn typed(alloc: Global, sight: &Sight, e: &OrExpr) -> Result<Typed, ReadFaul
 fn and_typed(alloc: Global, sight: &Sight, e: &AndExpr) -> Result<Typed, ReadFault>
     ensures { Gives result (and_typed sight.now e.now) }
 {
-    let mut left = None;
+    let mut left = Ok(None);
     for part in e.parts.as_slice() {
         let right = not_typed(alloc, sight, part);
-        left = next_part(alloc, ColType::Bool, Op::And, e.at, left, right)?;
+        left = next_part(alloc, ColType::Bool, Op::And, e.at, left, right);
     }
     whole(e.at, left)
 }
@@ -93,21 +93,21 @@ fn test_typed(
 fn all_typed(alloc: Global, sight: &Sight, all: &Seq<OrExpr>) -> Result<Typeds, ReadFault>
     ensures { Gives result (all_typed sight.now all.now) }
 {
-    let mut made = Seq::new(alloc);
+    let mut made = Ok(Seq::new(alloc));
     for e in all.as_slice() {
-        made = pushed(made, typed(alloc, sight, e))?;
+        made = pushed(made, typed(alloc, sight, e));
     }
-    Ok(made)
+    made
 }
 
 #[cycle(walk)]
 fn cat_typed(alloc: Global, sight: &Sight, e: &CatExpr) -> Result<Typed, ReadFault>
     ensures { Gives result (cat_typed sight.now e.now) }
 {
-    let mut left = None;
+    let mut left = Ok(None);
     for part in e.parts.as_slice() {
         let right = sum_typed(alloc, sight, part);
-        left = next_part(alloc, ColType::Text, Op::Cat, e.at, left, right)?;
+        left = next_part(alloc, ColType::Text, Op::Cat, e.at, left, right);
     }
     whole(e.at, left)
 }
@@ -116,24 +116,24 @@ fn cat_typed(alloc: Global, sight: &Sight, e: &CatExpr) -> Result<Typed, ReadFau
 fn sum_typed(alloc: Global, sight: &Sight, e: &AddExpr) -> Result<Typed, ReadFault>
     ensures { Gives result (sum_typed sight.now e.now) }
 {
-    let mut left = product_typed(alloc, sight, &e.first)?;
+    let mut left = product_typed(alloc, sight, &e.first);
     for step in e.rest.as_slice() {
         let right = product_typed(alloc, sight, &step.part);
-        left = next_term(alloc, step.sign, e.at, left, right)?;
+        left = next_term(alloc, step.sign, e.at, left, right);
     }
-    Ok(left)
+    left
 }
 
 #[cycle(walk)]
 fn product_typed(alloc: Global, sight: &Sight, e: &MulExpr) -> Result<Typed, ReadFault>
     ensures { Gives result (product_typed sight.now e.now) }
 {
-    let mut left = unary_typed(alloc, sight, &e.first)?;
+    let mut left = unary_typed(alloc, sight, &e.first);
     for step in e.rest.as_slice() {
         let right = unary_typed(alloc, sight, &step.part);
-        left = next_factor(alloc, step.sign, e.at, left, right)?;
+        left = next_factor(alloc, step.sign, e.at, left, right);
     }
-    Ok(left)
+    left
 }
 
 #[cycle(walk)]
@@ -208,12 +208,12 @@ fn some_typed(
 fn arms_typed(alloc: Global, sight: &Sight, arms: &Seq<Arm>) -> Result<Arms, ReadFault>
     ensures { Gives result (arms_typed sight.now arms.now) }
 {
-    let mut made = Seq::new(alloc);
+    let mut made = Ok(Seq::new(alloc));
     for arm in arms.as_slice() {
         let test = typed(alloc, sight, &arm.test);
-        made = pushed(made, in_turn(test, typed(alloc, sight, &arm.value)))?;
+        made = pushed(made, in_turn(test, typed(alloc, sight, &arm.value)));
     }
-    Ok(made)
+    made
 }
 
 // The arguments of a function whose name stands at this place.

@@ -90,6 +90,14 @@ cron_or_daily (Some cron) = Ok cron
 abbrev pub unit_of : CronSets → TimeUnit
 unit_of cron = if is_single cron.hour 24 then Day else Hour
 
+-- a model's file, name, start and cron: a name and a start may be wanting, in this order
+abbrev pub settled : {N : Type 0} → List ℕ → Option N → Kind → Option ℤ → Option CronSets → Result (List ℕ × N × Option ℤ × CronSets) ReadFault
+settled file name kind start cron = do
+  n ← or_fault (bad 0 (codes "name")) name
+  s ← started kind start
+  c ← cron_or_daily cron
+  Ok (file, n, s, c)
+
 -- what absences say: a name and a start may be wanting, in this order
 abbrev pub finished : List ℕ → Whole → Result ModelText ReadFault
 finished file w = do

@@ -4,7 +4,7 @@ ghost use Rattle.std.specs.Option.{unwrap_or};
 ghost use Rattle.mesh_statement.specs.Brackets.{or_fault};
 ghost use Rattle.mesh_statement.specs.Faults.{bad};
 ghost use Rattle.mesh_tokens.specs.Gives.{Gives};
-ghost use Rattle.mesh_text.specs.ModelTexts.{kind_of, is_timed, started, cron_or_daily, unit_of, finished};
+ghost use Rattle.mesh_text.specs.ModelTexts.{kind_of, is_timed, started, cron_or_daily, unit_of, settled, finished};
 
 use crate::model::Whole;
 use mesh_list::{Duplicate, Memory};
@@ -99,6 +99,24 @@ fn named(alloc: Global, name: Option<Name>) -> Result<Name, ReadFault>
     }
 }
 
+// The path of a model's file, its name, its start and its cron.
+fn settled(
+    alloc: Global,
+    file: &Str,
+    name: Option<Name>,
+    kind: &Kind,
+    start: Option<i32>,
+    cron: Option<Cron>,
+) -> Result<(Str, Name, Option<i32>, Cron), ReadFault>
+    ensures { Gives result (settled file.now name kind.now start cron) }
+{
+    let name = named(alloc, name)?;
+    let start = started(kind, start)?;
+    let cron = cron_or_daily(cron)?;
+    let file = file.copy()?;
+    Ok((file, name, start, cron))
+}
+
 /// The model of a whole file, which wants a name and, where it is incremental, a start.
 pub(crate) fn finished(alloc: Global, file: &Str, whole: Whole) -> Result<ModelText, ReadFault>
     ensures { Gives result (finished file.now whole) }
@@ -114,26 +132,32 @@ pub(crate) fn finished(alloc: Global, file: &Str, whole: Whole) -> Result<ModelT
         columns,
         audits,
     } = parts;
-    let name = named(alloc, name)?;
     let KindText {
         kind,
         path,
         path_at,
     } = kind_of(kind);
-    let start = started(&kind, start)?;
-    let cron = cron_or_daily(cron)?;
-    let unit = unit_or_its(unit, &cron);
-    Ok(ModelText {
-        file: file.copy()?,
-        name,
-        kind,
-        cron,
-        unit,
-        start,
-        columns,
-        path,
-        path_at,
-        audits,
-        query,
-    })
+    match settled(alloc, file, name, &kind, start, cron) {
+        Ok((file, name, start, cron)) => Ok(ModelText {
+            file,
+            name,
+            kind,
+            unit: unit_or_its(unit, &cron),
+            cron,
+            start,
+            columns,
+            path,
+            path_at,
+            audits,
+            query,
+        }),
+        Err(fault) => {
+            drop(kind);
+            drop(columns);
+            drop(path);
+            drop(audits);
+            drop(query);
+            Err(fault)
+        }
+    }
 }

@@ -1,5 +1,7 @@
 // The tokens of a text in front of its first fault.
 ghost use Rattle.std.specs.Prelude.{◌≡◌, IfOk, take};
+ghost use Rattle.mesh_tokens.specs.declared.faults.FaultKind.{FaultKind as FaultKinds};
+ghost use Rattle.mesh_tokens.specs.declared.faults.ReadFault.TheVariants.{Fault};
 ghost use Rattle.mesh_tokens.specs.Text.{tokens};
 ghost use Rattle.mesh_text.specs.Lexed.{or_none, in_front, file_tokens, file_fault};
 
@@ -25,13 +27,27 @@ fn front(bytes: &[u8], at: u64) -> &[u8]
     }
 }
 
+// The place of a fault, unless memory is out.
+fn place_of(fault: ReadFault) -> Result<u64, Memory>
+    ensures { IfOk result (λ at. (kind : FaultKinds) × (fault ≡ Fault at kind)) }
+{
+    let place = match &fault {
+        ReadFault::Fault { at, .. } => Ok(*at),
+        ReadFault::Memory => Err(Memory),
+    };
+    drop(fault);
+    place
+}
+
 fn or_none(alloc: Global, bytes: &[u8]) -> Result<Tokens, Memory>
     ensures { IfOk result (λ found. found ≡ or_none (tokens bytes.now)) }
 {
     match tokens_of(alloc, bytes) {
         Ok(found) => Ok(found),
-        Err(ReadFault::Fault { at: _, kind: _ }) => Ok(Seq::new(alloc)),
-        Err(ReadFault::Memory) => Err(Memory),
+        Err(fault) => {
+            place_of(fault)?;
+            Ok(Seq::new(alloc))
+        }
     }
 }
 
@@ -41,8 +57,10 @@ fn in_front(alloc: Global, bytes: &[u8], at: u64) -> Result<Tokens, Memory>
 {
     match tokens_of(alloc, front(bytes, at)) {
         Ok(found) => Ok(found),
-        Err(ReadFault::Fault { at, kind: _ }) => or_none(alloc, front(bytes, at)),
-        Err(ReadFault::Memory) => Err(Memory),
+        Err(fault) => {
+            let at = place_of(fault)?;
+            or_none(alloc, front(bytes, at))
+        }
     }
 }
 
@@ -54,13 +72,16 @@ pub(crate) fn read_tokens(alloc: Global, bytes: &[u8]) -> Result<Lexed, Memory>
             tokens,
             fault: None,
         }),
-        Err(ReadFault::Fault { at, kind }) => {
-            let tokens = in_front(alloc, bytes, at)?;
-            Ok(Lexed {
+        Err(ReadFault::Fault { at, kind }) => match in_front(alloc, bytes, at) {
+            Ok(tokens) => Ok(Lexed {
                 tokens,
                 fault: Some(ReadFault::Fault { at, kind }),
-            })
-        }
+            }),
+            Err(memory) => {
+                drop(kind);
+                Err(memory)
+            }
+        },
         Err(ReadFault::Memory) => Err(Memory),
     }
 }

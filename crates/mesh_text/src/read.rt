@@ -34,11 +34,16 @@ fn earlier(
     ensures { result ≡ earlier tokens.now token whole }
 {
     match whole {
-        Ok(_) => Err(token),
+        Ok(whole) => {
+            drop(whole);
+            Err(token)
+        }
         Err(fault) => {
             if is_want(tokens, &fault) {
+                drop(fault);
                 Err(token)
             } else {
+                drop(token);
                 Err(fault)
             }
         }

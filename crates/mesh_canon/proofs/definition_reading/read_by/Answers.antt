@@ -18,6 +18,6 @@ returns-then-is_same-clause-said c = own_said c.args.form c.args.text.now c.in_o
 pub returns-then-is_same-clause-only : goal.returns-then-is_same-clause-only
 returns-then-is_same-clause-only c = λ m fits said is. sym (ap (own_in c.args.form) is ∙ own_is_read c.args.form m fits said) ∙ c.in_ok-made.ensures
 
-pub returns-else-is_same-clause-only : goal.returns-else-is_same-clause-only
-returns-else-is_same-clause-only c = λ m fits said is.
-    absurd (differs (own_by c.args.form) (own_in c.args.form) c.in_ok-made.made m c.args.text.now c.as_slice.result.now c.is_same.result (own_is_read c.args.form m fits said) is c.in_ok-made.ensures (c.as_slice.ensures ∙ c.in_ok-again.ensures) c.is_same.ensures c.if-is_same.false)
+pub returns-in-Ok-clause-only : goal.returns-in-Ok-clause-only
+returns-in-Ok-clause-only c = λ m fits said is.
+    absurd (differs (own_by c.args.form) (own_in c.args.form) c.in_ok-made.made m c.args.text.now c.as_slice.result.now c.is_same.result (own_is_read c.args.form m fits said) is c.in_ok-made.ensures (c.as_slice.ensures ∙ c.in-Ok.ensures) c.is_same.ensures c.if-is_same.false)

@@ -1,4 +1,4 @@
-use Rattle.std.proofs.Common.{[], ◌∷◌, ◌++◌, map, Ok, Err, None, ap, sym, subst, ◌∙◌}
+use Rattle.std.proofs.Common.{[], Ok, None, ap, sym, subst, ◌∙◌}
 use Rattle.mesh_surface.specs.declared.expressions.OrExpr.{out-OrExpr}
 use Rattle.mesh_surface.specs.declared.expressions.AndExpr.{out-AndExpr}
 use Rattle.mesh_surface.specs.declared.expressions.CatExpr.{out-CatExpr}
@@ -8,31 +8,24 @@ use Rattle.mesh_surface.specs.declared.expressions.MulExpr.{out-MulExpr}
 use Rattle.mesh_surface.specs.declared.expressions.MulStep.{out-MulStep}
 use Rattle.mesh_surface.specs.declared.expressions.Pred.{out-Pred}
 use Rattle.mesh_surface.specs.declared.expressions.Post.{out-Post}
-use Rattle.mesh_tokens.specs.Gives.{◌>>=◌, Gives, Refuses}
-use Rattle.mesh_tokens.specs.Walk.{along, one_more}
-use Rattle.mesh_tokens.proofs.Along.{one_more_of}
+use Rattle.mesh_tokens.specs.Gives.{◌>>=◌, Gives}
+use Rattle.mesh_tokens.specs.Walk.{along}
 use Rattle.mesh_types.specs.Forms.{either, both, joined, added, multiplied, compared, compare_op, between, one_of, turned, cast, denied, negated, distinct, called}
-use Rattle.mesh_scope.specs.Expressions.{typed, and_typed, not_typed, sum_typed, add_typed, product_typed, mul_typed, unary_typed, arm_typed, cat_typed, test_typed, one_cast}
-use Rattle.mesh_scope.specs.Steps.{next_part}
+use Rattle.mesh_scope.specs.Expressions.{typed, and_typed, not_typed, sum_typed, add_typed, product_typed, mul_typed, unary_typed, arm_typed, cat_typed, test_typed, one_cast, one_step}
+use Rattle.mesh_scope.specs.Steps.{next_part, with_last}
 use Rattle.mesh_scope.proofs.Answered.{over_given, turn_then, turn_given, case_given}
 use Rattle.mesh_scope.proofs.Layers.{or_layer, and_layer, cat_layer, sum_layer, add_layer, product_layer, mul_layer, arm_layer, case_layer, number_layer, text_layer, truth_layer, null_layer, macro_layer, column_layer, call_layer, group_layer, cast_layer, nothing_layer, compare_layer, is_null_layer, between_layer, one_of_layer, star_layer, distinct_layer, list_layer, not_layer, plain_layer, pred_layer, minus_layer, unsigned_layer, post_layer}
-use Rattle.mesh_scope.proofs.Loops.{refused_by, nothing_yet, one_more_over, chain_stops, chain_ends, no_first, one_more_step, step_stops, steps_end, list_stops}
+use Rattle.mesh_scope.proofs.Loops.{refused_by, nothing_yet, one_more_over, all_over, chain_ends, begun, one_more_step, steps_end}
 use Rattle.mesh_scope.proofs.walk.+walk.Goals as goal
 
 pub typed-loop-part-init : goal.typed-loop-part-init
 typed-loop-part-init t c = nothing_yet _ None
 
-pub typed-returns-in_err-left : goal.typed-returns-in_err-left
-typed-returns-in_err-left t c =
-    chain_stops (out-OrExpr c.args.e.now).at (either (out-OrExpr c.args.e.now).at) (and_typed c.args.sight.now) _ _ (out-OrExpr c.args.e.now).parts (or_layer c.args.sight.now c.args.e.now)
-    c.loop-part.left c.as_slice-part-items.result.now c.loop-part.part-index c.part-item.result c.and_typed-right.result c.in_err-left.field-0.0 c.as_slice-part-items.ensures
-    c.loop-part-test.true c.part-item.is c.loop-part.invariant c.and_typed-right.ensures c.in_err-left.ensures c.from_residual.ensures.1
-
 pub typed-loop-part-preserved : goal.typed-loop-part-preserved
 typed-loop-part-preserved t c =
-    one_more_over (next_part (either (out-OrExpr c.args.e.now).at)) (and_typed c.args.sight.now) None c.loop-part.left c.in_ok-left.left
+    one_more_over (next_part (either (out-OrExpr c.args.e.now).at)) (and_typed c.args.sight.now) None c.loop-part.left c.next_part-left.result
     c.as_slice-part-items.result.now c.loop-part.part-index c.part-item.result c.and_typed-right.result
-    c.loop-part-test.true c.part-item.is c.loop-part.invariant c.and_typed-right.ensures c.in_ok-left.ensures
+    c.loop-part-test.true c.part-item.is c.loop-part.invariant c.and_typed-right.ensures c.next_part-left.ensures
 
 pub typed-returns : goal.typed-returns
 typed-returns t c =
@@ -42,17 +35,11 @@ typed-returns t c =
 pub and_typed-loop-part-init : goal.and_typed-loop-part-init
 and_typed-loop-part-init t c = nothing_yet _ None
 
-pub and_typed-returns-in_err-left : goal.and_typed-returns-in_err-left
-and_typed-returns-in_err-left t c =
-    chain_stops (out-AndExpr c.args.e.now).at (both (out-AndExpr c.args.e.now).at) (not_typed c.args.sight.now) _ _ (out-AndExpr c.args.e.now).parts (and_layer c.args.sight.now c.args.e.now)
-    c.loop-part.left c.as_slice-part-items.result.now c.loop-part.part-index c.part-item.result c.not_typed-right.result c.in_err-left.field-0.0 c.as_slice-part-items.ensures
-    c.loop-part-test.true c.part-item.is c.loop-part.invariant c.not_typed-right.ensures c.in_err-left.ensures c.from_residual.ensures.1
-
 pub and_typed-loop-part-preserved : goal.and_typed-loop-part-preserved
 and_typed-loop-part-preserved t c =
-    one_more_over (next_part (both (out-AndExpr c.args.e.now).at)) (not_typed c.args.sight.now) None c.loop-part.left c.in_ok-left.left
+    one_more_over (next_part (both (out-AndExpr c.args.e.now).at)) (not_typed c.args.sight.now) None c.loop-part.left c.next_part-left.result
     c.as_slice-part-items.result.now c.loop-part.part-index c.part-item.result c.not_typed-right.result
-    c.loop-part-test.true c.part-item.is c.loop-part.invariant c.not_typed-right.ensures c.in_ok-left.ensures
+    c.loop-part-test.true c.part-item.is c.loop-part.invariant c.not_typed-right.ensures c.next_part-left.ensures
 
 pub and_typed-returns : goal.and_typed-returns
 and_typed-returns t c =
@@ -62,112 +49,76 @@ and_typed-returns t c =
 pub cat_typed-loop-part-init : goal.cat_typed-loop-part-init
 cat_typed-loop-part-init t c = nothing_yet _ None
 
-pub cat_typed-returns-in_err-left : goal.cat_typed-returns-in_err-left
-cat_typed-returns-in_err-left t c =
-    chain_stops (out-CatExpr c.args.e.now).at (joined (out-CatExpr c.args.e.now).at) (sum_typed c.args.sight.now) _ _ (out-CatExpr c.args.e.now).parts (cat_layer c.args.sight.now c.args.e.now)
-    c.loop-part.left c.as_slice-part-items.result.now c.loop-part.part-index c.part-item.result c.sum_typed-right.result c.in_err-left.field-0.0 c.as_slice-part-items.ensures
-    c.loop-part-test.true c.part-item.is c.loop-part.invariant c.sum_typed-right.ensures c.in_err-left.ensures c.from_residual.ensures.1
-
 pub cat_typed-loop-part-preserved : goal.cat_typed-loop-part-preserved
 cat_typed-loop-part-preserved t c =
-    one_more_over (next_part (joined (out-CatExpr c.args.e.now).at)) (sum_typed c.args.sight.now) None c.loop-part.left c.in_ok-left.left
+    one_more_over (next_part (joined (out-CatExpr c.args.e.now).at)) (sum_typed c.args.sight.now) None c.loop-part.left c.next_part-left.result
     c.as_slice-part-items.result.now c.loop-part.part-index c.part-item.result c.sum_typed-right.result
-    c.loop-part-test.true c.part-item.is c.loop-part.invariant c.sum_typed-right.ensures c.in_ok-left.ensures
+    c.loop-part-test.true c.part-item.is c.loop-part.invariant c.sum_typed-right.ensures c.next_part-left.ensures
 
 pub cat_typed-returns : goal.cat_typed-returns
 cat_typed-returns t c =
     chain_ends (out-CatExpr c.args.e.now).at (joined (out-CatExpr c.args.e.now).at) (sum_typed c.args.sight.now) _ _ (out-CatExpr c.args.e.now).parts (cat_layer c.args.sight.now c.args.e.now)
     c.loop-part.left c.as_slice-part-items.result.now c.loop-part.part-index c.as_slice-part-items.ensures c.loop-part-test.false c.loop-part.invariant c.whole.ensures
 
-pub sum_typed-returns-in_err-left : goal.sum_typed-returns-in_err-left
-sum_typed-returns-in_err-left t c =
-    no_first (out-AddExpr c.args.e.now).at (product_typed c.args.sight.now (out-AddExpr c.args.e.now).first) (map (add_typed c.args.sight.now) (out-AddExpr c.args.e.now).rest) _ _ c.in_err-left.field-0.0
-    (sum_layer c.args.sight.now c.args.e.now) c.in_err-left.ensures c.from_residual.ensures.1
-
 pub sum_typed-loop-step-init : goal.sum_typed-loop-step-init
-sum_typed-loop-step-init t c = nothing_yet _ _
-
-pub sum_typed-returns-in_err-left-2 : goal.sum_typed-returns-in_err-left-2
-sum_typed-returns-in_err-left-2 t c =
-    step_stops (out-AddExpr c.args.e.now).at (add_typed c.args.sight.now) (added (out-AddStep c.step-item.result).sign (out-AddExpr c.args.e.now).at) (product_typed c.args.sight.now (out-AddExpr c.args.e.now).first) _ _ (out-AddExpr c.args.e.now).rest c.in_ok-left.left c.loop-step.left
-    c.as_slice-step-items.result.now c.loop-step.step-index c.step-item.result (product_typed c.args.sight.now (out-AddStep c.step-item.result).part) c.product_typed-right.result c.in_err-left-2.field-0.0
-    (sum_layer c.args.sight.now c.args.e.now) c.in_ok-left.ensures c.as_slice-step-items.ensures c.loop-step-test.true c.step-item.is c.loop-step.invariant
-    (add_layer c.args.sight.now c.step-item.result (out-AddExpr c.args.e.now).at c.loop-step.left) c.product_typed-right.ensures c.in_err-left-2.ensures c.from_residual-in_err-left-2.ensures.1
+sum_typed-loop-step-init t c = begun (one_step (out-AddExpr c.args.e.now).at) c.product_typed-left.result (product_typed c.args.sight.now (out-AddExpr c.args.e.now).first) c.product_typed-left.ensures
 
 pub sum_typed-loop-step-preserved : goal.sum_typed-loop-step-preserved
 sum_typed-loop-step-preserved t c =
-    one_more_step (out-AddExpr c.args.e.now).at (add_typed c.args.sight.now) (added (out-AddStep c.step-item.result).sign (out-AddExpr c.args.e.now).at) c.in_ok-left.left c.loop-step.left c.in_ok-left-2.left
+    one_more_step (out-AddExpr c.args.e.now).at (add_typed c.args.sight.now) (added (out-AddStep c.step-item.result).sign (out-AddExpr c.args.e.now).at) (product_typed c.args.sight.now (out-AddExpr c.args.e.now).first) c.loop-step.left c.next_term-left.result
     c.as_slice-step-items.result.now c.loop-step.step-index c.step-item.result (product_typed c.args.sight.now (out-AddStep c.step-item.result).part) c.product_typed-right.result
     c.loop-step-test.true c.step-item.is c.loop-step.invariant
-    (add_layer c.args.sight.now c.step-item.result (out-AddExpr c.args.e.now).at c.loop-step.left) c.product_typed-right.ensures c.in_ok-left-2.ensures
+    (add_layer c.args.sight.now c.step-item.result (out-AddExpr c.args.e.now).at) c.product_typed-right.ensures c.next_term-left.ensures
 
 pub sum_typed-returns : goal.sum_typed-returns
 sum_typed-returns t c =
-    steps_end (out-AddExpr c.args.e.now).at (add_typed c.args.sight.now) (product_typed c.args.sight.now (out-AddExpr c.args.e.now).first) _ (out-AddExpr c.args.e.now).rest c.in_ok-left.left c.loop-step.left
-    c.as_slice-step-items.result.now c.loop-step.step-index (sum_layer c.args.sight.now c.args.e.now) c.in_ok-left.ensures c.as_slice-step-items.ensures
+    steps_end (out-AddExpr c.args.e.now).at (add_typed c.args.sight.now) (product_typed c.args.sight.now (out-AddExpr c.args.e.now).first) _ c.loop-step.left (out-AddExpr c.args.e.now).rest
+    c.as_slice-step-items.result.now c.loop-step.step-index (sum_layer c.args.sight.now c.args.e.now) c.as_slice-step-items.ensures
     c.loop-step-test.false c.loop-step.invariant
 
-pub product_typed-returns-in_err-left : goal.product_typed-returns-in_err-left
-product_typed-returns-in_err-left t c =
-    no_first (out-MulExpr c.args.e.now).at (unary_typed c.args.sight.now (out-MulExpr c.args.e.now).first) (map (mul_typed c.args.sight.now) (out-MulExpr c.args.e.now).rest) _ _ c.in_err-left.field-0.0
-    (product_layer c.args.sight.now c.args.e.now) c.in_err-left.ensures c.from_residual.ensures.1
-
 pub product_typed-loop-step-init : goal.product_typed-loop-step-init
-product_typed-loop-step-init t c = nothing_yet _ _
-
-pub product_typed-returns-in_err-left-2 : goal.product_typed-returns-in_err-left-2
-product_typed-returns-in_err-left-2 t c =
-    step_stops (out-MulExpr c.args.e.now).at (mul_typed c.args.sight.now) (multiplied (out-MulStep c.step-item.result).sign (out-MulExpr c.args.e.now).at) (unary_typed c.args.sight.now (out-MulExpr c.args.e.now).first) _ _ (out-MulExpr c.args.e.now).rest c.in_ok-left.left c.loop-step.left
-    c.as_slice-step-items.result.now c.loop-step.step-index c.step-item.result (unary_typed c.args.sight.now (out-MulStep c.step-item.result).part) c.unary_typed-right.result c.in_err-left-2.field-0.0
-    (product_layer c.args.sight.now c.args.e.now) c.in_ok-left.ensures c.as_slice-step-items.ensures c.loop-step-test.true c.step-item.is c.loop-step.invariant
-    (mul_layer c.args.sight.now c.step-item.result (out-MulExpr c.args.e.now).at c.loop-step.left) c.unary_typed-right.ensures c.in_err-left-2.ensures c.from_residual-in_err-left-2.ensures.1
+product_typed-loop-step-init t c = begun (one_step (out-MulExpr c.args.e.now).at) c.unary_typed-left.result (unary_typed c.args.sight.now (out-MulExpr c.args.e.now).first) c.unary_typed-left.ensures
 
 pub product_typed-loop-step-preserved : goal.product_typed-loop-step-preserved
 product_typed-loop-step-preserved t c =
-    one_more_step (out-MulExpr c.args.e.now).at (mul_typed c.args.sight.now) (multiplied (out-MulStep c.step-item.result).sign (out-MulExpr c.args.e.now).at) c.in_ok-left.left c.loop-step.left c.in_ok-left-2.left
+    one_more_step (out-MulExpr c.args.e.now).at (mul_typed c.args.sight.now) (multiplied (out-MulStep c.step-item.result).sign (out-MulExpr c.args.e.now).at) (unary_typed c.args.sight.now (out-MulExpr c.args.e.now).first) c.loop-step.left c.next_factor-left.result
     c.as_slice-step-items.result.now c.loop-step.step-index c.step-item.result (unary_typed c.args.sight.now (out-MulStep c.step-item.result).part) c.unary_typed-right.result
     c.loop-step-test.true c.step-item.is c.loop-step.invariant
-    (mul_layer c.args.sight.now c.step-item.result (out-MulExpr c.args.e.now).at c.loop-step.left) c.unary_typed-right.ensures c.in_ok-left-2.ensures
+    (mul_layer c.args.sight.now c.step-item.result (out-MulExpr c.args.e.now).at) c.unary_typed-right.ensures c.next_factor-left.ensures
 
 pub product_typed-returns : goal.product_typed-returns
 product_typed-returns t c =
-    steps_end (out-MulExpr c.args.e.now).at (mul_typed c.args.sight.now) (unary_typed c.args.sight.now (out-MulExpr c.args.e.now).first) _ (out-MulExpr c.args.e.now).rest c.in_ok-left.left c.loop-step.left
-    c.as_slice-step-items.result.now c.loop-step.step-index (product_layer c.args.sight.now c.args.e.now) c.in_ok-left.ensures c.as_slice-step-items.ensures
+    steps_end (out-MulExpr c.args.e.now).at (mul_typed c.args.sight.now) (unary_typed c.args.sight.now (out-MulExpr c.args.e.now).first) _ c.loop-step.left (out-MulExpr c.args.e.now).rest
+    c.as_slice-step-items.result.now c.loop-step.step-index (product_layer c.args.sight.now c.args.e.now) c.as_slice-step-items.ensures
     c.loop-step-test.false c.loop-step.invariant
 
 pub all_typed-loop-e-init : goal.all_typed-loop-e-init
-all_typed-loop-e-init t c = nothing_yet _ [] ∙ ap (λ l. Ok l) (sym c.new-made.ensures)
-
-pub all_typed-returns-in_err-made : goal.all_typed-returns-in_err-made
-all_typed-returns-in_err-made t c =
-    list_stops (typed c.args.sight.now) c.args.all.now _ c.loop-e.made c.as_slice-e-items.result.now c.loop-e.e-index c.e-item.result c.in_err-made.field-0.0
-    c.as_slice-e-items.ensures c.loop-e-test.true c.e-item.is c.loop-e.invariant
-    (over_given (λ x. Ok (c.loop-e.made ++ x ∷ [])) c.typed.result _ (Err c.in_err-made.field-0.0) c.typed.ensures c.in_err-made.ensures) c.from_residual.ensures.1
+all_typed-loop-e-init t c = nothing_yet _ [] ∙ ap (λ l. Ok l) (sym c.new.ensures)
 
 pub all_typed-loop-e-preserved : goal.all_typed-loop-e-preserved
 all_typed-loop-e-preserved t c =
-    one_more_of one_more (typed c.args.sight.now) [] c.loop-e.made c.in_ok-made.made c.as_slice-e-items.result.now c.loop-e.e-index c.e-item.result
-    c.loop-e-test.true c.e-item.is c.loop-e.invariant
-    (over_given (λ x. Ok (c.loop-e.made ++ x ∷ [])) c.typed.result _ (Ok c.in_ok-made.made) c.typed.ensures c.in_ok-made.ensures)
+    one_more_over with_last (typed c.args.sight.now) [] c.loop-e.made c.pushed-made.result c.as_slice-e-items.result.now c.loop-e.e-index c.e-item.result c.typed.result
+    c.loop-e-test.true c.e-item.is c.loop-e.invariant c.typed.ensures c.pushed-made.ensures
+
+pub all_typed-returns : goal.all_typed-returns
+all_typed-returns t c =
+    all_over with_last (typed c.args.sight.now) [] c.loop-e.made c.as_slice-e-items.result.now c.args.all.now c.loop-e.e-index
+    c.as_slice-e-items.ensures c.loop-e-test.false c.loop-e.invariant
 
 pub arms_typed-loop-arm-init : goal.arms_typed-loop-arm-init
-arms_typed-loop-arm-init t c = nothing_yet _ [] ∙ ap (λ l. Ok l) (sym c.new-made.ensures)
-
-pub arms_typed-returns-in_err-made : goal.arms_typed-returns-in_err-made
-arms_typed-returns-in_err-made t c =
-    list_stops (arm_typed c.args.sight.now) c.args.arms.now _ c.loop-arm.made c.as_slice-arm-items.result.now c.loop-arm.arm-index c.arm-item.result c.in_err-made.field-0.0
-    c.as_slice-arm-items.ensures c.loop-arm-test.true c.arm-item.is c.loop-arm.invariant
-    (subst (λ r. Refuses c.in_err-made.field-0.0 (one_more c.loop-arm.made r)) (sym (arm_layer c.args.sight.now c.arm-item.result))
-    (over_given (λ x. Ok (c.loop-arm.made ++ x ∷ [])) c.in_turn.result _ (Err c.in_err-made.field-0.0)
-    (turn_given c.typed-test.result _ c.typed.result _ c.in_turn.result c.typed-test.ensures c.typed.ensures c.in_turn.ensures) c.in_err-made.ensures)) c.from_residual.ensures.1
+arms_typed-loop-arm-init t c = nothing_yet _ [] ∙ ap (λ l. Ok l) (sym c.new.ensures)
 
 pub arms_typed-loop-arm-preserved : goal.arms_typed-loop-arm-preserved
 arms_typed-loop-arm-preserved t c =
-    one_more_of one_more (arm_typed c.args.sight.now) [] c.loop-arm.made c.in_ok-made.made c.as_slice-arm-items.result.now c.loop-arm.arm-index c.arm-item.result
+    one_more_over with_last (arm_typed c.args.sight.now) [] c.loop-arm.made c.pushed-made.result c.as_slice-arm-items.result.now c.loop-arm.arm-index c.arm-item.result c.in_turn.result
     c.loop-arm-test.true c.arm-item.is c.loop-arm.invariant
-    (ap (λ r. one_more c.loop-arm.made r) (arm_layer c.args.sight.now c.arm-item.result)
-    ∙ over_given (λ x. Ok (c.loop-arm.made ++ x ∷ [])) c.in_turn.result _ (Ok c.in_ok-made.made)
-    (turn_given c.typed-test.result _ c.typed.result _ c.in_turn.result c.typed-test.ensures c.typed.ensures c.in_turn.ensures) c.in_ok-made.ensures)
+    (subst (λ r. Gives c.in_turn.result r) (sym (arm_layer c.args.sight.now c.arm-item.result))
+    (turn_given c.typed-test.result _ c.typed.result _ c.in_turn.result c.typed-test.ensures c.typed.ensures c.in_turn.ensures)) c.pushed-made.ensures
+
+pub arms_typed-returns : goal.arms_typed-returns
+arms_typed-returns t c =
+    all_over with_last (arm_typed c.args.sight.now) [] c.loop-arm.made c.as_slice-arm-items.result.now c.args.arms.now c.loop-arm.arm-index
+    c.as_slice-arm-items.ensures c.loop-arm-test.false c.loop-arm.invariant
 
 pub value_typed-returns-in-Case : goal.value_typed-returns-in-Case
 value_typed-returns-in-Case t c =
