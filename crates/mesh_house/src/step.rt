@@ -297,7 +297,7 @@ impl World {
     fn drop_object(&mut self, object: &Name)
         ensures { self.new ≡ drop_object self.old object.now }
     {
-        let _ = self.objects.remove(object);
+        drop(self.objects.remove(object));
     }
 
     fn put_snapshot(&mut self, snapshot: &Snapshot) -> Result<(), Memory>
