@@ -18,18 +18,6 @@ use mesh_values::{Columns, Name, Pairs, Rows, Str, has_two_underscores};
 use std::alloc::Global;
 use std::mem::drop;
 
-// A table that has no rows yet.
-fn empty_table(alloc: Global, name: &Name, columns: &Columns) -> Result<Object, Memory>
-    ensures { IfOk result (λ made. made ≡ record { name = name.now; columns = columns.now; body = Body.Rows [] }) }
-{
-    let (name, columns) = both(name, columns)?;
-    Ok(Object {
-        name,
-        columns,
-        body: Body::Rows(Seq::new(alloc)),
-    })
-}
-
 // A view that stores a query.
 fn stored_query(
     name: &Name,
@@ -59,15 +47,20 @@ fn filled_table(name: &Name, columns: &Columns, rows: &Rows) -> Result<Object, M
     })
 }
 
+// A table that has no rows yet.
+fn empty_table(alloc: Global, name: &Name, columns: &Columns) -> Result<Object, Memory>
+    ensures { IfOk result (λ made. made ≡ record { name = name.now; columns = columns.now; body = Body.Rows [] }) }
+{
+    let rows = Seq::new(alloc);
+    filled_table(name, columns, &rows)
+}
+
 // What stands at a table's place while it is written.
 fn blank_table(alloc: Global, name: &Name) -> Result<Object, Memory>
     ensures { IfOk result (λ made. made.name ≡ name.now) }
 {
-    Ok(Object {
-        name: name.copy()?,
-        columns: Seq::new(alloc),
-        body: Body::Rows(Seq::new(alloc)),
-    })
+    let columns = Seq::new(alloc);
+    empty_table(alloc, name, &columns)
 }
 
 // One list of rows after another.
