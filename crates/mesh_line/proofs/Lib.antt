@@ -4,3 +4,5 @@ pub mod Rows
 pub mod Asking
 -- Below: elements of a list that are passed over one after another.
 pub mod Below
+-- Grown: what a command has with one more argument, or with another command below it.
+pub mod Grown

@@ -65,9 +65,13 @@ migrate_app = bare_app (codes "migrate")
 abbrev pub batch_app : App
 batch_app = bare_app (codes "batch")
 
+-- the program, whose own name is no word of its line
+abbrev pub unnamed_app : App
+unnamed_app = on_top (λ s. record s { subcommand_required = true; no_binary_name = true }) (bare_app (codes "mesh"))
+
 -- the two options in front of a command
 abbrev pub basis_app : App
-basis_app = with_rule (with_rule (on_top (λ s. record s { subcommand_required = true; no_binary_name = true }) (bare_app (codes "mesh"))) (option_rule (codes "paths"))) (option_rule (codes "warehouse"))
+basis_app = with_rule (with_rule unnamed_app (option_rule (codes "paths"))) (option_rule (codes "warehouse"))
 
 abbrev pub to_plan_app : App
 to_plan_app = with_subcommand basis_app plan_app.top

@@ -7,7 +7,7 @@ ghost use Rattle.mesh_grammar.specs.Machine.{begins, begins_star};
 ghost use Rattle.mesh_query.specs.Answers.{Answers, Onward};
 
 use crate::expressions::expr;
-use crate::lists::{begun, pushed};
+use crate::lists::{begun, given_up, pushed};
 use crate::nodes::Nodes;
 use crate::relations::source;
 use mesh_list::Seq;
@@ -153,10 +153,22 @@ fn selected(
     ensures { Answers false depth (the_selected at distinct) tokens.now from nodes.old.left nodes.new.left result }
 {
     let (items, next) = items(alloc, tokens, nodes, depth, from)?;
-    let (from, next) = source(alloc, tokens, nodes, depth, next)?;
-    let (filter, next) = filter(alloc, tokens, nodes, depth, next)?;
-    let (keys, next) = keys(alloc, tokens, nodes, depth, next)?;
-    let (having, next) = having(alloc, tokens, nodes, depth, next)?;
+    let (from, next) = match source(alloc, tokens, nodes, depth, next) {
+        Ok(found) => found,
+        Err(fault) => return Err(given_up(items, (), fault)),
+    };
+    let (filter, next) = match filter(alloc, tokens, nodes, depth, next) {
+        Ok(found) => found,
+        Err(fault) => return Err(given_up(items, from, fault)),
+    };
+    let (keys, next) = match keys(alloc, tokens, nodes, depth, next) {
+        Ok(found) => found,
+        Err(fault) => return Err(given_up((items, from), filter, fault)),
+    };
+    let (having, next) = match having(alloc, tokens, nodes, depth, next) {
+        Ok(found) => found,
+        Err(fault) => return Err(given_up((items, from), (filter, keys), fault)),
+    };
     let whole = SurfaceSelect {
         at,
         distinct,

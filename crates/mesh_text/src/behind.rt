@@ -71,7 +71,15 @@ fn body(
 pub(crate) fn read_whole(file: &[u8], tokens: &Tokens) -> Result<Whole, ReadFault>
     ensures { (q : Result Tree Fault) × IsQueryRead tokens.now (query_at file.now tokens.now) q × Gives result (whole file.now tokens.now q) }
 {
-    let (parts, before, rest) = read_statement(tokens.alloc(), file, tokens.as_slice())?;
-    let query = body(tokens, is_seed(&parts.kind), before, rest)?;
-    Ok(Whole { parts, query })
+    let (parts, before, rest) = match read_statement(tokens.alloc(), file, tokens.as_slice()) {
+        Ok(found) => found,
+        Err(fault) => return Err(fault),
+    };
+    match body(tokens, is_seed(&parts.kind), before, rest) {
+        Ok(query) => Ok(Whole { parts, query }),
+        Err(fault) => {
+            drop(parts);
+            Err(fault)
+        }
+    }
 }

@@ -110,11 +110,31 @@ fn settled(
 ) -> Result<(Str, Name, Option<i32>, Cron), ReadFault>
     ensures { Gives result (settled file.now name kind.now start cron) }
 {
-    let name = named(alloc, name)?;
-    let start = started(kind, start)?;
-    let cron = cron_or_daily(cron)?;
-    let file = file.copy()?;
-    Ok((file, name, start, cron))
+    let name = match named(alloc, name) {
+        Ok(name) => name,
+        Err(fault) => return Err(fault),
+    };
+    let start = match started(kind, start) {
+        Ok(start) => start,
+        Err(fault) => {
+            drop(name);
+            return Err(fault);
+        }
+    };
+    let cron = match cron_or_daily(cron) {
+        Ok(cron) => cron,
+        Err(fault) => {
+            drop(name);
+            return Err(fault);
+        }
+    };
+    match file.copy() {
+        Ok(file) => Ok((file, name, start, cron)),
+        Err(_) => {
+            drop(name);
+            Err(ReadFault::Memory)
+        }
+    }
 }
 
 /// The model of a whole file, which wants a name and, where it is incremental, a start.

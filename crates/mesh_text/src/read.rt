@@ -71,7 +71,10 @@ pub fn read_model(file: &Str, bytes: &[u8]) -> Result<ModelText, ReadFault>
     ensures { IsModelRead file.now bytes.now result }
 {
     let alloc = file.alloc();
-    let Lexed { tokens, fault } = read_tokens(alloc, bytes)?;
+    let Lexed { tokens, fault } = match read_tokens(alloc, bytes) {
+        Ok(lexed) => lexed,
+        Err(_) => return Err(ReadFault::Memory),
+    };
     let whole = read_whole(file.as_slice(), &tokens);
     let whole = with_tokens(tokens.as_slice(), fault, whole)?;
     finished(alloc, file, whole)
