@@ -9,10 +9,11 @@ ghost use Rattle.mesh_book.specs.Changes.{delete_env, delete_snapshot, empty_boo
 use crate::book::{BOOK_VERSION, Book};
 use crate::versions::{Version, Versions};
 use mesh_base::{Env, Marks, Ref, Refs, Snapshot};
-use mesh_list::{Duplicate, Keyed, Memory, Register, Seq, both};
+use mesh_list::{Duplicate, Keyed, Memory, Register, Seq, both, together};
 use mesh_time::Ranges;
 use mesh_values::{Name, Str};
 use std::alloc::Global;
+use std::mem::drop;
 
 impl Book {
     /// The book that has nothing, which takes no memory.
@@ -41,8 +42,13 @@ impl Book {
         ensures ok { OnOk result (self.new ≡ put_snapshot self.old snapshot) }
         ensures err { OnErr result (self.new ≡ self.old) }
     {
-        let (key, object) = key_and_object(&snapshot)?;
-        self.put_under(&key, &object, snapshot)
+        match key_and_object(&snapshot) {
+            Ok((key, object)) => self.put_under(&key, &object, snapshot),
+            Err(refused) => {
+                drop(snapshot);
+                Err(refused)
+            }
+        }
     }
 
     // The same for a snapshot whose key and object are copied already.
@@ -52,10 +58,17 @@ impl Book {
         ensures ok { OnOk result (self.new ≡ put_snapshot self.old snapshot) }
         ensures err { OnErr result (self.new ≡ self.old) }
     {
-        let added = add_version(&mut self.versions, object)?;
-        let done = put(&mut self.snapshots, key, snapshot);
-        take_back(&mut self.versions, object, added && done.is_err());
-        done
+        match add_version(&mut self.versions, object) {
+            Ok(added) => {
+                let done = put(&mut self.snapshots, key, snapshot);
+                take_back(&mut self.versions, object, added && done.is_err());
+                done
+            }
+            Err(refused) => {
+                drop(snapshot);
+                Err(refused)
+            }
+        }
     }
 
     /// The object is a new table: its version, where there is one, is made and has no ranges and no marks.
@@ -70,7 +83,7 @@ impl Book {
                 version.made = true;
                 version.ranges = Ranges::new(object.schema.alloc());
                 version.marks = None;
-                self.versions.exchange(version);
+                drop(self.versions.exchange(version));
                 Ok(())
             }
         }
@@ -87,7 +100,7 @@ impl Book {
             Some(mut version) => {
                 version.made = true;
                 version.marks = None;
-                self.versions.exchange(version);
+                drop(self.versions.exchange(version));
                 Ok(())
             }
         }
@@ -106,7 +119,7 @@ impl Book {
             None => Ok(()),
             Some(mut version) => {
                 let recorded = version.ranges.add(start, end);
-                self.versions.exchange(version);
+                drop(self.versions.exchange(version));
                 recorded
             }
         }
@@ -122,7 +135,7 @@ impl Book {
             None => Ok(()),
             Some(mut version) => {
                 version.marks = Some(marks);
-                self.versions.exchange(version);
+                drop(self.versions.exchange(version));
                 Ok(())
             }
         }
@@ -133,8 +146,8 @@ impl Book {
         ensures ok { OnOk result (self.new ≡ set_pending self.old name list expires) }
         ensures err { OnErr result (self.new ≡ self.old) }
     {
-        let key = name.copy()?;
-        let previous = previous_of(name.alloc(), self.environments.find(&key))?;
+        let previous = previous_of(name.alloc(), self.environments.find(&name));
+        let (key, previous) = together(name.copy(), previous)?;
         let env = Env {
             name,
             pending: true,
@@ -142,8 +155,7 @@ impl Book {
             previous,
             expires,
         };
-        put(&mut self.environments, &key, env)?;
-        Ok(())
+        put(&mut self.environments, &key, env)
     }
 
     /// The environment is no longer pending, and its previous list is empty.
@@ -157,7 +169,7 @@ impl Book {
             Some(mut env) => {
                 env.pending = false;
                 env.previous = Seq::new(name.alloc());
-                self.environments.exchange(env);
+                drop(self.environments.exchange(env));
                 Ok(())
             }
         }
@@ -173,7 +185,7 @@ impl Book {
             None => Ok(()),
             Some(mut env) => {
                 env.expires = Some(0);
-                self.environments.exchange(env);
+                drop(self.environments.exchange(env));
                 Ok(())
             }
         }
@@ -183,21 +195,21 @@ impl Book {
     pub fn forget_version(&mut self, object: &Name)
         ensures { self.new ≡ forget_version self.old object.now }
     {
-        self.versions.remove(object);
+        drop(self.versions.remove(object));
     }
 
     /// Takes the snapshot of this key out, where there is one.
     pub fn delete_snapshot(&mut self, key: &Ref)
         ensures { self.new ≡ delete_snapshot self.old key.now }
     {
-        self.snapshots.remove(key);
+        drop(self.snapshots.remove(key));
     }
 
     /// Takes the environment of this name out, where there is one.
     pub fn delete_env(&mut self, name: &Str)
         ensures { self.new ≡ delete_env self.old name.now }
     {
-        self.environments.remove(name);
+        drop(self.environments.remove(name));
     }
 }
 

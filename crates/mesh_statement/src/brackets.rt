@@ -1,12 +1,12 @@
 // How far the value of a property goes.
-ghost use Rattle.std.specs.Prelude.{◌≡◌, ◌≤◌, [], ◌++◌, ◌∷◌, IfOk, length};
+ghost use Rattle.std.specs.Prelude.{◌≡◌, ◌≤◌, [], ◌++◌, ◌∷◌, IfOk, Ok, length};
 ghost use Rattle.mesh_tokens.specs.Gives.{Gives};
 ghost use Rattle.mesh_statement.specs.Faults.{broken};
 ghost use Rattle.mesh_statement.specs.Brackets.{or_fault, closed, rounds, opened, ends_value, value_len, is_none_open};
 
 use crate::faults::{broken, too_deep};
 use crate::look::is_sign;
-use mesh_list::{Memory, Seq};
+use mesh_list::Seq;
 use mesh_tokens::{ReadFault, Token};
 use mesh_values::DEEPEST_NESTING;
 use std::alloc::Global;
@@ -40,12 +40,14 @@ fn closed(held: Open, round: bool) -> Option<Open>
     }
 }
 
-fn pushed(held: Open, round: bool) -> Result<Open, Memory>
-    ensures { IfOk result (λ more. more ≡ held ++ round ∷ []) }
+fn pushed(held: Open, round: bool) -> Result<Open, ReadFault>
+    ensures { Gives result (Ok (held ++ round ∷ [])) }
 {
     let mut more = held;
-    more.push(round)?;
-    Ok(more)
+    match more.push(round) {
+        Ok(()) => Ok(more),
+        Err(_) => Err(ReadFault::Memory),
+    }
 }
 
 fn or_broken(held: Option<Open>, before: u64) -> Result<Open, ReadFault>
@@ -69,7 +71,7 @@ fn opened(
 {
     if is_sign(token, b"(") {
         if rounds(&held) < DEEPEST_NESTING {
-            return Ok(pushed(held, true)?);
+            return pushed(held, true);
         }
         return Err(too_deep(alloc));
     }
@@ -78,7 +80,7 @@ fn opened(
     }
     if is_sign(token, b"[") {
         if any {
-            return Ok(pushed(held, false)?);
+            return pushed(held, false);
         }
         return Err(broken(before));
     }
@@ -114,7 +116,10 @@ pub(crate) fn value_len(
         if ends_value(&held, token) {
             return Ok(i);
         }
-        held = opened(alloc, any, last, held, token)?;
+        match opened(alloc, any, last, held, token) {
+            Ok(more) => held = more,
+            Err(fault) => return Err(fault),
+        }
         last = token.end;
     }
     Err(broken(last))

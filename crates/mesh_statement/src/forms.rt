@@ -28,7 +28,10 @@ fn one_name<'a>(
     let Some(name) = word(first) else {
         return Err(bad(alloc, at, b"kind"));
     };
-    let length = value_len(alloc, true, first.end, more)?;
+    let length = match value_len(alloc, true, first.end, more) {
+        Ok(length) => length,
+        Err(fault) => return Err(fault),
+    };
     let (_, rest) = more.split_at(length);
     match behind(rest) {
         Some(rest) => Ok((name, rest)),
@@ -73,9 +76,13 @@ fn formed_from(
         if rest.is_empty() {
             return found_or_fault(alloc, at, found, kind);
         }
-        let (name, left) = one_name(alloc, at, rest)?;
-        found = is_found(found, kind, name);
-        rest = left;
+        match one_name(alloc, at, rest) {
+            Ok((name, left)) => {
+                found = is_found(found, kind, name);
+                rest = left;
+            }
+            Err(fault) => return Err(fault),
+        }
     }
     if rest.is_empty() {
         found_or_fault(alloc, at, found, kind)

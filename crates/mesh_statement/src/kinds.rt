@@ -281,9 +281,14 @@ fn entry_behind<'a>(
 ) -> Result<&'a [Token], ReadFault>
     ensures { GivesAs (λ r. (entries.new, r.now)) result (entry_behind file.now (bad at kind_word) kind entries.old first.now name.now tokens.now) }
 {
-    let length = value_len(alloc, true, first.end, tokens)?;
+    let length = match value_len(alloc, true, first.end, tokens) {
+        Ok(length) => length,
+        Err(fault) => return Err(fault),
+    };
     let (value, rest) = tokens.split_at(length);
-    entry(alloc, file, kind, entries, first.start, name, value)?;
+    if let Err(fault) = entry(alloc, file, kind, entries, first.start, name, value) {
+        return Err(fault);
+    }
     match behind(rest) {
         Some(rest) => Ok(rest),
         None => Err(bad(alloc, at, b"kind")),
@@ -441,8 +446,16 @@ pub(crate) fn kind_value(
     let Some(name) = word(first) else {
         return Err(bad(alloc, at, b"kind"));
     };
-    let kind = kind_or_fault(alloc, at, name)?;
-    let kind = formed(alloc, at, kind, more)?;
-    let entries = entries_in(alloc, file, at, kind, more)?;
-    whole(alloc, at, kind, entries)
+    let kind = match kind_or_fault(alloc, at, name) {
+        Ok(kind) => kind,
+        Err(fault) => return Err(fault),
+    };
+    let kind = match formed(alloc, at, kind, more) {
+        Ok(kind) => kind,
+        Err(fault) => return Err(fault),
+    };
+    match entries_in(alloc, file, at, kind, more) {
+        Ok(entries) => whole(alloc, at, kind, entries),
+        Err(fault) => Err(fault),
+    }
 }

@@ -2,7 +2,8 @@
 ghost use Rattle.std.specs.Prelude.{◌≡◌, ◌≤◌, IfOk, length};
 ghost use Rattle.mesh_tokens.specs.Gives.{Gives};
 ghost use Rattle.mesh_statement.specs.Answers.{GivesAs};
-ghost use Rattle.mesh_statement.specs.Statement.{Read, no_parts, end_of, value_size, valued, property, stands, begins, one_property, properties, model_word, statement};
+ghost use Rattle.mesh_statement.specs.declared.parts.Parts.{Parts as PartsRead};
+ghost use Rattle.mesh_statement.specs.Statement.{Read, no_parts, end_of, value_size, valued, property, stands, begins, closes, goes_on, one_property, properties, model_word, statement};
 
 use crate::brackets::value_len;
 use crate::faults::broken;
@@ -49,10 +50,15 @@ fn valued<'a>(
 ) -> Result<(u64, &'a [Token]), ReadFault>
     ensures { GivesAs (λ r. record { parts = parts.new; before = r.0; rest = r.1.now }) result (valued file.now parts.old before name.now tokens.now) }
 {
-    let length = value_size(alloc, is_free(name), before, tokens)?;
+    let length = match value_size(alloc, is_free(name), before, tokens) {
+        Ok(length) => length,
+        Err(fault) => return Err(fault),
+    };
     let (value, rest) = tokens.split_at(length);
-    put(alloc, file, parts, first_at(tokens), name, value)?;
-    Ok((end_of(before, value), rest))
+    match put(alloc, file, parts, first_at(tokens), name, value) {
+        Ok(()) => Ok((end_of(before, value), rest)),
+        Err(fault) => Err(fault),
+    }
 }
 
 // One property: the end of its last token, and the tokens behind it.
@@ -71,8 +77,10 @@ fn property<'a>(
     let Some(name) = word(first) else {
         return Err(broken(before));
     };
-    admitted(alloc, parts, first.start, name)?;
-    valued(alloc, file, parts, first.end, name, more)
+    match admitted(alloc, parts, first.start, name) {
+        Ok(()) => valued(alloc, file, parts, first.end, name, more),
+        Err(fault) => Err(fault),
+    }
 }
 
 // A sign that has to stand here: its end, and the tokens behind it.
@@ -104,6 +112,32 @@ fn begins(sign: &[u8], tokens: &[Token]) -> bool
     }
 }
 
+// The parenthesis behind the last property.
+fn closes<'a>(before: u64, tokens: &'a [Token]) -> Result<(bool, u64, &'a [Token]), ReadFault>
+    ensures { (p : PartsRead) → GivesAs (λ r. (r.0, record { parts = p; before = r.1; rest = r.2.now })) result (closes (record { parts = p; before = before; rest = tokens.now })) }
+{
+    match expect(b")", before, tokens) {
+        Ok((end, rest)) => Ok((true, end, rest)),
+        Err(fault) => Err(fault),
+    }
+}
+
+// A comma behind a property, and the parenthesis where that was the last one.
+fn goes_on<'a>(before: u64, tokens: &'a [Token]) -> Result<(bool, u64, &'a [Token]), ReadFault>
+    ensures { (p : PartsRead) → GivesAs (λ r. (r.0, record { parts = p; before = r.1; rest = r.2.now })) result (goes_on (record { parts = p; before = before; rest = tokens.now })) }
+{
+    match expect(b",", before, tokens) {
+        Ok((end, rest)) => {
+            if begins(b")", rest) {
+                closes(end, rest)
+            } else {
+                Ok((false, end, rest))
+            }
+        }
+        Err(fault) => Err(fault),
+    }
+}
+
 // One more property, and whether it is the last.
 fn one_property<'a>(
     alloc: Global,
@@ -114,17 +148,16 @@ fn one_property<'a>(
 ) -> Result<(bool, u64, &'a [Token]), ReadFault>
     ensures { GivesAs (λ r. (r.0, record { parts = parts.new; before = r.1; rest = r.2.now })) result (one_property file.now parts.old before tokens.now) }
 {
-    let (end, rest) = property(alloc, file, parts, before, tokens)?;
-    if begins(b")", rest) {
-        let (end, rest) = expect(b")", end, rest)?;
-        return Ok((true, end, rest));
+    match property(alloc, file, parts, before, tokens) {
+        Ok((end, rest)) => {
+            if begins(b")", rest) {
+                closes(end, rest)
+            } else {
+                goes_on(end, rest)
+            }
+        }
+        Err(fault) => Err(fault),
     }
-    let (end, rest) = expect(b",", end, rest)?;
-    if begins(b")", rest) {
-        let (end, rest) = expect(b")", end, rest)?;
-        return Ok((true, end, rest));
-    }
-    Ok((false, end, rest))
 }
 
 // The properties, up to the parenthesis that closes them.
@@ -140,12 +173,16 @@ fn properties<'a>(
     let mut before = before;
     let mut rest = tokens;
     for _ in 0..tokens.len() {
-        let (is_last, end, left) = one_property(alloc, file, parts, before, rest)?;
-        if is_last {
-            return Ok((end, left));
+        match one_property(alloc, file, parts, before, rest) {
+            Ok((is_last, end, left)) => {
+                if is_last {
+                    return Ok((end, left));
+                }
+                before = end;
+                rest = left;
+            }
+            Err(fault) => return Err(fault),
         }
-        before = end;
-        rest = left;
     }
     Err(broken(before))
 }
@@ -174,8 +211,14 @@ pub fn read_statement<'a>(
 ) -> Result<(Parts, u64, &'a [Token]), ReadFault>
     ensures { GivesAs (λ r. record { parts = r.0; before = r.1; rest = r.2.now }) result (statement file.now tokens.now) }
 {
-    let (before, rest) = model_word(tokens)?;
-    let (before, rest) = expect(b"(", before, rest)?;
+    let (before, rest) = match model_word(tokens) {
+        Ok(found) => found,
+        Err(fault) => return Err(fault),
+    };
+    let (before, rest) = match expect(b"(", before, rest) {
+        Ok(found) => found,
+        Err(fault) => return Err(fault),
+    };
     let mut parts = no_parts(alloc);
     let (before, rest) = match properties(alloc, file, &mut parts, before, rest) {
         Ok(found) => found,

@@ -1,11 +1,11 @@
 -- The test for an interval says that each of its seconds is there.
-use Rattle.std.proofs.Common.{◌≡◌, refl, sym, ◌∙◌, ap, IsTrue, ◌↔◌, Bool, true, false, ◌||◌, List, [], ◌∷◌, ◌⊎◌, inl, inr, ℤ, ◌≤ℤ◌, ◌<ℤ◌, arith, rules}
+use Rattle.std.proofs.Common.{◌≡◌, refl, IsTrue, ◌↔◌, Bool, true, false, ◌||◌, List, [], ◌∷◌, ◌⊎◌, inl, inr, ℤ, ◌≤ℤ◌, ◌<ℤ◌, arith, rules}
 use Rattle.std.specs.List.{list_any}
 use Rattle.std.specs.Int.Signed.{le_z}
 use Rattle.std.proofs.lemmas.Int.{ints, by_lt_z}
 use Rattle.mesh_values.specs.declared.times.Bounds.{Bounds}
 use Rattle.mesh_time.specs.Ranges.{IsWithin, Has, is_apart, covers, is_held}
-use Rattle.mesh_time.proofs.Apart.{le_says, le_not, le_true, and_says, and_true, Apart, apart_says, apart_from_after, has_above}
+use Rattle.mesh_time.proofs.Apart.{le_says, le_true, and_says, and_true, Apart, apart_says, apart_from_after, has_above}
 
 is_true : {r : Bool} → IsTrue r → r ≡ true
 is_true h = search rules
@@ -82,18 +82,5 @@ held_if_has xs start last a h =
     (λ k. or_right (le_z last start) _ (covered_if_has xs start last (apart_says xs a) k h))
     (λ k. or_left _ _ (le_true last start k))
 
--- what the loop over the spans found, for an interval that has a second
-pub covered_tells : (self inside items : List Bounds) (start last : ℤ) (r : Bool) → items ≡ inside → inside ≡ self → is_apart inside ≡ true → le_z last start ≡ false → r ≡ list_any (covers start last) items → IsTrue r ↔ ((t : ℤ) → start ≤ℤ t → t <ℤ last → Has self t)
-covered_tells self inside items start last r e f a p h =
-    let found : r ≡ list_any (covers start last) self = h ∙ ap (list_any (covers start last)) (e ∙ f) in
-    let apart : is_apart self ≡ true = sym (ap is_apart f) ∙ a in (
-      λ y t q w. has_if_covered self start last t (sym found ∙ is_true y) q w,
-      λ all. true_is (found ∙ covered_if_has self start last (apart_says self apart) (le_not last start p) all),
-    )
-
 pub held_tells : (xs : List Bounds) (start last : ℤ) → is_apart xs ≡ true → IsTrue (is_held xs start last) ↔ ((t : ℤ) → start ≤ℤ t → t <ℤ last → Has xs t)
 held_tells xs start last a = (λ y t. has_if_held xs start last (is_true y) t, λ all. true_is (held_if_has xs start last a all))
-
--- the same as a test
-pub covered_test : (self inside items : List Bounds) (start last : ℤ) (r : Bool) → items ≡ inside → inside ≡ self → le_z last start ≡ false → r ≡ list_any (covers start last) items → r ≡ is_held self start last
-covered_test self inside items start last r e f p h = h ∙ ap (list_any (covers start last)) (e ∙ f) ∙ sym (rw p refl)

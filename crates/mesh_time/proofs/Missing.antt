@@ -1,5 +1,5 @@
 -- Only the first span that ends after a second can hold an interval that begins there.
-use Rattle.std.proofs.Common.{ℕ, ◌+◌, ◌<◌, ◌≡◌, refl, sym, ◌∙◌, ap, map, filter, not, append-nil, ◌++◌, Bool, true, false, ◌||◌, ◌&&◌, List, [], ◌∷◌, ℤ, ◌≤ℤ◌, ◌<ℤ◌, arith}
+use Rattle.std.proofs.Common.{IsTrue, ◌↔◌, subst, ℕ, ◌+◌, ◌<◌, ◌≡◌, refl, sym, ◌∙◌, ap, map, filter, not, append-nil, ◌++◌, Bool, true, false, ◌||◌, ◌&&◌, List, [], ◌∷◌, ℤ, ◌≤ℤ◌, ◌<ℤ◌, arith}
 use Rattle.std.specs.List.{list_any, range_with_len}
 use Rattle.std.proofs.lemmas.List.FromFn.{filter_of_map_range_with_len_more}
 use Rattle.std.specs.Int.Signed.{le_z}
@@ -8,9 +8,10 @@ use Rattle.mesh_values.specs.declared.times.Bounds.{Bounds}
 use Rattle.mesh_values.specs.declared.times.Schedule.{Schedule}
 use Rattle.mesh_values.specs.declared.times.Unit.{Unit as TimeUnit}
 use Rattle.mesh_values.specs.declared.times.Unit.TheVariants.{Hour, Day}
-use Rattle.mesh_time.specs.Ranges.{is_apart, covers, is_held, unit_size, unit_at}
+use Rattle.mesh_time.specs.Ranges.{Has, is_apart, covers, is_held, unit_size, unit_at}
 use Rattle.mesh_time.specs.Edits.{open_after, front_covers}
-use Rattle.mesh_time.proofs.Apart.{le_true, le_false, ApartAfter, Apart, apart_says, apart_from_after}
+use Rattle.mesh_time.proofs.Held.{held_tells}
+use Rattle.mesh_time.proofs.Apart.{le_true, le_false, le_not, ApartAfter, Apart, apart_says, apart_from_after}
 
 pub open_after-open_after : (t u : ℤ) (xs : List Bounds) → u ≤ℤ t → open_after t (open_after u xs) ≡ open_after t xs
 open_after-open_after t u [] h = refl
@@ -45,6 +46,18 @@ covered_by_front (b ∷ bs) start last a p =
 
 pub held_by_front : (xs : List Bounds) (start last : ℤ) → is_apart xs ≡ true → start <ℤ last → is_held xs start last ≡ front_covers start last (open_after start xs)
 held_by_front xs start last a p = rw (le_false last start p) (covered_by_front xs start last (apart_says xs a) p)
+
+-- what the first span that ends after an interval's start says of it, where it has a second
+pub front_test : (self inside items rest : List Bounds) (start last : ℤ) (r : Bool) → items ≡ inside → inside ≡ self → is_apart inside ≡ true → le_z last start ≡ false → rest ≡ open_after start items → r ≡ front_covers start last rest → r ≡ is_held self start last
+front_test self inside items rest start last r e f a p n h =
+    h ∙ ap (front_covers start last) (n ∙ ap (open_after start) (e ∙ f)) ∙ sym (held_by_front self start last (sym (ap is_apart f) ∙ a) (le_not last start p))
+
+-- the same of each second
+pub front_tells : (self inside items rest : List Bounds) (start last : ℤ) (r : Bool) → items ≡ inside → inside ≡ self → is_apart inside ≡ true → le_z last start ≡ false → rest ≡ open_after start items → r ≡ front_covers start last rest → IsTrue r ↔ ((t : ℤ) → start ≤ℤ t → t <ℤ last → Has self t)
+front_tells self inside items rest start last r e f a p n h =
+    let test = front_test self inside items rest start last r e f a p n h in
+    let tells = held_tells self start last (sym (ap is_apart f) ∙ a) in
+    (λ y. tells.0 (subst IsTrue test y), λ all. subst IsTrue (sym test) (tells.1 all))
 
 size_some : (u : TimeUnit) → 0 < unit_size u
 size_some Hour = omega arith

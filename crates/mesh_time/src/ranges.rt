@@ -1,8 +1,8 @@
 // Ranges of seconds: spans that ascend, none empty, no two touching. A hole is what lies between two spans.
 ghost use Rattle.std.specs.Prelude.{◌≡◌, true, ℕ, [], ◌++◌, ◌∷◌, ◌↔◌, ◌⊎◌, ◌<◌, IsTrue, IfOk, OnOk, OnErr, List, ℤ, ◌<ℤ◌, ◌≤ℤ◌};
-ghost use Rattle.std.specs.List.{flat_map, list_any};
+ghost use Rattle.std.specs.List.{flat_map};
 ghost use Rattle.mesh_values.specs.declared.times.Bounds.{Bounds};
-ghost use Rattle.mesh_time.specs.Ranges.{IsWithin, Has, is_apart, covers, is_held, unit_size, unit_count, unit_at, missing_units};
+ghost use Rattle.mesh_time.specs.Ranges.{IsWithin, Has, is_apart, is_held, unit_size, unit_count, unit_at, missing_units};
 ghost use Rattle.mesh_time.specs.Edits.{hull, added, filled, pieces, open_after, front_covers, spans_with, spans_without, spans_without_each};
 
 use crate::cuts::without_each;
@@ -96,7 +96,7 @@ impl Ranges {
         ensures seconds { IsTrue result ↔ ((t : ℤ) → start ≤ℤ t → t <ℤ end → Has self.now t) }
         ensures test { result ≡ is_held self.now start end }
     {
-        end <= start || is_covered(self.spans.as_slice(), start, end)
+        end <= start || front_covers(open_after(self.spans.as_slice(), start), start, end)
     }
 
     /// The units of the schedule that `holds` denies, in order.
@@ -201,17 +201,6 @@ fn without_span(spans: &Spans, gone: &Bounds) -> Result<Spans, Memory>
         push_pieces(&mut made, gone, span)?;
     }
     Ok(made)
-}
-
-fn is_covered(spans: &[Bounds], start: i64, end: i64) -> bool
-    ensures { result ≡ list_any (covers start end) spans.now }
-{
-    for span in spans {
-        if span.start <= start && end <= span.end {
-            return true;
-        }
-    }
-    false
 }
 
 fn open_after(spans: &[Bounds], second: i64) -> &[Bounds]

@@ -1,5 +1,4 @@
 use Rattle.std.proofs.Common.{sym, [], arith}
-use Rattle.std.proofs.lemmas.Result.{err_from_is_err_and}
 use Rattle.mesh_statement.specs.Brackets.{value_len}
 use Rattle.mesh_statement.proofs.Steps.{ends, goes, fails, runs_out}
 use Rattle.mesh_statement.proofs.brackets.value_len.Goals as goal
@@ -12,19 +11,18 @@ returns-then-ends_value c =
       within = omega (c.loop-i-test.true, arith);
     }
 
-pub returns-in_err-held : goal.returns-in_err-held
-returns-in_err-held c =
-    let p = err_from_is_err_and c.from_residual.result c.from_residual.ensures.1 in
-    rw (p.1, p.2) (record {
-      value = fails c.in_err-held.field-0.0 c.args.any c.loop-i.last c.loop-i.held c.args.tokens.now c.loop-i.i c.index-tokens-i.result (value_len c.args.any c.args.before [] c.args.tokens.now)
-          c.loop-i-test.true c.index-tokens-i.is (sym c.if-ends_value.ensures) c.in_err-held.ensures c.loop-i.invariant;
+pub returns-in-Err : goal.returns-in-Err
+returns-in-Err c =
+    record {
+      value = fails c.in-Err.fault c.args.any c.loop-i.last c.loop-i.held c.args.tokens.now c.loop-i.i c.index-tokens-i.result (value_len c.args.any c.args.before [] c.args.tokens.now)
+          c.loop-i-test.true c.index-tokens-i.is (sym c.if-ends_value.ensures) c.in-Err.ensures c.loop-i.invariant;
       within = tt;
-    })
+    }
 
 pub loop-i-preserved : goal.loop-i-preserved
 loop-i-preserved c =
-    goes c.args.any c.loop-i.last c.loop-i.held c.in_ok-held.held c.args.tokens.now c.loop-i.i c.index-tokens-i.result (value_len c.args.any c.args.before [] c.args.tokens.now)
-    c.loop-i-test.true c.index-tokens-i.is (sym c.if-ends_value.ensures) c.in_ok-held.ensures c.loop-i.invariant
+    goes c.args.any c.loop-i.last c.loop-i.held c.in-Ok.more c.args.tokens.now c.loop-i.i c.index-tokens-i.result (value_len c.args.any c.args.before [] c.args.tokens.now)
+    c.loop-i-test.true c.index-tokens-i.is (sym c.if-ends_value.ensures) c.in-Ok.ensures c.loop-i.invariant
 
 pub returns-clause-value : goal.returns-clause-value
 returns-clause-value c =
