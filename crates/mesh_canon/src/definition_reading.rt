@@ -52,15 +52,18 @@ impl Readable for Decl {
         let (name, rest) = name_then_space(alloc, rest)?;
         let (columns, rest) = list_then(alloc, rest, b" ")?;
         let (time, rest) = time(alloc, rest)?;
-        let rest = expect(rest, b")")?;
-        Ok((
-            Decl {
-                name,
-                columns,
-                time,
-            },
-            rest,
-        ))
+        let made = Decl {
+            name,
+            columns,
+            time,
+        };
+        match expect(rest, b")") {
+            Ok(rest) => Ok((made, rest)),
+            Err(fault) => {
+                drop(made);
+                Err(fault)
+            }
+        }
     }
 }
 
@@ -135,8 +138,13 @@ fn titled(alloc: Global, form: Form, bytes: &[u8]) -> Result<((Name, Kind), &[u8
     let rest = expect(bytes, b"(own ")?;
     let (name, rest) = name_then_space(alloc, rest)?;
     let (kind, rest) = kind(alloc, form, rest)?;
-    let rest = expect(rest, b" ")?;
-    Ok(((name, kind), rest))
+    match expect(rest, b" ") {
+        Ok(rest) => Ok(((name, kind), rest)),
+        Err(fault) => {
+            drop(kind);
+            Err(fault)
+        }
+    }
 }
 
 // Its five fields, its unit and its start.

@@ -235,11 +235,11 @@ fn exprs(alloc: Global, depth: usize, bytes: &[u8]) -> Result<(Exprs, &[u8]), Ca
     ensures { Gives (λ x. (x.0, x.1.now)) result (list_at (expr_at depth) bytes.now) }
 {
     let inner = expect(bytes, b"[")?;
-    let mut made = Seq::new(alloc);
     if let Some(rest) = after(inner, b"]") {
-        return Ok((made, rest));
+        return Ok((Seq::new(alloc), rest));
     }
     let (first, rest) = expr(alloc, depth, inner)?;
+    let mut made = Seq::new(alloc);
     made.push(first)?;
     more_exprs(alloc, depth, made, rest)
 }
@@ -274,11 +274,11 @@ fn whens(alloc: Global, depth: usize, bytes: &[u8]) -> Result<(Whens, &[u8]), Ca
     ensures { Gives (λ x. (x.0, x.1.now)) result (list_at (when_at (expr_at depth)) bytes.now) }
 {
     let inner = expect(bytes, b"[")?;
-    let mut made = Seq::new(alloc);
     if let Some(rest) = after(inner, b"]") {
-        return Ok((made, rest));
+        return Ok((Seq::new(alloc), rest));
     }
     let (first, rest) = when(alloc, depth, inner)?;
+    let mut made = Seq::new(alloc);
     made.push(first)?;
     more_whens(alloc, depth, made, rest)
 }

@@ -5,7 +5,7 @@ use Rattle.std.specs.declared.result.Result.{Result}
 use Rattle.mesh_values.specs.declared.values.ColType.{ColType}
 use Rattle.mesh_base.specs.declared.expressions.Expr.{Expr, roll-Expr, fold-roll-Expr}
 use Rattle.mesh_base.specs.declared.expressions.Expr as expr
-use Rattle.mesh_base.specs.declared.expressions.Expr.TheOpen.{Binary, Neg, Not, IsNull, Between, OneOf, Cast, Call, Case, Agg}
+use Rattle.mesh_base.specs.declared.expressions.Expr.TheOpen.{Binary, Neg, Between, OneOf, Cast, Call, Case, Agg}
 use Rattle.mesh_base.specs.declared.expressions.When.{When}
 use Rattle.mesh_base.specs.declared.expressions.Op.{Op}
 use Rattle.mesh_base.specs.declared.expressions.Func.{Func}
@@ -27,14 +27,6 @@ both_written old between new first text p q = q ∙ ap (λ o. o ++ text) p ∙ a
 pub of-neg : (e value x : Expr) → e ≡ expr.Neg value → x ≡ value → codes "(neg " ++ (expr_text x ++ codes ")") ≡ expr_text e
 unfolding roll-Expr denote.Hole.Carrier.roll expr_here
 of-neg e value x is f = ap (λ y. codes "(neg " ++ (expr_text y ++ codes ")")) f ∙ sym (fold-roll-Expr (List ℕ) (List ℕ) expr_here when_here (Neg value)) ∙ ap expr_text (sym is)
-
-pub of-not : (e value x : Expr) → e ≡ expr.Not value → x ≡ value → codes "(not " ++ (expr_text x ++ codes ")") ≡ expr_text e
-unfolding roll-Expr denote.Hole.Carrier.roll expr_here
-of-not e value x is f = ap (λ y. codes "(not " ++ (expr_text y ++ codes ")")) f ∙ sym (fold-roll-Expr (List ℕ) (List ℕ) expr_here when_here (Not value)) ∙ ap expr_text (sym is)
-
-pub of-is_null : (e value x : Expr) → e ≡ expr.IsNull value → x ≡ value → codes "(isnull " ++ (expr_text x ++ codes ")") ≡ expr_text e
-unfolding roll-Expr denote.Hole.Carrier.roll expr_here
-of-is_null e value x is f = ap (λ y. codes "(isnull " ++ (expr_text y ++ codes ")")) f ∙ sym (fold-roll-Expr (List ℕ) (List ℕ) expr_here when_here (IsNull value)) ∙ ap expr_text (sym is)
 
 pub of-binary : (e left right l r : Expr) (op : Op) (word : List ℕ) → e ≡ expr.Binary op left right → l ≡ left → r ≡ right → word ≡ op_word op
     → ((codes "(" ++ word) ++ (codes " " ++ expr_text l)) ++ (codes " " ++ (expr_text r ++ codes ")")) ≡ expr_text e

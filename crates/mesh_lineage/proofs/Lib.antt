@@ -20,3 +20,5 @@ pub mod ByName
 pub mod Nodes
 -- Examples: models worked out by hand.
 pub mod Examples
+-- Named: the columns of a node, from those of its parts.
+pub mod Named

@@ -21,7 +21,10 @@ fn chosen(now: Result<Own, CanonFault>, former: Result<Own, CanonFault>) -> Resu
     match now {
         Ok(first) => agreed(first, former),
         Err(CanonFault::NotCanonical) => former,
-        Err(CanonFault::Memory) => Err(CanonFault::Memory),
+        Err(CanonFault::Memory) => {
+            drop(former);
+            Err(CanonFault::Memory)
+        }
     }
 }
 
@@ -33,14 +36,20 @@ fn agreed(first: Own, former: Result<Own, CanonFault>) -> Result<Own, CanonFault
 {
     match former {
         Ok(second) => {
-            if first.same(&second) {
+            let is_one = first.same(&second);
+            drop(second);
+            if is_one {
                 Ok(first)
             } else {
+                drop(first);
                 Err(CanonFault::Memory)
             }
         }
         Err(CanonFault::NotCanonical) => Ok(first),
-        Err(CanonFault::Memory) => Err(CanonFault::Memory),
+        Err(CanonFault::Memory) => {
+            drop(first);
+            Err(CanonFault::Memory)
+        }
     }
 }
 

@@ -1,7 +1,7 @@
 use Rattle.std.proofs.Common.{◌++◌, append_assoc, refl, sym, ◌∙◌}
 use Rattle.mesh_canon_text.specs.Text.{expr_text, gap, members, when_text}
 use Rattle.mesh_canon_text.proofs.Members.{one_more}
-use Rattle.mesh_canon_text.proofs.Nodes.{wrote, wrote_behind, both_written, of-binary, of-neg, of-not, of-is_null, of-between, of-one_of, of-cast, of-call, of-case, of-agg}
+use Rattle.mesh_canon_text.proofs.Nodes.{wrote, wrote_behind, both_written, of-binary, of-neg, of-between, of-one_of, of-cast, of-call, of-case, of-agg}
 use Rattle.mesh_canon_text.proofs.expression_text.+put.Goals as goal
 
 pub put_exprs-loop-i-init : goal.put_exprs-loop-i-init
@@ -25,16 +25,6 @@ pub put_expr-returns-in-Neg : goal.put_expr-returns-in-Neg
 put_expr-returns-in-Neg t c =
     wrote c.put_last-in-Neg.result c.args.out.now.items c.put_last-in-Neg.new.out.items _ _ c.put_last-in-Neg.ensures
     (of-neg c.args.e.now c.in-Neg.value c.get-in-Neg.result.now c.in-Neg.is c.get-in-Neg.ensures)
-
-pub put_expr-returns-in-Not : goal.put_expr-returns-in-Not
-put_expr-returns-in-Not t c =
-    wrote c.put_last-in-Not.result c.args.out.now.items c.put_last-in-Not.new.out.items _ _ c.put_last-in-Not.ensures
-    (of-not c.args.e.now c.in-Not.value c.get-in-Not.result.now c.in-Not.is c.get-in-Not.ensures)
-
-pub put_expr-returns-in-IsNull : goal.put_expr-returns-in-IsNull
-put_expr-returns-in-IsNull t c =
-    wrote c.put_last-in-IsNull.result c.args.out.now.items c.put_last-in-IsNull.new.out.items _ _ c.put_last-in-IsNull.ensures
-    (of-is_null c.args.e.now c.in-IsNull.value c.get-in-IsNull.result.now c.in-IsNull.is c.get-in-IsNull.ensures)
 
 pub put_expr-returns-in_ok-put_behind-in-Binary : goal.put_expr-returns-in_ok-put_behind-in-Binary
 put_expr-returns-in_ok-put_behind-in-Binary t c =
