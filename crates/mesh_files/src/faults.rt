@@ -45,10 +45,13 @@ pub fn in_file<T: Drop>(file: &Str, read: Result<T, ReadFault>) -> Result<T, Loa
     match read {
         Ok(x) => Ok(x),
         Err(ReadFault::Memory) => Err(LoadFault::Memory),
-        Err(ReadFault::Fault { at, kind }) => {
-            let file = file.copy()?;
-            Err(LoadFault::Fault { file, at, kind })
-        }
+        Err(ReadFault::Fault { at, kind }) => match file.copy() {
+            Ok(file) => Err(LoadFault::Fault { file, at, kind }),
+            Err(_) => {
+                drop(kind);
+                Err(LoadFault::Memory)
+            }
+        },
     }
 }
 

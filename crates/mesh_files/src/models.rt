@@ -84,7 +84,10 @@ fn with_seed<F: Folder>(
     cron_is_one(&text);
     match seed_of(alloc, folder, dir, &text) {
         Ok(seed) => Ok(Some(ModelFile { text, seed })),
-        Err(fault) => Err(fault),
+        Err(fault) => {
+            drop(text);
+            Err(fault)
+        }
     }
 }
 

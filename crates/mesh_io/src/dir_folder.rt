@@ -8,7 +8,7 @@ use crate::refused::{is_absent, refused};
 use mesh_list::Seq;
 use mesh_values::{Str, Strs};
 use std::alloc::Global;
-use std::fs::File;
+use std::fs::{DirEntry, File};
 use std::io::{ErrorKind, Read};
 use std::marker::Model;
 use std::{fs, io};
@@ -107,15 +107,33 @@ impl Walk {
         }
     }
 
+    /// Notes what an entry of a folder leads to.
+    fn meet(
+        &mut self,
+        rt: &HostRuntime,
+        entry: io::Result<DirEntry>,
+        depth: u32,
+    ) -> io::Result<()> {
+        match entry {
+            Ok(entry) => self.note(rt, entry.path().as_str(), depth),
+            Err(error) => Err(error),
+        }
+    }
+
     /// Notes what a folder holds, whose paths have to be UTF-8.
     fn look(&mut self, rt: &HostRuntime, folder: &Open) -> io::Result<()> {
         if folder.depth > MOST_DEEP {
             return Err(io::Error::from(ErrorKind::InvalidData));
         }
         let deeper = folder.depth.saturating_add(1);
-        for entry in fs::read_dir(rt, folder.path.as_str())? {
-            let entry = entry?;
-            self.note(rt, entry.path().as_str(), deeper)?;
+        let entries = match fs::read_dir(rt, folder.path.as_str()) {
+            Ok(entries) => entries,
+            Err(error) => return Err(error),
+        };
+        for entry in entries {
+            if let Err(error) = self.meet(rt, entry, deeper) {
+                return Err(error);
+            }
         }
         Ok(())
     }
