@@ -16,7 +16,7 @@ use crate::works::{Work, model_at};
 use mesh_base::{Due, Entry, Forgets, Marks, Node, Ref, Refs, Snapshot};
 use mesh_columns::columns_of;
 use mesh_house::{Change, Changes};
-use mesh_list::{Duplicate, Memory, Seq, both, push_made, together};
+use mesh_list::{Duplicate, Memory, Seq, both, push_made};
 use mesh_rules::Plan;
 use mesh_values::{Kind, LIFETIME, Name, Pair, Pairs, Rows, Str};
 use std::alloc::Global;
@@ -233,13 +233,9 @@ fn snapshot_of(
     requires { IsTrue (is_moment t) }
     ensures { IfOk result (λ made. made ≡ snapshot_of t (plain_models nodes.now entries.now) (model_of node.now entry.now)) }
 {
-    let ((name, own), (object, parents)) = together(
-        both(&node.own.name, &node.own),
-        together(
-            entry.object.copy(),
-            refs_at(alloc, nodes, entries, node.parents.as_slice()),
-        ),
-    )?;
+    let parents = refs_at(alloc, nodes, entries, node.parents.as_slice())?;
+    let (name, own) = both(&node.own.name, &node.own)?;
+    let object = entry.object.copy()?;
     Ok(Snapshot {
         name,
         fingerprint: node.fingerprint,
