@@ -3,7 +3,7 @@
 //! word and what the word takes, where `\n`, `\r`, `\t`, `\\` and `\xHH` are escapes, and `{N TEXT}` is TEXT N times, a `#`
 //! in it the number of the copy.
 //!
-//! Days, moments, crons, ranges of seconds, casts, canonical texts and fingerprints (`stage.rt`):
+//! Days, moments, crons, ranges of seconds, casts, canonical texts and fingerprints (`values.rt`):
 //! - `day TEXT` and `moment TEXT` read a day or a moment, and `day-text N` and `moment-text N` write one;
 //! - `value CELL` is the moment of a cell, which is `NULL`, a number, a text in single quotes, `day N`, `true` or `false`;
 //! - `cron TEXT` reads a cron, and answers its sets as numbers of bits, a star behind that of a field `*`, and its unit;
@@ -48,13 +48,13 @@ mod parts;
 mod ranges;
 mod seeds;
 mod sources;
-mod stage;
 mod times;
+mod values;
 
 use crate::host::Host;
 use crate::memory::Inside;
 use crate::seeds::Files;
-use crate::stage::Values;
+use crate::values::Values;
 use mesh_cases::{Trouble, cases_of, file_of, filled, front_word, printed};
 use mesh_io::DirFolder;
 use std::alloc::Global;
