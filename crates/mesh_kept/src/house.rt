@@ -2,6 +2,7 @@
 ghost use Rattle.std.specs.Prelude.{◌≡◌, ◌≤◌, IsErrOf};
 ghost use Rattle.mesh_list.specs.Counts.{Rose};
 ghost use Rattle.mesh_keep.specs.declared.keeper.KeepFail.TheVariants.{Failed};
+ghost use Rattle.mesh_house.specs.declared.house.WhFail.TheVariants.{Failed as Refused};
 ghost use Rattle.mesh_house.specs.World.{head, body, view, book};
 ghost use Rattle.mesh_house.specs.House.{Changes, Reads};
 ghost use Rattle.mesh_kept.specs.Counts.{counted};
@@ -56,6 +57,24 @@ fn begin<K: Keeper>(alloc: Global, keeper: &mut K) -> Result<(), KeepFail>
     }
 }
 
+// Makes a change of a world in memory, and then by one write.
+fn written<K: Keeper>(
+    alloc: Global,
+    keeper: &mut K,
+    world: &mut World,
+    change: &Change,
+) -> Result<(), WhFail>
+    ensures faults { (K.told keeper.old).faults ≤ (K.told keeper.new).faults }
+    ensures failed { IsErrOf result Refused → Rose (K.told keeper.old).faults (K.told keeper.new).faults }
+{
+    let writes = stepped(alloc, world, change)?;
+    match keeper.write(alloc, &writes) {
+        Ok(()) => Ok(()),
+        Err(KeepFail::Failed) => Err(WhFail::Failed),
+        Err(KeepFail::Memory) => Err(WhFail::Memory),
+    }
+}
+
 impl<K: Keeper> KeptHouse<K> {
     /// The warehouse that a keeper's records say. Where there is no record of the moment, that of an empty book is put.
     pub fn new(alloc: Global, keeper: K) -> Result<KeptHouse<K>, KeepFault<K>> {
@@ -76,10 +95,11 @@ impl<K: Keeper> KeptHouse<K> {
     pub fn into_keeper(self) -> K {
         let KeptHouse {
             keeper,
-            world: _world,
+            world,
             calls: _,
             unread: _,
         } = self;
+        drop(world);
         keeper
     }
 
@@ -92,7 +112,7 @@ impl<K: Keeper> KeptHouse<K> {
         }
         match load(alloc, &mut self.keeper) {
             Ok(world) => {
-                self.world = Some(world);
+                drop(std::mem::replace(&mut self.world, Some(world)));
                 Ok(())
             }
             Err(LoadFail::Failed) => Err(WhFail::Failed),
@@ -111,14 +131,15 @@ impl<K: Keeper> KeptHouse<K> {
         let Some(mut world) = std::mem::replace(&mut self.world, None) else {
             return Err(WhFail::Memory);
         };
-        let writes = stepped(alloc, &mut world, change)?;
-        match self.keeper.write(alloc, &writes) {
+        match written(alloc, &mut self.keeper, &mut world, change) {
             Ok(()) => {
-                self.world = Some(world);
+                drop(std::mem::replace(&mut self.world, Some(world)));
                 Ok(())
             }
-            Err(KeepFail::Failed) => Err(WhFail::Failed),
-            Err(KeepFail::Memory) => Err(WhFail::Memory),
+            Err(fail) => {
+                drop(world);
+                Err(fail)
+            }
         }
     }
 }

@@ -1,25 +1,39 @@
 // The things of a world, from their records.
-ghost use Rattle.std.specs.Prelude.{IsErrOf};
+ghost use Rattle.std.specs.Prelude.{IsErrOf, ◌≡◌, OnOk};
+ghost use Rattle.mesh_house.specs.Objects.{is_physical};
 ghost use Rattle.mesh_kept.specs.declared.fault.LoadFail.TheVariants.{Failed};
 
 use crate::fault::LoadFail;
 use mesh_book::Book;
 use mesh_house::World;
 use mesh_keep::Record;
-use mesh_list::Same;
+use mesh_list::{Memory, Same};
 use mesh_record_text::{
     env_key, read_env, read_object, read_snapshot, read_source, read_version, read_view,
     snapshot_key, thing_key,
 };
-use mesh_values::{Str, has_two_underscores};
+use mesh_values::{Name, Str, has_two_underscores};
 use std::alloc::Global;
 
 // A record stands under the name of its thing.
-fn named(name: &Str, key: &Str) -> Result<(), LoadFail>
+fn named(name: &Str, key: Result<Str, Memory>) -> Result<(), LoadFail>
     ensures { IsErrOf result Failed → ⊥ }
 {
-    if name.same(key) {
+    let key = key?;
+    if name.same(&key) {
         Ok(())
+    } else {
+        Err(LoadFail::Unread)
+    }
+}
+
+// The same of an object, whose schema has two underscores, and of a source, whose schema has none.
+fn stands(alloc: Global, record: &Str, name: &Name, is_object: bool) -> Result<(), LoadFail>
+    ensures failed { IsErrOf result Failed → ⊥ }
+    ensures stands { OnOk result (is_physical name.now ≡ is_object) }
+{
+    if has_two_underscores(name.schema.as_slice()) == is_object {
+        named(record, thing_key(alloc, name))
     } else {
         Err(LoadFail::Unread)
     }
@@ -29,66 +43,81 @@ fn take_snapshot(alloc: Global, book: &mut Book, record: &Record) -> Result<(), 
     ensures { IsErrOf result Failed → ⊥ }
 {
     let snapshot = read_snapshot(alloc, record.body.as_slice())?;
-    let key = snapshot_key(alloc, &snapshot.name, &snapshot.fingerprint)?;
-    named(&record.name, &key)?;
-    book.snapshots.place(snapshot)?;
-    Ok(())
+    match named(
+        &record.name,
+        snapshot_key(alloc, &snapshot.name, &snapshot.fingerprint),
+    ) {
+        Ok(()) => Ok(book.snapshots.place(snapshot)?),
+        Err(fail) => {
+            drop(snapshot);
+            Err(fail)
+        }
+    }
 }
 
 fn take_version(alloc: Global, book: &mut Book, record: &Record) -> Result<(), LoadFail>
     ensures { IsErrOf result Failed → ⊥ }
 {
     let version = read_version(alloc, record.body.as_slice())?;
-    let key = thing_key(alloc, &version.object)?;
-    named(&record.name, &key)?;
-    book.versions.place(version)?;
-    Ok(())
+    match named(&record.name, thing_key(alloc, &version.object)) {
+        Ok(()) => Ok(book.versions.place(version)?),
+        Err(fail) => {
+            drop(version);
+            Err(fail)
+        }
+    }
 }
 
 fn take_env(alloc: Global, book: &mut Book, record: &Record) -> Result<(), LoadFail>
     ensures { IsErrOf result Failed → ⊥ }
 {
     let env = read_env(alloc, record.body.as_slice())?;
-    let key = env_key(alloc, &env.name)?;
-    named(&record.name, &key)?;
-    book.environments.place(env)?;
-    Ok(())
+    match named(&record.name, env_key(alloc, &env.name)) {
+        Ok(()) => Ok(book.environments.place(env)?),
+        Err(fail) => {
+            drop(env);
+            Err(fail)
+        }
+    }
 }
 
 fn take_view(alloc: Global, world: &mut World, record: &Record) -> Result<(), LoadFail>
     ensures { IsErrOf result Failed → ⊥ }
 {
     let view = read_view(alloc, record.body.as_slice())?;
-    let key = thing_key(alloc, &view.view)?;
-    named(&record.name, &key)?;
-    world.views.place(view)?;
-    Ok(())
+    match named(&record.name, thing_key(alloc, &view.view)) {
+        Ok(()) => Ok(world.views.place(view)?),
+        Err(fail) => {
+            drop(view);
+            Err(fail)
+        }
+    }
 }
 
 fn take_object(alloc: Global, world: &mut World, record: &Record) -> Result<(), LoadFail>
     ensures { IsErrOf result Failed → ⊥ }
 {
     let object = read_object(alloc, record.body.as_slice())?;
-    let key = thing_key(alloc, &object.name)?;
-    named(&record.name, &key)?;
-    if !has_two_underscores(object.name.schema.as_slice()) {
-        return Err(LoadFail::Unread);
+    match stands(alloc, &record.name, &object.name, true) {
+        Ok(()) => Ok(world.objects.place(object)?),
+        Err(fail) => {
+            drop(object);
+            Err(fail)
+        }
     }
-    world.objects.place(object)?;
-    Ok(())
 }
 
 fn take_source(alloc: Global, world: &mut World, record: &Record) -> Result<(), LoadFail>
     ensures { IsErrOf result Failed → ⊥ }
 {
     let source = read_source(alloc, record.body.as_slice())?;
-    let key = thing_key(alloc, &source.name)?;
-    named(&record.name, &key)?;
-    if has_two_underscores(source.name.schema.as_slice()) {
-        return Err(LoadFail::Unread);
+    match stands(alloc, &record.name, &source.name, false) {
+        Ok(()) => Ok(world.sources.place(source)?),
+        Err(fail) => {
+            drop(source);
+            Err(fail)
+        }
     }
-    world.sources.place(source)?;
-    Ok(())
 }
 
 /// The thing of a record of that kind, in the world.
