@@ -56,7 +56,9 @@ fn moved<W: Warehouse>(
     ensures { Moves renames line (W.told house.old) (W.told house.new) result }
 {
     let change = Change::Migrate { map: renames };
-    match make(house, alloc, &change) {
+    let done = make(house, alloc, &change);
+    drop(change);
+    match done {
         Ok(()) => Ok(line),
         Err(fail) => Err(as_refusal(fail)),
     }
