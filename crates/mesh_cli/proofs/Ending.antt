@@ -12,8 +12,9 @@ use Rattle.mesh_printed.specs.declared.refusals.Refusal.{Refusal}
 use Rattle.mesh_printed.specs.declared.refusals.Refusal.TheVariants as refusal
 use Rattle.mesh_line.specs.declared.line.Command.{Command}
 use Rattle.mesh_cli.specs.Asked.{Gives, Makes}
-use Rattle.mesh_cli.specs.Ends.{Commanded, Ended, IsPut, IsWritten, Printed}
-use Rattle.mesh_cli.specs.Sides.{Sides, Sinks}
+use Rattle.mesh_cli.specs.Ends.{Commanded, Ended}
+use Rattle.mesh_printed.specs.Printing.{IsPut, IsWritten, Printed, Sinks}
+use Rattle.mesh_cli.specs.Sides.{Sides}
 
 -- no refusal has status 0
 some_status : (r : Refusal) → status r ≡ 0 → ⊥

@@ -2,7 +2,8 @@
 use Rattle.std.proofs.Common.{◌≡◌, ℕ, ◌+◌, ◌<◌, ◌≤◌, List, ◌∷◌, length, drop, get_or, sym, ◌∙◌, ap, subst}
 use Rattle.std.proofs.lemmas.List.{drop_more, drop_all}
 use Rattle.mesh_cli.specs.Scripts.{StepEnds, TextsEnd, ended, went, stopped}
-use Rattle.mesh_cli.specs.Sides.{Sides, Sinks}
+use Rattle.mesh_cli.specs.Sides.{Sides}
+use Rattle.mesh_printed.specs.Printing.{Sinks}
 
 -- what comes of the rest comes of all
 abbrev pub GoesOn : List ℕ → List (List ℕ) → List (List ℕ) → Sides → Sides → Sinks → Sinks → Type 0

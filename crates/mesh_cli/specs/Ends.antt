@@ -1,14 +1,12 @@
 -- How a command ends: what it answered, what was printed, and its status.
-use Rattle.std.specs.Prelude.{◌≡◌, ◌⊎◌, ℕ, ◌≤◌, false, List, ◌++◌, take, Result, Ok, Err}
-use Rattle.std.specs.Option.{option_map}
+use Rattle.std.specs.Prelude.{◌≡◌, ◌⊎◌, ℕ, ◌≤◌, false, List, Result, Err}
 use Rattle.mesh_list.specs.Counts.{Rose}
-use Rattle.mesh_io.specs.Told.{SinkTold}
 use Rattle.mesh_commands.specs.Answers.{Answers}
-use Rattle.mesh_printed.specs.Refusals.{refusal_line, status}
+use Rattle.mesh_printed.specs.Printing.{Printed, Sinks}
 use Rattle.mesh_printed.specs.declared.refusals.Refusal.{Refusal}
 use Rattle.mesh_line.specs.declared.line.Command.{Command}
 use Rattle.mesh_cli.specs.Asked.{Gives, Makes, asks_clock, reads_folder}
-use Rattle.mesh_cli.specs.Sides.{Sides, Sinks}
+use Rattle.mesh_cli.specs.Sides.{Sides}
 
 -- Commanded: a command was called for, for the project in a folder, and answered so. It makes changes and gives answers as it is
 -- to in the world that the house tells; the outside is told to have failed only where a count of its faults rose; and what the
@@ -21,25 +19,6 @@ pub record Commanded (dir : List ℕ) (c : Command) (old new : Sides) (answer : 
   pub clock : old.clock.faults ≤ new.clock.faults
   pub unread : reads_folder c ≡ false → new.folder ≡ old.folder
   pub unasked : asks_clock c ≡ false → new.clock ≡ old.clock
-
--- a text was written
-abbrev pub IsWritten : List ℕ → SinkTold → SinkTold → Type 0
-IsWritten text old new = new.written ≡ option_map (λ bytes. bytes ++ text) old.written
-
--- the beginning of a text was written
-abbrev pub IsBegun : List ℕ → SinkTold → SinkTold → Type 0
-IsBegun text old new = (n : ℕ) × IsWritten (take n text) old new
-
--- A text was to be written with a status: it was, or with 6 the sink failed and with 4 memory was wanting, and a beginning of the
--- text was written.
-abbrev pub IsPut : List ℕ → ℕ → SinkTold → SinkTold → ℕ → Type 0
-IsPut text whole old new s =
-    ((s ≡ whole) × IsWritten text old new) ⊎ (((s ≡ 6) × Rose old.faults new.faults × IsBegun text old new) ⊎ ((s ≡ 4) × IsBegun text old new))
-
--- Printed: what was answered goes to `out`, and the line of a refusal to `err`, and the other one is as it was.
-abbrev pub Printed : Result (List ℕ) Refusal → Sinks → Sinks → ℕ → Type 0
-Printed (Ok text) old new s = IsPut text 0 old.out new.out s × (new.err ≡ old.err)
-Printed (Err r) old new s = IsPut (refusal_line r) (status r) old.err new.err s × (new.out ≡ old.out)
 
 -- Ended: a command was called for, and what it answered was printed
 pub record Ended (dir : List ℕ) (c : Command) (old new : Sides) (sinks printed : Sinks) (s : ℕ) : Type 0 where

@@ -13,8 +13,9 @@ use Rattle.mesh_line.specs.declared.line.UsageFault.{UsageFault}
 use Rattle.mesh_line.specs.declared.line.UsageFault.TheVariants as fault
 use Rattle.mesh_line.specs.Lines.{IsLine}
 use Rattle.mesh_line.specs.Scripts.{is_skipped, lines, words_of}
-use Rattle.mesh_cli.specs.Ends.{Commanded, IsSaid, Printed}
-use Rattle.mesh_cli.specs.Sides.{Sides, Sinks, here, place_or}
+use Rattle.mesh_cli.specs.Ends.{Commanded, IsSaid}
+use Rattle.mesh_printed.specs.Printing.{Printed, Sinks}
+use Rattle.mesh_cli.specs.Sides.{Sides, here, place_or}
 
 -- what a command tells where its words are no command line
 abbrev pub of_usage : UsageFault → Refusal

@@ -6,7 +6,7 @@ use Rattle.mesh_list.specs.Counts.{Rose}
 use Rattle.mesh_days.specs.Moments.{IsMoment}
 use Rattle.mesh_io.specs.declared.fails.IoFail.{IoFail}
 use Rattle.mesh_io.specs.declared.fails.IoFail.TheVariants as io
-use Rattle.mesh_io.specs.Told.{ClockTold, FolderTold, SinkTold}
+use Rattle.mesh_io.specs.Told.{ClockTold, FolderTold}
 use Rattle.mesh_house.specs.House.{Told}
 use Rattle.mesh_printed.specs.declared.refusals.Refusal.{Refusal}
 use Rattle.mesh_printed.specs.declared.refusals.Refusal.TheVariants.{Input, Memory}
@@ -17,16 +17,8 @@ pub record Sides : Type 0 where
   pub clock : ClockTold
   pub house : Told
 
--- and what is printed on
-pub record Sinks : Type 0 where
-  pub out : SinkTold
-  pub err : SinkTold
-
 abbrev pub sides : FolderTold → ClockTold → Told → Sides
 sides f c h = record { folder = f; clock = c; house = h }
-
-abbrev pub sinks : SinkTold → SinkTold → Sinks
-sinks o e = record { out = o; err = e }
 
 -- the folder that is named, or else another one
 abbrev pub place_or : Option (List ℕ) → List ℕ → List ℕ

@@ -5,17 +5,18 @@ ghost use Rattle.mesh_line.specs.Scripts.{lines};
 ghost use Rattle.mesh_printed.specs.declared.refusals.Refusal.TheVariants as refusal;
 ghost use Rattle.mesh_cli.specs.Fit.{IsFit};
 ghost use Rattle.mesh_cli.specs.Scripts.{AskedAnswers, IsTextLine, ScriptEnds, StepEnds, TextsEnd, is_batch, may_stand, of_usage};
-ghost use Rattle.mesh_cli.specs.Sides.{here, place_or, sides, sinks};
+ghost use Rattle.mesh_cli.specs.Sides.{here, place_or, sides};
+ghost use Rattle.mesh_printed.specs.Printing.{sinks};
 
 use crate::command::line_answer;
 use crate::place::place_of;
-use crate::printing::printed;
+
 use crate::script::lines_of;
 use mesh_house::Warehouse;
 use mesh_io::{Clock, Folder, Sink};
 use mesh_line::{Command, Line, UsageFault, is_skipped, line_words, read_words};
 use mesh_list::Memory;
-use mesh_printed::Refusal;
+use mesh_printed::{Refusal, printed};
 use mesh_values::Str;
 use std::alloc::Global;
 use std::thread::Threads;

@@ -12,8 +12,9 @@ ghost use Rattle.mesh_printed.specs.declared.refusals.Refusal.{Refusal};
 ghost use Rattle.mesh_line.specs.declared.line.Command.{Command as Asked};
 ghost use Rattle.mesh_line.specs.declared.line.Command.TheVariants as asked;
 ghost use Rattle.mesh_cli.specs.Asked.{Gives, Makes};
-ghost use Rattle.mesh_cli.specs.Ends.{Ended, IsWritten};
-ghost use Rattle.mesh_cli.specs.Sides.{Sides, Sinks};
+ghost use Rattle.mesh_cli.specs.Ends.{Ended};
+ghost use Rattle.mesh_printed.specs.Printing.{IsWritten, Sinks};
+ghost use Rattle.mesh_cli.specs.Sides.{Sides};
 
 /// A command that ends with status 0 made exactly the changes that it has for the world that the house told, one call each, and
 /// wrote the text that it gives there; nothing was written on the other sink.

@@ -9,7 +9,6 @@ mod command;
 mod laws;
 mod moment;
 mod place;
-mod printing;
 mod script;
 mod top;
 

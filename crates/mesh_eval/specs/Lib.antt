@@ -6,3 +6,5 @@ pub mod Frames
 pub mod Ties
 -- Trimmed: rows of a FROM without some that give no row of the query.
 pub mod Trimmed
+-- Held: a cell that lies elsewhere, or one that was made.
+pub mod Held

@@ -1,65 +1,81 @@
 // The values of aggregates over a list of cells.
-ghost use Rattle.std.specs.Prelude.{◌≡◌, [], ◌∷◌, map, length, IfOk};
+ghost use Rattle.std.specs.Prelude.{◌≡◌, ◌≤◌, [], ◌∷◌, map, length, pos, IfOk};
 ghost use Rattle.std.specs.List.{fold, list_any};
 ghost use Rattle.mesh_meaning.specs.Aggregates.{distinct, same_cell, known, is_number, addend, total, smaller, larger, agg_value};
 
 use crate::cells::is_null;
+use crate::held::Held;
 use mesh_base::AggKind;
 use mesh_index::distinct_rows;
 use mesh_list::{Duplicate, Memory, push_made};
 use mesh_values::{Cell, Row, Rows, cell_cmp};
 use std::alloc::Global;
 
-pub(crate) fn aggregate(kind: AggKind, cells: &Row) -> Result<Cell, Memory>
+pub(crate) fn aggregate(alloc: Global, kind: AggKind, cells: &[Held]) -> Result<Cell, Memory>
     ensures { IfOk result (λ v. v ≡ agg_value kind cells.now) }
 {
     match kind {
-        AggKind::Count => Ok(Cell::Int(known_cells(cells)?.len() as i64)),
-        AggKind::Countd => Ok(Cell::Int(distinct_singles(&known_cells(cells)?)?.len() as i64)),
-        AggKind::Sum => Ok(total_of(cells.as_slice())),
+        AggKind::Count => Ok(Cell::Int(counted(cells))),
+        AggKind::Countd => Ok(Cell::Int(distinct_singles(alloc, cells)?.len() as i64)),
+        AggKind::Sum => Ok(total_of(cells)),
         AggKind::Min => smallest(cells),
         AggKind::Max => largest(cells),
     }
 }
 
-fn known_cells(cells: &Row) -> Result<Row, Memory>
-    ensures { IfOk result (λ made. made ≡ known cells.now) }
+fn count_known(cells: &[Held]) -> usize
+    ensures known { result ≡ length (known cells.now) }
+    ensures most { result ≤ length cells.now }
 {
-    let mut made = Row::new(cells.alloc());
-    for c in cells.as_slice() {
-        if !is_null(c) {
-            push_made(&mut made, c.copy())?;
+    let mut count = 0usize;
+    for cell in cells {
+        if !is_null(cell.get()) {
+            count += 1;
+        }
+    }
+    count
+}
+
+fn counted(cells: &[Held]) -> i64
+    ensures { result ≡ pos (length (known cells.now)) }
+{
+    let all = cells.len();
+    let count = count_known(cells);
+    if count <= all {
+        count as i64
+    } else {
+        all as i64
+    }
+}
+
+/// A row of one cell.
+fn single_row(alloc: Global, cell: &Cell) -> Result<Row, Memory>
+    ensures { IfOk result (λ made. made ≡ cell.now ∷ []) }
+{
+    let mut made = Row::new(alloc);
+    push_made(&mut made, cell.copy())?;
+    Ok(made)
+}
+
+/// The cells that aren't NULL, in rows of one each.
+fn known_rows(alloc: Global, cells: &[Held]) -> Result<Rows, Memory>
+    ensures { IfOk result (λ made. made ≡ map (λ c. c ∷ []) (known cells.now)) }
+{
+    let mut made = Rows::new(alloc);
+    for cell in cells {
+        if !is_null(cell.get()) {
+            push_made(&mut made, single_row(alloc, cell.get()))?;
         }
     }
     Ok(made)
 }
 
-/// A row of one cell.
-fn single_row(alloc: Global, c: &Cell) -> Result<Row, Memory>
-    ensures { IfOk result (λ made. made ≡ c.now ∷ []) }
-{
-    let mut made = Row::new(alloc);
-    push_made(&mut made, c.copy())?;
-    Ok(made)
-}
-
-/// Rows of one cell each.
-fn single_rows(cells: &Row) -> Result<Rows, Memory>
-    ensures { IfOk result (λ made. made ≡ map (λ c. c ∷ []) cells.now) }
-{
-    let mut made = Rows::new(cells.alloc());
-    for c in cells.as_slice() {
-        push_made(&mut made, single_row(cells.alloc(), c))?;
-    }
-    Ok(made)
-}
-
-/// The different cells, in rows of one each.
+/// The different cells that aren't NULL, in rows of one each.
 #[tactic(auto, using(crate::proofs::Singles::length_distinct_singles))]
-fn distinct_singles(cells: &Row) -> Result<Rows, Memory>
-    ensures { IfOk result (λ made. length made ≡ length (distinct same_cell cells.now)) }
+fn distinct_singles(alloc: Global, cells: &[Held]) -> Result<Rows, Memory>
+    ensures { IfOk result (λ made. length made ≡ length (distinct same_cell (known cells.now))) }
 {
-    distinct_rows(single_rows(cells)?)
+    distinct_rows(known_rows(alloc, cells)?)
 }
 
 fn is_number(c: &Cell) -> bool
@@ -77,13 +93,13 @@ fn addend(c: &Cell) -> i64
     }
 }
 
-fn has_number(cells: &[Cell]) -> bool
+fn has_number(cells: &[Held]) -> bool
     ensures { result ≡ list_any is_number cells.now }
 {
-    cells.iter().any(|c| is_number(c))
+    cells.iter().any(|c| is_number(c.get()))
 }
 
-fn total_of(cells: &[Cell]) -> Cell
+fn total_of(cells: &[Held]) -> Cell
     ensures { result ≡ total cells.now }
 {
     if !has_number(cells) {
@@ -91,7 +107,7 @@ fn total_of(cells: &[Cell]) -> Cell
     }
     let mut sum: i128 = 0;
     for c in cells {
-        sum += addend(c) as i128;
+        sum += addend(c.get()) as i128;
     }
     match i64::try_from(sum) {
         Ok(n) => Cell::Int(n),
@@ -99,27 +115,29 @@ fn total_of(cells: &[Cell]) -> Cell
     }
 }
 
-fn smallest(cells: &Row) -> Result<Cell, Memory>
+fn smallest(cells: &[Held]) -> Result<Cell, Memory>
     ensures { IfOk result (λ v. v ≡ fold smaller Cell.Null cells.now) }
 {
     let mut best = Cell::Null;
-    for c in cells.as_slice() {
-        if is_null(&best) || !is_null(c) && cell_cmp(c, &best).is_lt() {
+    for c in cells {
+        let cell = c.get();
+        if is_null(&best) || !is_null(cell) && cell_cmp(cell, &best).is_lt() {
             drop(best);
-            best = c.copy()?;
+            best = cell.copy()?;
         }
     }
     Ok(best)
 }
 
-fn largest(cells: &Row) -> Result<Cell, Memory>
+fn largest(cells: &[Held]) -> Result<Cell, Memory>
     ensures { IfOk result (λ v. v ≡ fold larger Cell.Null cells.now) }
 {
     let mut best = Cell::Null;
-    for c in cells.as_slice() {
-        if cell_cmp(&best, c).is_lt() {
+    for c in cells {
+        let cell = c.get();
+        if cell_cmp(&best, cell).is_lt() {
             drop(best);
-            best = c.copy()?;
+            best = cell.copy()?;
         }
     }
     Ok(best)

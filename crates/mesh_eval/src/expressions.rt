@@ -13,20 +13,21 @@ ghost use Rattle.mesh_eval.specs.Joined.{shown};
 use crate::aggregates::aggregate;
 use crate::cells::{call, equal, is_null, is_true, lies_between, negate, not, operate, or};
 use crate::frames::{Frame, Members, cell_at, column};
+use crate::held::{Held, Helds, kept, made_of};
 use crate::macros::bound;
 use mesh_base::{AggKind, Expr, Func, Item, Op, When};
 use mesh_casts::cast;
-use mesh_list::{Duplicate, Memory, push_made, together};
+use mesh_list::{Memory, push_made, together};
 use mesh_values::{Bounds, Cell, ColType, Columns, Row};
 use std::alloc::Global;
 
 #[tactic(auto, using(mesh_meaning::proofs::Nodes::Ev_out))]
 #[cycle(ev)]
-pub(crate) fn ev(alloc: Global, e: &Expr, f: &Frame) -> Result<Cell, Memory>
+pub(crate) fn ev<'v>(alloc: Global, e: &'v Expr, f: &Frame<'v, 'v>) -> Result<Held<'v>, Memory>
     ensures { IfOk result (λ v. v ≡ Ev e.now (scope_of f.now)) }
 {
     match key_of(e, f) {
-        Some(k) => cell_at(f.key_values, k),
+        Some(k) => Ok(cell_at(f.key_values, k)),
         None => ev_node(alloc, e, f),
     }
 }
@@ -38,13 +39,13 @@ fn key_of(e: &Expr, f: &Frame) -> Option<usize>
 }
 
 #[cycle(ev)]
-fn ev_node(alloc: Global, e: &Expr, f: &Frame) -> Result<Cell, Memory>
+fn ev_node<'v>(alloc: Global, e: &'v Expr, f: &Frame<'v, 'v>) -> Result<Held<'v>, Memory>
     ensures { IfOk result (λ v. v ≡ Ev_node e.now (scope_of f.now)) }
 {
     match e {
-        Expr::Literal(c) => c.copy(),
-        Expr::Col { item, name } => column(f, *item, name),
-        Expr::Macro(var) => bound(alloc, *var, f.bounds),
+        Expr::Literal(cell) => Ok(Held::lent(cell)),
+        Expr::Col { item, name } => Ok(column(f, *item, name)),
+        Expr::Macro(var) => made_of(bound(alloc, *var, f.bounds)),
         Expr::Binary { op, left, right } => operated(
             *op,
             ev(alloc, left.get(), f),
@@ -74,68 +75,76 @@ fn ev_node(alloc: Global, e: &Expr, f: &Frame) -> Result<Cell, Memory>
                 None => ev(alloc, otherwise.get(), f),
             }
         }
-        Expr::CountAll => Ok(count_group(f)),
+        Expr::CountAll => Ok(Held::made(count_group(f))),
         Expr::Agg { kind, value } => ev_agg(alloc, *kind, value.get(), f),
     }
 }
 
 // The value of a node where each operand has its own, outside the recursion.
 
-fn operated(op: Op, left: Result<Cell, Memory>, right: Result<Cell, Memory>) -> Result<Cell, Memory>
-    ensures { (x y : Cell) → IfOk left (λ v. v ≡ x) → IfOk right (λ v. v ≡ y) → IfOk result (λ v. v ≡ op_value op x y) }
+fn operated<'v>(
+    op: Op,
+    left: Result<Held, Memory>,
+    right: Result<Held, Memory>,
+) -> Result<Held<'v>, Memory>
+    ensures { (x y : Cell) → IfOk left.entry (λ v. v ≡ x) → IfOk right.entry (λ v. v ≡ y) → IfOk result (λ v. v ≡ op_value op x y) }
 {
     let (x, y) = together(left, right)?;
-    operate(op, &x, &y)
+    made_of(operate(op, x.get(), y.get()))
 }
 
-fn negated(value: Result<Cell, Memory>) -> Result<Cell, Memory>
-    ensures { (x : Cell) → IfOk value (λ v. v ≡ x) → IfOk result (λ v. v ≡ negative x) }
+fn negated<'v>(value: Result<Held, Memory>) -> Result<Held<'v>, Memory>
+    ensures { (x : Cell) → IfOk value.entry (λ v. v ≡ x) → IfOk result (λ v. v ≡ negative x) }
 {
-    Ok(negate(&value?))
+    Ok(Held::made(negate(value?.get())))
 }
 
-fn opposed(value: Result<Cell, Memory>) -> Result<Cell, Memory>
-    ensures { (x : Cell) → IfOk value (λ v. v ≡ x) → IfOk result (λ v. v ≡ opposite x) }
+fn opposed<'v>(value: Result<Held, Memory>) -> Result<Held<'v>, Memory>
+    ensures { (x : Cell) → IfOk value.entry (λ v. v ≡ x) → IfOk result (λ v. v ≡ opposite x) }
 {
-    Ok(not(&value?))
+    Ok(Held::made(not(value?.get())))
 }
 
-fn null_test(value: Result<Cell, Memory>) -> Result<Cell, Memory>
-    ensures { (x : Cell) → IfOk value (λ v. v ≡ x) → IfOk result (λ v. v ≡ Cell.Bool (is_null x)) }
+fn null_test<'v>(value: Result<Held, Memory>) -> Result<Held<'v>, Memory>
+    ensures { (x : Cell) → IfOk value.entry (λ v. v ≡ x) → IfOk result (λ v. v ≡ Cell.Bool (is_null x)) }
 {
-    Ok(Cell::Bool(is_null(&value?)))
+    Ok(Held::made(Cell::Bool(is_null(value?.get()))))
 }
 
-fn placed(
-    value: Result<Cell, Memory>,
-    low: Result<Cell, Memory>,
-    high: Result<Cell, Memory>,
-) -> Result<Cell, Memory>
-    ensures { (x a b : Cell) → IfOk value (λ v. v ≡ x) → IfOk low (λ v. v ≡ a) → IfOk high (λ v. v ≡ b) → IfOk result (λ v. v ≡ between x a b) }
+fn placed<'v>(
+    value: Result<Held, Memory>,
+    low: Result<Held, Memory>,
+    high: Result<Held, Memory>,
+) -> Result<Held<'v>, Memory>
+    ensures { (x a b : Cell) → IfOk value.entry (λ v. v ≡ x) → IfOk low.entry (λ v. v ≡ a) → IfOk high.entry (λ v. v ≡ b) → IfOk result (λ v. v ≡ between x a b) }
 {
     let (x, (a, b)) = together(value, together(low, high))?;
-    Ok(lies_between(&x, &a, &b))
+    Ok(Held::made(lies_between(x.get(), a.get(), b.get())))
 }
 
-fn converted(alloc: Global, to: ColType, value: Result<Cell, Memory>) -> Result<Cell, Memory>
-    ensures { (x : Cell) → IfOk value (λ v. v ≡ x) → IfOk result (λ v. v ≡ cast_value to x) }
+fn converted<'v>(
+    alloc: Global,
+    to: ColType,
+    value: Result<Held, Memory>,
+) -> Result<Held<'v>, Memory>
+    ensures { (x : Cell) → IfOk value.entry (λ v. v ≡ x) → IfOk result (λ v. v ≡ cast_value to x) }
 {
-    cast(alloc, to, value?)
+    made_of(cast(alloc, to, kept(value)?))
 }
 
-fn called(func: Func, args: Result<Row, Memory>) -> Result<Cell, Memory>
+fn called<'v>(func: Func, args: Result<Row, Memory>) -> Result<Held<'v>, Memory>
     ensures { (xs : List Cell) → IfOk args (λ v. v ≡ xs) → IfOk result (λ v. v ≡ func_value func xs) }
 {
-    call(func, args?)
+    made_of(call(func, args?))
 }
 
 // Whether one was found before, or x equals one more value.
-fn or_equal(found: Cell, x: &Cell, value: Result<Cell, Memory>) -> Result<Cell, Memory>
-    ensures { (y : Cell) → IfOk value (λ v. v ≡ y) → IfOk result (λ v. v ≡ either found (compared is_eq x.now y)) }
+fn or_equal(found: Cell, x: &Held, value: Result<Held, Memory>) -> Result<Cell, Memory>
+    ensures { (y : Cell) → IfOk value.entry (λ v. v ≡ y) → IfOk result (λ v. v ≡ either found (compared is_eq x.now y)) }
 {
     match value {
         Ok(y) => {
-            let same = equal(x, &y);
+            let same = equal(x.get(), y.get());
             drop(y);
             let made = or(&found, &same);
             drop((found, same));
@@ -149,24 +158,29 @@ fn or_equal(found: Cell, x: &Cell, value: Result<Cell, Memory>) -> Result<Cell, 
 }
 
 /// Whether the value of a condition is true.
-pub(crate) fn is_met(value: Result<Cell, Memory>) -> Result<bool, Memory>
-    ensures { (x : Cell) → IfOk value (λ v. v ≡ x) → IfOk result (λ b. b ≡ is_true x) }
+pub(crate) fn is_met(value: Result<Held, Memory>) -> Result<bool, Memory>
+    ensures { (x : Cell) → IfOk value.entry (λ v. v ≡ x) → IfOk result (λ b. b ≡ is_true x) }
 {
     let value = value?;
-    let met = is_true(&value);
+    let met = is_true(value.get());
     drop(value);
     Ok(met)
 }
 
 #[cycle(ev)]
-fn ev_agg(alloc: Global, kind: AggKind, value: &Expr, f: &Frame) -> Result<Cell, Memory>
+fn ev_agg<'v>(
+    alloc: Global,
+    kind: AggKind,
+    value: &'v Expr,
+    f: &Frame<'v, 'v>,
+) -> Result<Held<'v>, Memory>
     ensures { IfOk result (λ v. v ≡ over_group (λ rows. agg_value kind (map (λ row. Ev value.now (at_row f.now.bounds row)) rows)) (scope_of f.now).group) }
 {
     match &f.group {
-        None => Ok(Cell::Null),
+        None => Ok(Held::made(Cell::Null)),
         Some(group) => {
             let cells = ev_rows(alloc, value, f.columns, group, f.bounds)?;
-            aggregate(kind, &cells)
+            made_of(aggregate(alloc, kind, cells.as_slice()))
         }
     }
 }
@@ -181,29 +195,38 @@ fn count_group(f: &Frame) -> Cell
 }
 
 #[cycle(ev)]
-pub(crate) fn ev_each(alloc: Global, all: &[Expr], f: &Frame) -> Result<Row, Memory>
+pub(crate) fn ev_each<'v>(alloc: Global, all: &'v [Expr], f: &Frame<'v, 'v>) -> Result<Row, Memory>
     ensures { IfOk result (λ v. v ≡ Ev_each all.now (scope_of f.now)) }
 {
     let mut made = Row::new(alloc);
     for e in all {
-        push_made(&mut made, ev(alloc, e, f))?;
+        push_made(&mut made, kept(ev(alloc, e, f)))?;
     }
     Ok(made)
 }
 
 #[cycle(ev)]
-fn ev_one_of(alloc: Global, x: &Cell, all: &[Expr], f: &Frame) -> Result<Cell, Memory>
+fn ev_one_of<'v>(
+    alloc: Global,
+    x: &Held,
+    all: &'v [Expr],
+    f: &Frame<'v, 'v>,
+) -> Result<Held<'v>, Memory>
     ensures { IfOk result (λ v. v ≡ one_of x.now (Ev_each all.now (scope_of f.now))) }
 {
     let mut found = Cell::Bool(false);
     for e in all {
         found = or_equal(found, x, ev(alloc, e, f))?;
     }
-    Ok(found)
+    Ok(Held::made(found))
 }
 
 #[cycle(ev)]
-fn ev_whens(alloc: Global, whens: &[When], f: &Frame) -> Result<Option<Cell>, Memory>
+fn ev_whens<'v>(
+    alloc: Global,
+    whens: &'v [When],
+    f: &Frame<'v, 'v>,
+) -> Result<Option<Held<'v>>, Memory>
     ensures { IfOk result (λ v. v ≡ fold chosen None (Ev_whens whens.now (scope_of f.now))) }
 {
     let mut found = None;
@@ -218,7 +241,7 @@ fn ev_whens(alloc: Global, whens: &[When], f: &Frame) -> Result<Option<Cell>, Me
 
 #[tactic(auto, using(mesh_meaning::proofs::Nodes::Ev_when_is))]
 #[cycle(ev)]
-fn ev_when(alloc: Global, w: &When, f: &Frame) -> Result<Option<Cell>, Memory>
+fn ev_when<'v>(alloc: Global, w: &'v When, f: &Frame<'v, 'v>) -> Result<Option<Held<'v>>, Memory>
     ensures { IfOk result (λ v. v ≡ chosen None (Ev_when w.now (scope_of f.now))) }
 {
     if is_met(ev(alloc, &w.test, f))? {
@@ -237,16 +260,16 @@ fn count_rows(group: &Members) -> Cell
 
 /// The values at each row of a group.
 #[cycle(ev)]
-fn ev_rows(
+fn ev_rows<'v>(
     alloc: Global,
-    value: &Expr,
-    columns: &[Columns],
-    group: &Members,
+    value: &'v Expr,
+    columns: &'v [Columns],
+    group: &Members<'v, 'v>,
     bounds: Bounds,
-) -> Result<Row, Memory>
+) -> Result<Helds<'v>, Memory>
     ensures { IfOk result (λ v. v ≡ map (λ row. Ev value.now (at_row bounds row)) (map (seen columns.now) (members group.now))) }
 {
-    let mut made = Row::new(alloc);
+    let mut made = Helds::new(alloc);
     for at in group.places {
         let row = group.rows.get(*at);
         push_made(&mut made, ev_row(alloc, value, columns, row, bounds))?;
@@ -256,13 +279,13 @@ fn ev_rows(
 
 /// The value at a row by itself.
 #[cycle(ev)]
-pub(crate) fn ev_row<'a, 'x>(
+pub(crate) fn ev_row<'v>(
     alloc: Global,
-    value: &Expr,
-    columns: &'a [Columns],
-    row: &'a [&'x [Cell]],
+    value: &'v Expr,
+    columns: &'v [Columns],
+    row: &'v [&'v [Cell]],
     bounds: Bounds,
-) -> Result<Cell, Memory>
+) -> Result<Held<'v>, Memory>
     ensures { IfOk result (λ v. v ≡ Ev value.now (at_row bounds (seen columns.now (shown row.now)))) }
 {
     let f = Frame {
@@ -276,12 +299,16 @@ pub(crate) fn ev_row<'a, 'x>(
     ev(alloc, value, &f)
 }
 
-pub(crate) fn item_row(alloc: Global, items: &[Item], f: &Frame) -> Result<Row, Memory>
+pub(crate) fn item_row<'v>(
+    alloc: Global,
+    items: &'v [Item],
+    f: &Frame<'v, 'v>,
+) -> Result<Row, Memory>
     ensures { IfOk result (λ made. made ≡ item_row items.now (scope_of f.now)) }
 {
     let mut made = Row::new(alloc);
     for item in items {
-        push_made(&mut made, ev(alloc, &item.expr, f))?;
+        push_made(&mut made, kept(ev(alloc, &item.expr, f)))?;
     }
     Ok(made)
 }

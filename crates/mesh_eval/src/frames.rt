@@ -1,14 +1,14 @@
 // What an expression sees.
-ghost use Rattle.std.specs.Prelude.{◌≡◌, IfOk, slice_get, slice_index_or, []};
+ghost use Rattle.std.specs.Prelude.{◌≡◌, slice_get, slice_index_or, []};
 ghost use Rattle.std.specs.Option.{option_copied};
 ghost use Rattle.mesh_values.specs.Picked.{same_text, cell_of};
 ghost use Rattle.mesh_meaning.specs.Ev.{seen};
 ghost use Rattle.mesh_eval.specs.Frames.{cell_or_null};
 ghost use Rattle.mesh_eval.specs.Joined.{shown};
 
+use crate::held::Held;
 use crate::joined::JoinedRows;
 use mesh_base::Expr;
-use mesh_list::{Duplicate, Memory};
 use mesh_values::{Bounds, Cell, Column, Columns, Str};
 
 /// The rows of a group, by their places among all.
@@ -30,12 +30,12 @@ pub(crate) struct Frame<'a, 'x> {
 }
 
 /// The cell at a place, where there is one.
-pub(crate) fn cell_at(cells: &[Cell], k: usize) -> Result<Cell, Memory>
-    ensures { IfOk result (λ v. v ≡ slice_index_or cells.now k Cell.Null) }
+pub(crate) fn cell_at(cells: &[Cell], k: usize) -> Held<'_>
+    ensures { result ≡ slice_index_or cells.now k Cell.Null }
 {
     match cells.get(k) {
-        Some(c) => c.copy(),
-        None => Ok(Cell::Null),
+        Some(cell) => Held::lent(cell),
+        None => Held::made(Cell::Null),
     }
 }
 
@@ -81,18 +81,18 @@ fn cells_at<'a, 'x>(row: &'a [&'x [Cell]], item: u32) -> &'x [Cell]
     }
 }
 
-fn field(columns: &[Column], row: &[Cell], name: &Str) -> Result<Cell, Memory>
-    ensures { IfOk result (λ v. v ≡ cell_of columns.now row.now name.now) }
+fn field<'a>(columns: &[Column], row: &'a [Cell], name: &Str) -> Held<'a>
+    ensures { result ≡ cell_of columns.now row.now name.now }
 {
     match cell_of(columns, row, name) {
-        Some(cell) => cell.copy(),
-        None => Ok(Cell::Null),
+        Some(cell) => Held::lent(cell),
+        None => Held::made(Cell::Null),
     }
 }
 
-/// The cell of a FROM item's column.
-pub(crate) fn column(f: &Frame, item: u32, name: &Str) -> Result<Cell, Memory>
-    ensures { IfOk result (λ v. v ≡ seen f.now.columns.now (shown f.now.row.now) item name.now) }
+/// The cell of a FROM item's column, where it lies.
+pub(crate) fn column<'a, 'x>(f: &Frame<'a, 'x>, item: u32, name: &Str) -> Held<'x>
+    ensures { result ≡ seen f.now.columns.now (shown f.now.row.now) item name.now }
 {
     field(columns_at(f.columns, item), cells_at(f.row, item), name)
 }

@@ -8,6 +8,7 @@ mod cells;
 mod expressions;
 mod frames;
 mod groups;
+mod held;
 mod joined;
 mod joins;
 mod macros;

@@ -6,3 +6,5 @@ pub mod Writers
 pub mod Reports
 -- Refusals: the line that a command prints when it isn't.
 pub mod Refusals
+-- Printing: on which sink it is printed, and the exit status.
+pub mod Printing

@@ -1,11 +1,14 @@
-//! What commands print: rows, reports and refusals. Its contract: each call gives exactly the text that its definition has.
-//! It stands on `csv` for records, on `mesh_fault_text` for faults of a project and on `mesh_plan_text` for moments.
+//! What commands print: rows, reports and refusals, on which sink, and with which exit status. Its contract: each call gives
+//! exactly the text that its definition has, and `printed` writes it or a beginning of it. It stands on `csv` for records, on
+//! `mesh_fault_text` for faults of a project, on `mesh_plan_text` for moments and on `mesh_io` for sinks.
 #![tactic(auto)]
 
+mod printing;
 mod records;
 mod refusals;
 mod reports;
 
+pub use printing::printed;
 pub use records::rows_text;
 pub use refusals::{Refusal, refusal_line, status};
 pub use reports::{

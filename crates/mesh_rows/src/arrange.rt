@@ -1,11 +1,12 @@
 // The steps that change what the next commands run on.
+use crate::report::put_name;
 use crate::stage::{Call, Stage};
 use crate::trouble::Trouble;
 use mesh_base::Ref;
 use mesh_days::moment_of;
-use mesh_house::{MemHouse, World};
-use mesh_list::{Duplicate, Register, Seq};
-use mesh_values::{Str, Unit};
+use mesh_house::{Change, MemHouse, Warehouse, World};
+use mesh_list::{Duplicate, Register, Seq, both};
+use mesh_values::{Name, Str, Unit, same_text};
 use std::alloc::Global;
 
 fn number_of(word: &Str) -> Result<u64, Trouble> {
@@ -92,6 +93,34 @@ fn change_snapshot(alloc: Global, world: &mut World, parents: bool) -> Result<()
     Ok(())
 }
 
+/// The first snapshot has been over since the first moment.
+fn expire(world: &mut World) -> Result<(), Trouble> {
+    let snapshots = world.book.snapshots.copy()?;
+    let mut all = snapshots.into_vec();
+    let Some(first) = all.first_mut() else {
+        return Err(Trouble::Script);
+    };
+    first.expires = 0;
+    world.book.snapshots = Register::from_vec(all);
+    Ok(())
+}
+
+/// The snapshots are copies of the first one alone, each with one of these tables and a fingerprint whose bytes are all its
+/// number, from 1 on; and there is no environment.
+fn stand_in(alloc: Global, world: &mut World, tables: &[Str]) -> Result<(), Trouble> {
+    let mut made = Vec::new(alloc);
+    let snapshots = world.book.snapshots.as_slice();
+    for (table, number) in tables.iter().zip(1..255u8) {
+        let mut copy = snapshots.first().ok_or(Trouble::Script)?.copy()?;
+        copy.fingerprint = [number; 32];
+        copy.object.model = table.copy()?;
+        made.push(copy)?;
+    }
+    world.book.snapshots = Register::from_vec(made);
+    world.book.environments = Register::from_vec(Vec::new(alloc));
+    Ok(())
+}
+
 /// The first version stands twice.
 fn repeat_version(world: &mut World) -> Result<(), Trouble> {
     let versions = world.book.versions.copy()?;
@@ -122,7 +151,7 @@ fn orphan(alloc: Global, world: &mut World) -> Result<(), Trouble> {
 }
 
 /// Another book than commands would have made.
-fn change_book(stage: &mut Stage, what: &Str) -> Result<(), Trouble> {
+fn change_book(stage: &mut Stage, what: &Str, tables: &[Str]) -> Result<(), Trouble> {
     let mut world = stage.house.world().copy()?;
     match what.as_slice() {
         b"old" => world.book.version = 1,
@@ -132,9 +161,35 @@ fn change_book(stage: &mut Stage, what: &Str) -> Result<(), Trouble> {
         b"definition" => change_snapshot(stage.alloc, &mut world, false)?,
         b"twice" => repeat_version(&mut world)?,
         b"orphan" => orphan(stage.alloc, &mut world)?,
+        b"over" => expire(&mut world)?,
+        b"standins" => stand_in(stage.alloc, &mut world, tables)?,
         _ => return Err(Trouble::Script),
     }
     stage.restore(&world)
+}
+
+/// The view that a word names, and what it points at.
+fn view_of(stage: &Stage, word: &Str) -> Result<(Name, Name), Trouble> {
+    for view in stage.house.world().views.as_slice() {
+        let mut text = Vec::new(stage.alloc);
+        put_name(&mut text, &view.view)?;
+        if same_text(text.as_slice(), word.as_slice()) {
+            return Ok(both(&view.view, &view.target)?);
+        }
+    }
+    Err(Trouble::Script)
+}
+
+/// A view goes, or the object that it points at.
+fn take_out(stage: &mut Stage, word: &Str, object: bool) -> Result<(), Trouble> {
+    let (view, target) = view_of(stage, word)?;
+    let change = if object {
+        Change::DropObject { object: target }
+    } else {
+        Change::DropView { view }
+    };
+    let done = stage.house.change(stage.alloc, &change);
+    done.map_err(|_| Trouble::Outside)
 }
 
 /// Gives the project a file with some bytes of a file of the example.
@@ -173,7 +228,9 @@ pub fn arrange(stage: &mut Stage, kind: &Str, words: &[Str]) -> Result<(), Troub
             stage.input = padded(stage.alloc, &bytes, number_of(length)?)?;
         }
         (b"empty", []) => stage.house = MemHouse::new(stage.alloc),
-        (b"book", [what]) => change_book(stage, what)?,
+        (b"book", [what, tables @ ..]) => change_book(stage, what, tables)?,
+        (b"lose", [view]) => take_out(stage, view, true)?,
+        (b"hide", [view]) => take_out(stage, view, false)?,
         (b"fail", [call, number]) => stage.failing = failing(call, number_of(number)?)?,
         (b"fail", []) => stage.failing = None,
         (_, [_, path, ..]) => {

@@ -15,7 +15,10 @@
 //! - `book old` makes the book one of version 1 and `book present` one of version 2; `book definition` gives its first
 //!   snapshot another definition, the second time the former one; `book unknown`, `book parent`, `book twice` and
 //!   `book orphan` break it: its version, a parent of its first snapshot, its first version, which stands twice, or the list
-//!   of its first environment, of which one entry is left;
+//!   of its first environment, of which one entry is left; `book over` makes its first snapshot one that has expired, and
+//!   `book standins TABLE..` leaves it no environment, and no snapshot but copies of the first one with other fingerprints, one
+//!   for each of these tables of its schema;
+//! - `lose VIEW` drops the object that a view points at, and `hide VIEW` the view;
 //! - `fail CALL N` has one call of each of the next commands fail, counted from 0 in each; CALL is `before` or `after` for a
 //!   change that fails before or after its effect, `house` for another call of the warehouse, or `folder`, `clock`, `input`,
 //!   `out` or `err`; `fail` alone has none fail;

@@ -38,7 +38,8 @@ pub fn put_outcome(alloc: Global, report: &mut Vec<u8>, outcome: &Outcome) -> Re
     put_stream(report, b"err:\n", &outcome.err)
 }
 
-fn put_name(report: &mut Vec<u8>, name: &Name) -> Result<(), Trouble> {
+/// Adds a name of two parts.
+pub fn put_name(report: &mut Vec<u8>, name: &Name) -> Result<(), Trouble> {
     put(report, name.schema.as_slice())?;
     put(report, b".")?;
     put(report, name.model.as_slice())

@@ -1,5 +1,6 @@
 use Rattle.std.proofs.Common.{drop}
-use Rattle.mesh_cli.specs.Sides.{sides, sinks}
+use Rattle.mesh_cli.specs.Sides.{sides}
+use Rattle.mesh_printed.specs.Printing.{sinks}
 use Rattle.mesh_cli.proofs.Scripting.{GoesOn}
 use Rattle.mesh_cli.proofs.batches.steps.Given as goal
 

@@ -2,8 +2,7 @@ use Rattle.std.proofs.Common.{Err, refl, ap, subst}
 use Rattle.mesh_line.specs.Lines.{IsLine}
 use Rattle.mesh_line.specs.declared.line.UsageFault.{UsageFault}
 use Rattle.mesh_printed.specs.declared.refusals.Refusal.{Refusal}
-use Rattle.mesh_cli.specs.Ends.{Printed}
-use Rattle.mesh_cli.specs.Sides.{sinks}
+use Rattle.mesh_printed.specs.Printing.{Printed, sinks}
 use Rattle.mesh_cli.specs.Scripts.{asked, of_usage}
 use Rattle.mesh_cli.proofs.Asking.{asked_refused, of_usage_is, usage_is}
 use Rattle.mesh_cli.proofs.Fitting.{fits}

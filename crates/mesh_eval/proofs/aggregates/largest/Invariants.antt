@@ -5,4 +5,4 @@ use Rattle.mesh_meaning.specs.Aggregates.{larger}
 use Rattle.mesh_eval.proofs.aggregates.largest.Given as goal
 
 abbrev pub invariant-loop-c : goal.invariant-loop-c
-invariant-loop-c l = l.best ≡ fold larger Null (take l.c-index l.c-items)
+invariant-loop-c l = l.best ≡ fold larger Null (take l.c-index l.cells)

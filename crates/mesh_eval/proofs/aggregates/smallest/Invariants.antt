@@ -5,4 +5,4 @@ use Rattle.mesh_meaning.specs.Aggregates.{smaller}
 use Rattle.mesh_eval.proofs.aggregates.smallest.Given as goal
 
 abbrev pub invariant-loop-c : goal.invariant-loop-c
-invariant-loop-c l = l.best ≡ fold smaller Null (take l.c-index l.c-items)
+invariant-loop-c l = l.best ≡ fold smaller Null (take l.c-index l.cells)

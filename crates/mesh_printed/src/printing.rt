@@ -1,11 +1,10 @@
 // What a command answers is printed.
 ghost use Rattle.mesh_printed.specs.Refusals.{refusal_line, status};
-ghost use Rattle.mesh_cli.specs.Ends.{IsPut, Printed};
-ghost use Rattle.mesh_cli.specs.Sides.{sinks};
+ghost use Rattle.mesh_printed.specs.Printing.{IsPut, Printed, sinks};
 
+use crate::refusals::{Refusal, refusal_line, status};
 use mesh_io::{IoFail, Sink};
 use mesh_list::Memory;
-use mesh_printed::{Refusal, refusal_line, status};
 use mesh_values::Str;
 use std::alloc::Global;
 
@@ -30,7 +29,7 @@ fn refused<E: Sink>(alloc: Global, refusal: &Refusal, err: &mut E) -> u8
 }
 
 /// The text of a command goes to `out`, and the line of a refusal to `err`. The answer is the exit status.
-pub(crate) fn printed<O: Sink, E: Sink>(
+pub fn printed<O: Sink, E: Sink>(
     alloc: Global,
     answer: Result<Str, Refusal>,
     out: &mut O,

@@ -1,0 +1,1 @@
+MODEL (name a.c, kind FULL); SELECT 1 AS x

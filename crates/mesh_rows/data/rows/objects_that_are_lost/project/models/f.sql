@@ -1,0 +1,1 @@
+MODEL (name a.f, kind FULL); SELECT v FROM a.s

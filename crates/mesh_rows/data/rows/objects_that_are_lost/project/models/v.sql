@@ -1,0 +1,1 @@
+MODEL (name a.v); SELECT v FROM a.s

@@ -1,0 +1,1 @@
+MODEL (name a.w); SELECT v FROM a.v

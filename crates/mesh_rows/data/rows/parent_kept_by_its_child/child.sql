@@ -1,0 +1,1 @@
+MODEL (name a.a, kind FULL); SELECT v FROM a.b

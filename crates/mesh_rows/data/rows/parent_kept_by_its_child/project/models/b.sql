@@ -1,0 +1,1 @@
+MODEL (name a.b, kind FULL); SELECT v FROM a.a
