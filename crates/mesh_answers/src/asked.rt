@@ -44,8 +44,10 @@ pub fn put_model(models: &mut Inputs, name: &Name, columns: &Columns) -> Result<
 /// The query that a text means, or the first fault of the text.
 pub fn query_of(alloc: Global, known: &Known, text: &[u8]) -> Result<Query, ReadFault> {
     let tokens = tokens_of(alloc, text)?;
-    let surface = parse(&tokens, 0)?;
-    resolve(alloc, &surface, known)
+    match parse(&tokens, 0) {
+        Ok(surface) => resolve(alloc, &surface, known),
+        Err(fault) => Err(fault),
+    }
 }
 
 /// The seed of a model without rows.
@@ -58,11 +60,27 @@ fn seed_of(m: &ModelText) -> Result<Seed, Memory> {
 /// The definition that a model's file means, or its first fault. No file is read as a seed with a query, or as a model of
 /// another kind without one.
 fn definition_of(alloc: Global, known: &Known, file: &Str, text: &[u8]) -> Result<Own, ReadFault> {
-    let m = read_model(file, text)?;
+    match read_model(file, text) {
+        Ok(m) => own_by(alloc, known, &m),
+        Err(fault) => Err(fault),
+    }
+}
+
+fn own_by(alloc: Global, known: &Known, m: &ModelText) -> Result<Own, ReadFault> {
     match (&m.kind, &m.query) {
-        (Kind::Seed, None) => own_of(alloc, &m, Some(seed_of(&m)?), known),
+        (Kind::Seed, None) => match seed_of(m) {
+            Ok(seed) => own_of(alloc, m, Some(seed), known),
+            Err(Memory) => Err(ReadFault::Memory),
+        },
         (Kind::Seed, Some(_)) | (_, None) => Err(ReadFault::Memory),
-        (_, Some(_)) => own_of(alloc, &m, None, known),
+        (_, Some(_)) => own_of(alloc, m, None, known),
+    }
+}
+
+fn text_of(alloc: Global, own: &Own) -> Result<Str, ReadFault> {
+    match own_text(alloc, own) {
+        Ok(text) => Ok(text),
+        Err(Memory) => Err(ReadFault::Memory),
     }
 }
 
@@ -73,22 +91,36 @@ fn definition_text(
     file: &Str,
     text: &[u8],
 ) -> Result<Str, ReadFault> {
-    let own = definition_of(alloc, known, file, text)?;
-    Ok(own_text(alloc, &own)?)
+    match definition_of(alloc, known, file, text) {
+        Ok(own) => text_of(alloc, &own),
+        Err(fault) => Err(fault),
+    }
 }
 
 /// The canonical text of a definition that has this query.
 fn query_text(alloc: Global, query: Query) -> Result<Str, ReadFault> {
-    let Ok(mut own) = read_own(alloc, EMPTY) else {
-        return Err(ReadFault::Memory);
-    };
-    own.defn = Defn::Sql(query);
-    Ok(own_text(alloc, &own)?)
+    match read_own(alloc, EMPTY) {
+        Ok(own) => text_of(alloc, &with_query(own, query)),
+        Err(_) => {
+            drop(query);
+            Err(ReadFault::Memory)
+        }
+    }
+}
+
+/// The definition with this query in the place of its own.
+pub fn with_query(own: Own, query: Query) -> Own {
+    let mut own = own;
+    drop(std::mem::replace(&mut own.defn, Defn::Sql(query)));
+    own
 }
 
 /// The canonical text of a definition that has the query that a text means, or the text's first fault.
 fn resolved_text(alloc: Global, known: &Known, text: &[u8]) -> Result<Str, ReadFault> {
-    query_text(alloc, query_of(alloc, known, text)?)
+    match query_of(alloc, known, text) {
+        Ok(query) => query_text(alloc, query),
+        Err(fault) => Err(fault),
+    }
 }
 
 /// Adds the line of a fault, without its line feed.
@@ -193,16 +225,22 @@ impl Asked {
     /// Makes a model known by its file.
     fn model(&mut self, alloc: Global, text: &[u8]) -> Result<(), Trouble> {
         let file = u8::copy_items(alloc, b"models/m.sql")?;
-        let m = read_model(&file, text).map_err(|_| Trouble::Case)?;
-        put_model(&mut self.known.models, &m.name, &m.columns)?;
-        Ok(())
+        match read_model(&file, text) {
+            Ok(m) => Ok(put_model(&mut self.known.models, &m.name, &m.columns)?),
+            Err(_) => Err(Trouble::Case),
+        }
     }
 
     /// Makes the sources known that the text of a file declares.
     fn sources(&mut self, alloc: Global, text: &[u8]) -> Result<(), Trouble> {
         let text = u8::copy_items(alloc, text)?;
-        self.known.sources = read_external(&text).map_err(|_| Trouble::Case)?;
-        Ok(())
+        match read_external(&text) {
+            Ok(sources) => {
+                drop(std::mem::replace(&mut self.known.sources, sources));
+                Ok(())
+            }
+            Err(_) => Err(Trouble::Case),
+        }
     }
 
     /// Adds what the text behind a line's head means.

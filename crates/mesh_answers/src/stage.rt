@@ -1,8 +1,8 @@
 // One case: a text that is read, and the rows that it stands for.
-use crate::asked::{put_model, query_of};
+use crate::asked::{put_model, query_of, with_query};
 use crate::shown::{put_places, put_rows, put_sum};
 use crate::words::{Word, expanded};
-use mesh_base::{Defn, Input, Inputs, Own, Sources};
+use mesh_base::{Defn, Input, Inputs, Own, Query, Sources};
 use mesh_canon::read_own;
 use mesh_cases::{Trouble, halves};
 use mesh_columns::columns_of;
@@ -34,7 +34,10 @@ fn definition(alloc: Global, name: &[u8], body: &[u8]) -> Result<Own, Trouble> {
     text.extend_from_slice(b" (full) 9:0 0 * * * day none [] ")?;
     text.extend_from_slice(body)?;
     text.push(b')')?;
-    read_own(alloc, text.as_slice()).map_err(|_| Trouble::Case)
+    match read_own(alloc, text.as_slice()) {
+        Ok(own) => Ok(own),
+        Err(_) => Err(Trouble::Case),
+    }
 }
 
 /// The tables, as a query's text may name them.
@@ -55,10 +58,28 @@ fn written(alloc: Global, tables: &Inputs, name: &[u8], body: &[u8]) -> Result<O
     if body.starts_with(b"(") {
         return definition(alloc, name, body);
     }
-    let mut own = definition(alloc, name, b"(query [] [])")?;
-    let query = query_of(alloc, &known(alloc, tables)?, body);
-    own.defn = Defn::Sql(query.map_err(|_| Trouble::Case)?);
-    Ok(own)
+    match query_in(alloc, tables, body) {
+        Ok(query) => queried(alloc, name, query),
+        Err(trouble) => Err(trouble),
+    }
+}
+
+fn query_in(alloc: Global, tables: &Inputs, text: &[u8]) -> Result<Query, Trouble> {
+    let known = known(alloc, tables)?;
+    match query_of(alloc, &known, text) {
+        Ok(query) => Ok(query),
+        Err(_) => Err(Trouble::Case),
+    }
+}
+
+fn queried(alloc: Global, name: &[u8], query: Query) -> Result<Own, Trouble> {
+    match definition(alloc, name, b"(query [] [])") {
+        Ok(own) => Ok(with_query(own, query)),
+        Err(trouble) => {
+            drop(query);
+            Err(trouble)
+        }
+    }
 }
 
 /// The query of an expression.
@@ -135,15 +156,29 @@ impl Stage {
 
     /// Reads the text of a table, and adds it.
     fn named(&mut self, alloc: Global, name: &[u8], text: &[u8]) -> Result<(), Trouble> {
-        let own = written(alloc, &self.tables, name, text)?;
-        let rows = rows_of(alloc, &self.tables, &own)?;
-        self.table(&own, rows)
+        match written(alloc, &self.tables, name, text) {
+            Ok(own) => self.made(alloc, &own),
+            Err(trouble) => Err(trouble),
+        }
+    }
+
+    /// Adds the table of a definition.
+    fn made(&mut self, alloc: Global, own: &Own) -> Result<(), Trouble> {
+        let rows = rows_of(alloc, &self.tables, own)?;
+        self.table(own, rows)
     }
 
     /// Reads the text of a case, and adds its line.
     fn case(&mut self, alloc: Global, head: &[u8], text: &[u8]) -> Result<(), Trouble> {
-        let own = written(alloc, &self.tables, b"0:", text)?;
-        let rows = rows_of(alloc, &self.tables, &own)?;
+        match written(alloc, &self.tables, b"0:", text) {
+            Ok(own) => self.told(alloc, head, &own),
+            Err(trouble) => Err(trouble),
+        }
+    }
+
+    /// Adds the line of a definition's rows.
+    fn told(&mut self, alloc: Global, head: &[u8], own: &Own) -> Result<(), Trouble> {
+        let rows = rows_of(alloc, &self.tables, own)?;
         self.line(alloc, head, rows)
     }
 

@@ -5,12 +5,19 @@ ghost use Rattle.mesh_base.specs.declared.jobs.Job.{Job};
 
 use crate::gates::Holding;
 use crate::jobs::{jobs, pools, query};
-use mesh_base::{Jobs, Pools};
+use mesh_base::{Jobs, Pools, Query};
 use mesh_cases::{Trouble, put_count};
 use mesh_values::{Cell, RowsList};
 use mesh_wave::{Gate, OpenGate, wave};
 use std::alloc::Global;
 use std::thread::Threads;
+
+/// What the jobs of a wave are made of.
+#[derive(Drop)]
+struct Over<'a> {
+    query: &'a Query,
+    pools: &'a Pools,
+}
 
 /// Whether there are so few jobs as a wave may have, each over a pool that is there.
 fn are_fit(pools: &Pools, jobs: &Jobs) -> bool
@@ -66,35 +73,97 @@ fn put_lists(alloc: Global, report: &mut Vec<u8>, lists: &RowsList) -> Result<()
     Ok(report.extend_from_slice(places)?)
 }
 
+/// Adds where the lists of a wave of these jobs stand.
+fn put_jobs<R: Threads + Sync, G: Gate>(
+    rt: &R,
+    alloc: Global,
+    report: &mut Vec<u8>,
+    pools: &Pools,
+    jobs: &Jobs,
+    workers: u32,
+    gate: &G,
+) -> Result<(), Trouble>
+    requires { (1 ≤ workers) × (workers ≤ 64) }
+{
+    match lists(rt, alloc, pools, jobs, workers, gate) {
+        Ok(lists) => put_lists(alloc, report, &lists),
+        Err(trouble) => Err(trouble),
+    }
+}
+
+/// The same for the jobs of the numbers below a count.
+fn put_wave<R: Threads + Sync, G: Gate>(
+    rt: &R,
+    alloc: Global,
+    report: &mut Vec<u8>,
+    over: &Over,
+    count: u32,
+    workers: u32,
+    gate: &G,
+) -> Result<(), Trouble>
+    requires { (1 ≤ workers) × (workers ≤ 64) }
+{
+    match jobs(alloc, over.query, count) {
+        Ok(jobs) => put_jobs(rt, alloc, report, over.pools, &jobs, workers, gate),
+        Err(trouble) => Err(trouble),
+    }
+}
+
+/// Two jobs of which one waits for the other.
+fn put_held<R: Threads + Sync>(
+    rt: &R,
+    alloc: Global,
+    report: &mut Vec<u8>,
+    over: &Over,
+) -> Result<(), Trouble> {
+    let gate = Holding::new();
+    put_wave(rt, alloc, report, over, 2, 2, &gate)?;
+    if gate.is_late() {
+        report.extend_from_slice(b"too late\n")?;
+    }
+    Ok(())
+}
+
+fn put_all<R: Threads + Sync>(
+    rt: &R,
+    alloc: Global,
+    report: &mut Vec<u8>,
+    over: &Over,
+) -> Result<(), Trouble> {
+    put_wave(rt, alloc, report, over, 0, 64, &OpenGate)?;
+    put_held(rt, alloc, report, over)?;
+    put_wave(rt, alloc, report, over, 256, 1, &OpenGate)?;
+    put_wave(rt, alloc, report, over, 256, 3, &OpenGate)
+}
+
+fn put_over<R: Threads + Sync>(
+    rt: &R,
+    alloc: Global,
+    report: &mut Vec<u8>,
+    query: &Query,
+) -> Result<(), Trouble> {
+    match pools(alloc, 256) {
+        Ok(pools) => put_all(
+            rt,
+            alloc,
+            report,
+            &Over {
+                query,
+                pools: &pools,
+            },
+        ),
+        Err(trouble) => Err(trouble),
+    }
+}
+
 /// Adds what comes of waves without a job, of two of which one waits for the other, and of 256.
 pub fn put_waves<R: Threads + Sync>(
     rt: &R,
     alloc: Global,
     report: &mut Vec<u8>,
 ) -> Result<(), Trouble> {
-    let query = query(alloc)?;
-    let pools = pools(alloc, 256)?;
-    let none = jobs(alloc, &query, 0)?;
-    put_lists(
-        alloc,
-        report,
-        &lists(rt, alloc, &pools, &none, 64, &OpenGate)?,
-    )?;
-    let two = jobs(alloc, &query, 2)?;
-    let gate = Holding::new();
-    put_lists(alloc, report, &lists(rt, alloc, &pools, &two, 2, &gate)?)?;
-    if gate.is_late() {
-        report.extend_from_slice(b"too late\n")?;
+    match query(alloc) {
+        Ok(query) => put_over(rt, alloc, report, &query),
+        Err(trouble) => Err(trouble),
     }
-    let all = jobs(alloc, &query, 256)?;
-    put_lists(
-        alloc,
-        report,
-        &lists(rt, alloc, &pools, &all, 1, &OpenGate)?,
-    )?;
-    put_lists(
-        alloc,
-        report,
-        &lists(rt, alloc, &pools, &all, 3, &OpenGate)?,
-    )
 }

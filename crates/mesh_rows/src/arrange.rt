@@ -2,12 +2,13 @@
 use crate::report::put_name;
 use crate::stage::{Call, Stage};
 use crate::trouble::Trouble;
-use mesh_base::Ref;
+use mesh_base::{Ref, Refs, Snapshot, Snapshots};
 use mesh_days::moment_of;
-use mesh_house::{Change, MemHouse, Warehouse, World};
-use mesh_list::{Duplicate, Register, Seq, both};
+use mesh_house::{Change, Warehouse, World};
+use mesh_list::{Duplicate, Memory, Register, Seq, both, push_made};
 use mesh_values::{Name, Str, Unit, same_text};
 use std::alloc::Global;
+use std::mem::replace;
 
 fn number_of(word: &Str) -> Result<u64, Trouble> {
     let Ok(text) = std::str::from_utf8(word.as_slice()) else {
@@ -44,18 +45,43 @@ fn copies(stage: &mut Stage, number: u64, bytes: &Str) -> Result<(), Trouble> {
     Ok(())
 }
 
-fn call_of(word: &Str) -> Result<Call, Trouble> {
-    match word.as_slice() {
-        b"before" => Ok(Call::Before),
-        b"after" => Ok(Call::After),
-        b"house" => Ok(Call::House),
-        b"folder" => Ok(Call::Folder),
-        b"clock" => Ok(Call::Clock),
-        b"input" => Ok(Call::Input),
-        b"out" => Ok(Call::Out),
-        b"err" => Ok(Call::Err),
-        _ => Err(Trouble::Script),
+/// Whether a word is this one.
+pub fn is(word: &Str, text: &[u8]) -> bool {
+    same_text(word.as_slice(), text)
+}
+
+/// A call of the warehouse.
+fn house_call(word: &Str) -> Option<Call> {
+    if is(word, b"before") {
+        Some(Call::Before)
+    } else if is(word, b"after") {
+        Some(Call::After)
+    } else if is(word, b"house") {
+        Some(Call::House)
+    } else {
+        None
     }
+}
+
+/// A call of something else that lies outside.
+fn other_call(word: &Str) -> Option<Call> {
+    if is(word, b"folder") {
+        Some(Call::Folder)
+    } else if is(word, b"clock") {
+        Some(Call::Clock)
+    } else if is(word, b"input") {
+        Some(Call::Input)
+    } else if is(word, b"out") {
+        Some(Call::Out)
+    } else if is(word, b"err") {
+        Some(Call::Err)
+    } else {
+        None
+    }
+}
+
+fn call_of(word: &Str) -> Result<Call, Trouble> {
+    house_call(word).or(other_call(word)).ok_or(Trouble::Script)
 }
 
 /// The call that a word names.
@@ -70,102 +96,175 @@ fn other_unit(unit: Unit) -> Unit {
     }
 }
 
-/// The first snapshot has another definition, or parents that aren't there.
-fn change_snapshot(alloc: Global, world: &mut World, parents: bool) -> Result<(), Trouble> {
-    let snapshots = world.book.snapshots.copy()?;
-    let mut all = snapshots.into_vec();
-    let Some(first) = all.first_mut() else {
-        return Err(Trouble::Script);
-    };
-    if !parents {
-        first.own.unit = other_unit(first.own.unit);
-    } else {
-        let mut refs = Seq::new(alloc);
-        for parent in first.parents.as_slice() {
-            refs.push(Ref {
-                name: parent.name.copy()?,
-                fingerprint: [0; 32],
-            })?;
-        }
-        first.parents = refs;
+/// A reference to the same model, with a fingerprint that no snapshot has.
+fn stray(parent: &Ref) -> Result<Ref, Memory> {
+    let name = parent.name.copy()?;
+    Ok(Ref {
+        name,
+        fingerprint: [0; 32],
+    })
+}
+
+fn strays(alloc: Global, parents: &[Ref]) -> Result<Refs, Memory> {
+    let mut refs = Seq::new(alloc);
+    for parent in parents {
+        push_made(&mut refs, stray(parent))?;
     }
-    world.book.snapshots = Register::from_vec(all);
+    Ok(refs)
+}
+
+/// How the first snapshot becomes another one.
+#[derive(Drop)]
+enum Turn {
+    Definition,
+    Parents(Refs),
+    Over,
+}
+
+fn turn(snapshot: &mut Snapshot, how: Turn) {
+    match how {
+        Turn::Definition => snapshot.own.unit = other_unit(snapshot.own.unit),
+        Turn::Parents(refs) => drop(replace(&mut snapshot.parents, refs)),
+        Turn::Over => snapshot.expires = 0,
+    }
+}
+
+/// The first snapshot becomes another one, where there is one.
+fn turn_first(alloc: Global, world: &mut World, how: Turn) {
+    let none = Register::from_vec(Vec::new(alloc));
+    let mut all = replace(&mut world.book.snapshots, none).into_vec();
+    match all.first_mut() {
+        Some(first) => turn(first, how),
+        None => drop(how),
+    }
+    drop(replace(&mut world.book.snapshots, Register::from_vec(all)));
+}
+
+/// The first snapshot has parents that aren't there.
+fn lose_parents(alloc: Global, world: &mut World) -> Result<(), Memory> {
+    let refs = match world.book.snapshots.as_slice().first() {
+        Some(first) => strays(alloc, first.parents.as_slice())?,
+        None => Seq::new(alloc),
+    };
+    turn_first(alloc, world, Turn::Parents(refs));
     Ok(())
 }
 
-/// The first snapshot has been over since the first moment.
-fn expire(world: &mut World) -> Result<(), Trouble> {
-    let snapshots = world.book.snapshots.copy()?;
-    let mut all = snapshots.into_vec();
-    let Some(first) = all.first_mut() else {
-        return Err(Trouble::Script);
-    };
-    first.expires = 0;
-    world.book.snapshots = Register::from_vec(all);
-    Ok(())
+/// A copy of a snapshot with another table and the fingerprint of a number.
+fn standin(snapshot: &Snapshot, table: &Str, number: u8) -> Result<Snapshot, Memory> {
+    let table = table.copy()?;
+    let mut copy = snapshot.copy()?;
+    copy.fingerprint = [number; 32];
+    drop(replace(&mut copy.object.model, table));
+    Ok(copy)
+}
+
+fn standins(alloc: Global, snapshot: &Snapshot, tables: &[Str]) -> Result<Snapshots, Memory> {
+    let mut made = Seq::new(alloc);
+    for (table, number) in tables.iter().zip(1..255u8) {
+        push_made(&mut made, standin(snapshot, table, number))?;
+    }
+    Ok(Register::from_vec(made.into_vec()))
 }
 
 /// The snapshots are copies of the first one alone, each with one of these tables and a fingerprint whose bytes are all its
 /// number, from 1 on; and there is no environment.
 fn stand_in(alloc: Global, world: &mut World, tables: &[Str]) -> Result<(), Trouble> {
-    let mut made = Vec::new(alloc);
-    let snapshots = world.book.snapshots.as_slice();
-    for (table, number) in tables.iter().zip(1..255u8) {
-        let mut copy = snapshots.first().ok_or(Trouble::Script)?.copy()?;
-        copy.fingerprint = [number; 32];
-        copy.object.model = table.copy()?;
-        made.push(copy)?;
-    }
-    world.book.snapshots = Register::from_vec(made);
-    world.book.environments = Register::from_vec(Vec::new(alloc));
+    let Some(first) = world.book.snapshots.as_slice().first() else {
+        return Err(Trouble::Script);
+    };
+    let made = standins(alloc, first, tables)?;
+    drop(replace(&mut world.book.snapshots, made));
+    let none = Register::from_vec(Vec::new(alloc));
+    drop(replace(&mut world.book.environments, none));
     Ok(())
 }
 
 /// The first version stands twice.
-fn repeat_version(world: &mut World) -> Result<(), Trouble> {
-    let versions = world.book.versions.copy()?;
-    let mut all = versions.into_vec();
-    let Some(first) = all.first() else {
-        return Err(Trouble::Script);
+fn repeat_version(alloc: Global, world: &mut World) -> Result<(), Trouble> {
+    let again = match world.book.versions.as_slice().first() {
+        Some(first) => first.copy()?,
+        None => return Err(Trouble::Script),
     };
-    let again = first.copy()?;
-    all.insert(0, again)?;
-    world.book.versions = Register::from_vec(all);
-    Ok(())
+    let none = Register::from_vec(Vec::new(alloc));
+    let mut all = replace(&mut world.book.versions, none).into_vec();
+    let done = all.insert(0, again);
+    drop(replace(&mut world.book.versions, Register::from_vec(all)));
+    Ok(done?)
+}
+
+/// The front of a list, so many entries.
+fn front_of(list: &Refs, length: usize) -> Result<Refs, Memory> {
+    let mut front = Seq::new(list.alloc());
+    for entry in list.as_slice().iter().take(length) {
+        push_made(&mut front, entry.copy())?;
+    }
+    Ok(front)
 }
 
 /// The first environment has the first entry of its list alone, and not its parents.
 fn orphan(alloc: Global, world: &mut World) -> Result<(), Trouble> {
-    let environments = world.book.environments.copy()?;
-    let mut all = environments.into_vec();
-    let Some(first) = all.first_mut() else {
-        return Err(Trouble::Script);
+    let list = match world.book.environments.as_slice().first() {
+        Some(first) => front_of(&first.list, 1)?,
+        None => return Err(Trouble::Script),
     };
-    let mut list = Seq::new(alloc);
-    if let Some(entry) = first.list.as_slice().first() {
-        list.push(entry.copy()?)?;
+    let none = Register::from_vec(Vec::new(alloc));
+    let mut all = replace(&mut world.book.environments, none).into_vec();
+    match all.first_mut() {
+        Some(first) => drop(replace(&mut first.list, list)),
+        None => drop(list),
     }
-    first.list = list;
-    world.book.environments = Register::from_vec(all);
+    drop(replace(&mut world.book.environments, Register::from_vec(all)));
     Ok(())
 }
 
+fn version_named(what: &Str) -> Option<u32> {
+    if is(what, b"old") {
+        Some(1)
+    } else if is(what, b"present") {
+        Some(2)
+    } else if is(what, b"unknown") {
+        Some(3)
+    } else {
+        None
+    }
+}
+
+/// The book breaks a rule.
+fn break_book(alloc: Global, world: &mut World, what: &Str) -> Result<(), Trouble> {
+    if is(what, b"parent") {
+        Ok(lose_parents(alloc, world)?)
+    } else if is(what, b"twice") {
+        repeat_version(alloc, world)
+    } else if is(what, b"orphan") {
+        orphan(alloc, world)
+    } else {
+        Err(Trouble::Script)
+    }
+}
+
 /// Another book than commands would have made.
+fn rewrite(alloc: Global, world: &mut World, what: &Str, tables: &[Str]) -> Result<(), Trouble> {
+    if let Some(version) = version_named(what) {
+        world.book.version = version;
+    } else if is(what, b"definition") {
+        turn_first(alloc, world, Turn::Definition);
+    } else if is(what, b"over") {
+        turn_first(alloc, world, Turn::Over);
+    } else if is(what, b"standins") {
+        return stand_in(alloc, world, tables);
+    } else {
+        return break_book(alloc, world, what);
+    }
+    Ok(())
+}
+
+/// The warehouse has a world whose book is rewritten.
 fn change_book(stage: &mut Stage, what: &Str, tables: &[Str]) -> Result<(), Trouble> {
     let mut world = stage.house.world().copy()?;
-    match what.as_slice() {
-        b"old" => world.book.version = 1,
-        b"present" => world.book.version = 2,
-        b"unknown" => world.book.version = 3,
-        b"parent" => change_snapshot(stage.alloc, &mut world, true)?,
-        b"definition" => change_snapshot(stage.alloc, &mut world, false)?,
-        b"twice" => repeat_version(&mut world)?,
-        b"orphan" => orphan(stage.alloc, &mut world)?,
-        b"over" => expire(&mut world)?,
-        b"standins" => stand_in(stage.alloc, &mut world, tables)?,
-        _ => return Err(Trouble::Script),
-    }
-    stage.restore(&world)
+    let done = rewrite(stage.alloc, &mut world, what, tables);
+    stage.restore(world);
+    done
 }
 
 /// The view that a word names, and what it points at.
@@ -189,55 +288,106 @@ fn take_out(stage: &mut Stage, word: &Str, object: bool) -> Result<(), Trouble> 
         Change::DropView { view }
     };
     let done = stage.house.change(stage.alloc, &change);
-    done.map_err(|_| Trouble::Outside)
+    drop(change);
+    match done {
+        Ok(()) => Ok(()),
+        Err(_) => Err(Trouble::Outside),
+    }
 }
 
 /// Gives the project a file with some bytes of a file of the example.
-fn write(stage: &mut Stage, path: &Str, bytes: Str) -> Result<(), Trouble> {
-    let path = path.copy()?;
+fn write(stage: &mut Stage, path: &Str, bytes: Result<Str, Trouble>) -> Result<(), Trouble> {
+    let (bytes, path) = (bytes?, path.copy()?);
     stage.write(path, bytes)
 }
 
-/// A step over a file of the example.
-fn arrange_over(stage: &mut Stage, kind: &Str, words: &[Str], bytes: Str) -> Result<(), Trouble> {
-    match (kind.as_slice(), words) {
-        (b"write", [path, _]) => write(stage, path, bytes),
-        (b"cut", [path, _, length]) => {
-            let bytes = front(stage.alloc, &bytes, number_of(length)?)?;
-            write(stage, path, bytes)
+/// A step over a file of the example, with its words: the path of the project's file, that of the example's, and perhaps a number.
+fn arrange_over(stage: &mut Stage, kind: &Str, words: &[Str], bytes: &Str) -> Result<(), Trouble> {
+    match words {
+        [path, _] if is(kind, b"write") => write(stage, path, Ok(bytes.copy()?)),
+        [number, _] if is(kind, b"copies") => copies(stage, number_of(number)?, bytes),
+        [path, _, length] if is(kind, b"cut") => {
+            let cut = front(stage.alloc, bytes, number_of(length)?);
+            write(stage, path, cut)
         }
-        (b"pad", [path, _, length]) => {
-            let bytes = padded(stage.alloc, &bytes, number_of(length)?)?;
-            write(stage, path, bytes)
+        [path, _, length] if is(kind, b"pad") => {
+            let longer = padded(stage.alloc, bytes, number_of(length)?);
+            write(stage, path, longer)
         }
-        (b"copies", [number, _]) => copies(stage, number_of(number)?, &bytes),
         _ => Err(Trouble::Script),
     }
 }
 
-/// A step that stands over no file of the example.
-pub fn arrange(stage: &mut Stage, kind: &Str, words: &[Str]) -> Result<(), Trouble> {
-    match (kind.as_slice(), words) {
-        (b"delete", [path]) => stage.folder.delete(path),
-        (b"clock", [moment]) => {
-            stage.moment = moment_of(moment.as_slice()).ok_or(Trouble::Script)?;
-        }
-        (b"input", [path]) => stage.input = stage.file(path)?,
-        (b"input", [path, length]) => {
-            let bytes = stage.file(path)?;
-            stage.input = padded(stage.alloc, &bytes, number_of(length)?)?;
-        }
-        (b"empty", []) => stage.house = MemHouse::new(stage.alloc),
-        (b"book", [what, tables @ ..]) => change_book(stage, what, tables)?,
-        (b"lose", [view]) => take_out(stage, view, true)?,
-        (b"hide", [view]) => take_out(stage, view, false)?,
-        (b"fail", [call, number]) => stage.failing = failing(call, number_of(number)?)?,
-        (b"fail", []) => stage.failing = None,
-        (_, [_, path, ..]) => {
-            let bytes = stage.file(path)?;
-            arrange_over(stage, kind, words, bytes)?;
-        }
-        _ => return Err(Trouble::Script),
+fn set_clock(stage: &mut Stage, moment: &Str) -> Result<(), Trouble> {
+    stage.moment = moment_of(moment.as_slice()).ok_or(Trouble::Script)?;
+    Ok(())
+}
+
+/// What commands read: a file, or one that is so much longer.
+fn set_input(stage: &mut Stage, path: &Str, length: Option<&Str>) -> Result<(), Trouble> {
+    let bytes = stage.file(path)?;
+    let input = match length {
+        Some(length) => padded(stage.alloc, &bytes, number_of(length)?)?,
+        None => bytes,
+    };
+    drop(replace(&mut stage.input, input));
+    Ok(())
+}
+
+fn set_failing(stage: &mut Stage, call: &Str, number: &Str) -> Result<(), Trouble> {
+    stage.failing = failing(call, number_of(number)?)?;
+    Ok(())
+}
+
+/// A step that needs no word.
+fn arrange_alone(stage: &mut Stage, kind: &Str) -> Result<(), Trouble> {
+    if is(kind, b"empty") {
+        stage.empty();
+    } else if is(kind, b"fail") {
+        stage.failing = None;
+    } else {
+        return Err(Trouble::Script);
     }
     Ok(())
+}
+
+/// A step about one thing.
+fn arrange_one(stage: &mut Stage, kind: &Str, word: &Str) -> Result<(), Trouble> {
+    if is(kind, b"delete") {
+        stage.folder.delete(word);
+        Ok(())
+    } else if is(kind, b"clock") {
+        set_clock(stage, word)
+    } else if is(kind, b"input") {
+        set_input(stage, word, None)
+    } else if is(kind, b"lose") {
+        take_out(stage, word, true)
+    } else if is(kind, b"hide") {
+        take_out(stage, word, false)
+    } else {
+        Err(Trouble::Script)
+    }
+}
+
+/// A step about two things, or more.
+fn arrange_more(stage: &mut Stage, kind: &Str, words: &[Str]) -> Result<(), Trouble> {
+    match words {
+        [call, number] if is(kind, b"fail") => set_failing(stage, call, number),
+        [path, length] if is(kind, b"input") => set_input(stage, path, Some(length)),
+        [_, path, ..] => {
+            let bytes = stage.file(path)?;
+            arrange_over(stage, kind, words, &bytes)
+        }
+        _ => Err(Trouble::Script),
+    }
+}
+
+/// A step that changes what the next commands run on.
+pub fn arrange(stage: &mut Stage, kind: &Str, words: &[Str]) -> Result<(), Trouble> {
+    match words {
+        [what, tables @ ..] if is(kind, b"book") => change_book(stage, what, tables),
+        [] => arrange_alone(stage, kind),
+        [word] => arrange_one(stage, kind, word),
+        _ => arrange_more(stage, kind, words),
+    }
 }

@@ -36,7 +36,7 @@ mod stage;
 mod trouble;
 mod turns;
 
-use crate::arrange::arrange;
+use crate::arrange::{arrange, is};
 use crate::report::{put, put_counts, put_outcome, put_targets, put_views};
 use crate::stage::Stage;
 use crate::trouble::Trouble;
@@ -59,6 +59,21 @@ fn read(alloc: Global, data: &mut DirFolder, path: &[u8]) -> Result<Str, Trouble
     data.read(alloc, &whole, MOST_BYTES)?.ok_or(Trouble::Script)
 }
 
+fn run<R: Threads + Sync>(
+    rt: &R,
+    stage: &mut Stage,
+    words: &[Str],
+    report: &mut Vec<u8>,
+) -> Result<(), Trouble> {
+    let outcome = stage.run(rt, words)?;
+    put_outcome(stage.alloc, report, &outcome)
+}
+
+fn put_world(stage: &Stage, report: &mut Vec<u8>) -> Result<(), Trouble> {
+    put_views(stage.alloc, report, stage.house.world())?;
+    put_counts(stage.alloc, report, stage.house.world())
+}
+
 /// Runs one step, and adds what is to be printed.
 fn perform<R: Threads + Sync>(
     rt: &R,
@@ -69,18 +84,12 @@ fn perform<R: Threads + Sync>(
     let Some((first, rest)) = words.split_first() else {
         return Err(Trouble::Script);
     };
-    match (first.as_slice(), rest) {
-        (b"mesh", _) => {
-            let outcome = stage.run(rt, rest)?;
-            put_outcome(stage.alloc, report, &outcome)
-        }
-        (b"show", []) => {
-            put_views(stage.alloc, report, stage.house.world())?;
-            put_counts(stage.alloc, report, stage.house.world())
-        }
-        (b"targets", []) => put_targets(report, stage.house.world()),
-        (b"cuts", [path, command @ ..]) => cuts(rt, stage, path, command, report),
-        (b"stops", [kind, command @ ..]) => stops(rt, stage, kind, command, report),
+    match rest {
+        _ if is(first, b"mesh") => run(rt, stage, rest, report),
+        [] if is(first, b"show") => put_world(stage, report),
+        [] if is(first, b"targets") => put_targets(report, stage.house.world()),
+        [path, command @ ..] if is(first, b"cuts") => cuts(rt, stage, path, command, report),
+        [kind, command @ ..] if is(first, b"stops") => stops(rt, stage, kind, command, report),
         _ => arrange(stage, first, rest),
     }
 }
@@ -118,23 +127,56 @@ fn play<R: Threads + Sync>(
     Ok(())
 }
 
-/// A stage with the files of an example.
-fn furnished(
+/// Gives the stage the files of an example.
+fn furnish(
     alloc: Global,
     data: &mut DirFolder,
     paths: &[Str],
-    name: &[u8],
-) -> Result<Stage, Trouble> {
-    let mut front = Vec::from_slice(alloc, name)?;
-    front.push(b'/')?;
-    let mut stage = Stage::new(alloc);
+    front: &[u8],
+    stage: &mut Stage,
+) -> Result<(), Trouble> {
     for path in paths {
-        if let Some(rest) = path.as_slice().strip_prefix(front.as_slice()) {
+        if let Some(rest) = path.as_slice().strip_prefix(front) {
             let bytes = read(alloc, data, path.as_slice())?;
             stage.add(rest, bytes)?;
         }
     }
-    Ok(stage)
+    Ok(())
+}
+
+fn play_over<R: Threads + Sync>(
+    rt: &R,
+    alloc: Global,
+    data: &mut DirFolder,
+    paths: &[Str],
+    name: &[u8],
+    stage: &mut Stage,
+    report: &mut Vec<u8>,
+) -> Result<(), Trouble> {
+    let mut front = Vec::from_slice(alloc, name)?;
+    front.push(b'/')?;
+    furnish(alloc, data, paths, front.as_slice(), stage)?;
+    front.extend_from_slice(b"script")?;
+    let script = read(alloc, data, front.as_slice())?;
+    play(rt, stage, &script, report)
+}
+
+/// Plays an example.
+fn example<R: Threads + Sync>(
+    rt: &R,
+    alloc: Global,
+    data: &mut DirFolder,
+    paths: &[Str],
+    name: &[u8],
+    report: &mut Vec<u8>,
+) -> Result<(), Trouble> {
+    put(report, b"== ")?;
+    put(report, name)?;
+    put(report, b"\n")?;
+    let mut stage = Stage::new(alloc);
+    let done = play_over(rt, alloc, data, paths, name, &mut stage, report);
+    drop(stage);
+    done
 }
 
 fn examples<R: Threads + Sync>(
@@ -147,12 +189,7 @@ fn examples<R: Threads + Sync>(
     let paths = data.list(alloc, &rows)?;
     for path in paths.as_slice() {
         if let Some(name) = path.as_slice().strip_suffix(b"/script") {
-            put(report, b"== ")?;
-            put(report, name)?;
-            put(report, b"\n")?;
-            let mut stage = furnished(alloc, data, paths.as_slice(), name)?;
-            let script = read(alloc, data, path.as_slice())?;
-            play(rt, &mut stage, &script, report)?;
+            example(rt, alloc, data, paths.as_slice(), name, report)?;
         }
     }
     Ok(())

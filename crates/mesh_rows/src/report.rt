@@ -77,6 +77,19 @@ fn put_table(
     put(report, text.as_slice())
 }
 
+fn put_shown(
+    alloc: Global,
+    report: &mut Vec<u8>,
+    house: &mut MemHouse,
+    view: &ViewOf,
+    columns: &Columns,
+) -> Result<(), Trouble> {
+    match show(alloc, house, &view.view)? {
+        Some(rows) => put_table(alloc, report, columns, rows),
+        None => Err(Trouble::Dangling),
+    }
+}
+
 /// Adds a view, the number of its target and its rows.
 fn put_view(
     alloc: Global,
@@ -89,23 +102,31 @@ fn put_view(
     put_name(report, &view.view)?;
     let at = format!(in alloc; " at {number}\n")?;
     put(report, at.as_bytes())?;
-    let columns = house.world().head(&view.target)?;
-    let rows = show(alloc, house, &view.view)?;
-    match (columns, rows) {
-        (Some(columns), Some(rows)) => put_table(alloc, report, &columns, rows),
-        _ => Err(Trouble::Dangling),
+    match house.world().head(&view.target)? {
+        Some(columns) => put_shown(alloc, report, house, view, &columns),
+        None => Err(Trouble::Dangling),
     }
+}
+
+fn put_each(
+    alloc: Global,
+    report: &mut Vec<u8>,
+    house: &mut MemHouse,
+    views: &[ViewOf],
+) -> Result<(), Trouble> {
+    for view in views {
+        let number = number_of(views, &view.target);
+        put_view(alloc, report, house, view, number)?;
+    }
+    Ok(())
 }
 
 /// Adds each view with its rows. Targets are numbered in the order in which the views name them.
 pub fn put_views(alloc: Global, report: &mut Vec<u8>, world: &World) -> Result<(), Trouble> {
     let mut house = MemHouse::with(world.copy()?, Seq::new(alloc));
-    let views = world.views.as_slice();
-    for view in views {
-        let number = number_of(views, &view.target);
-        put_view(alloc, report, &mut house, view, number)?;
-    }
-    Ok(())
+    let done = put_each(alloc, report, &mut house, world.views.as_slice());
+    drop(house);
+    done
 }
 
 /// Adds each view with its target's name.

@@ -3,9 +3,10 @@ use crate::report::Outcome;
 use crate::trouble::Trouble;
 use mesh_house::{Fail, Fails, MemHouse, Warehouse, World};
 use mesh_io::{File, Folder, MemClock, MemFolder, MemSink, MemSource, Numbers};
-use mesh_list::{Duplicate, Seq};
+use mesh_list::{Duplicate, Memory, Seq, both, together};
 use mesh_values::{LAST_MOMENT, Str};
 use std::alloc::Global;
+use std::mem::replace;
 use std::thread::Threads;
 
 /// The bytes of the largest file of an example.
@@ -36,6 +37,15 @@ pub struct Stage {
     pub moment: i64,
     pub input: Str,
     pub failing: Option<(Call, u64)>,
+}
+
+/// The clock, the input and the sinks of one command.
+#[derive(Drop)]
+struct Streams {
+    clock: MemClock,
+    input: MemSource,
+    out: MemSink,
+    err: MemSink,
 }
 
 impl Stage {
@@ -72,12 +82,23 @@ impl Stage {
     }
 
     /// The warehouse has this world.
-    pub fn restore(&mut self, world: &World) -> Result<(), Trouble> {
-        self.house = MemHouse::with(world.copy()?, Seq::new(self.alloc));
+    pub fn restore(&mut self, world: World) {
+        let house = MemHouse::with(world, Seq::new(self.alloc));
+        drop(replace(&mut self.house, house));
+    }
+
+    /// The warehouse has a copy of this world.
+    pub fn restore_copy(&mut self, world: &World) -> Result<(), Trouble> {
+        self.restore(world.copy()?);
         Ok(())
     }
 
-    fn numbers(&self, call: Call) -> Result<Numbers, Trouble> {
+    /// The warehouse is empty.
+    pub fn empty(&mut self) {
+        drop(replace(&mut self.house, MemHouse::new(self.alloc)));
+    }
+
+    fn numbers(&self, call: Call) -> Result<Numbers, Memory> {
         let mut numbers = Seq::new(self.alloc);
         if let Some((failing, number)) = self.failing {
             if failing == call {
@@ -87,7 +108,7 @@ impl Stage {
         Ok(numbers)
     }
 
-    fn house_fails(&self) -> Result<Fails, Trouble> {
+    fn house_fails(&self) -> Result<Fails, Memory> {
         let mut fails = Seq::new(self.alloc);
         if let Some((failing, call)) = self.failing {
             if failing == Call::Before || failing == Call::After || failing == Call::House {
@@ -109,16 +130,43 @@ impl Stage {
         Ok(MemClock::new(moment, self.numbers(Call::Clock)?))
     }
 
-    /// Runs one command, whose calls are numbered from 0.
-    pub fn run<R: Threads + Sync>(&mut self, rt: &R, words: &[Str]) -> Result<Outcome, Trouble> {
-        let fails = self.house_fails()?;
-        self.house.set_fails(fails);
-        let fails = self.numbers(Call::Folder)?;
-        self.folder.set_fails(fails);
-        let mut clock = self.clock()?;
-        let mut input = MemSource::new(self.input.copy()?, self.numbers(Call::Input)?);
-        let mut out = MemSink::new(self.alloc, self.numbers(Call::Out)?);
-        let mut err = MemSink::new(self.alloc, self.numbers(Call::Err)?);
+    fn sink(&self, call: Call) -> Result<MemSink, Memory> {
+        Ok(MemSink::new(self.alloc, self.numbers(call)?))
+    }
+
+    fn source(&self) -> Result<MemSource, Memory> {
+        let (input, fails) = together(self.input.copy(), self.numbers(Call::Input))?;
+        Ok(MemSource::new(input, fails))
+    }
+
+    fn streams(&self) -> Result<Streams, Trouble> {
+        let clock = self.clock()?;
+        let (input, (out, err)) = together(
+            self.source(),
+            together(self.sink(Call::Out), self.sink(Call::Err)),
+        )?;
+        Ok(Streams {
+            clock,
+            input,
+            out,
+            err,
+        })
+    }
+
+    /// The calls of the warehouse and of the folder are numbered from 0 on.
+    fn begin(&mut self) -> Result<(), Memory> {
+        let (house, folder) = together(self.house_fails(), self.numbers(Call::Folder))?;
+        self.house.set_fails(house);
+        self.folder.set_fails(folder);
+        Ok(())
+    }
+
+    fn run_over<R: Threads + Sync>(
+        &mut self,
+        rt: &R,
+        words: &[Str],
+        over: &mut Streams,
+    ) -> Result<Outcome, Memory> {
         let before = self.house.calls();
         let status = mesh_cli::mesh(
             rt,
@@ -126,16 +174,26 @@ impl Stage {
             words,
             &mut self.folder,
             &mut self.house,
-            &mut clock,
-            &mut input,
-            &mut out,
-            &mut err,
+            &mut over.clock,
+            &mut over.input,
+            &mut over.out,
+            &mut over.err,
         );
+        let (out, err) = both(over.out.bytes(), over.err.bytes())?;
         Ok(Outcome {
             status,
             changes: self.house.calls().saturating_sub(before),
-            out: out.bytes().copy()?,
-            err: err.bytes().copy()?,
+            out,
+            err,
         })
+    }
+
+    /// Runs one command, whose calls are numbered from 0.
+    pub fn run<R: Threads + Sync>(&mut self, rt: &R, words: &[Str]) -> Result<Outcome, Trouble> {
+        self.begin()?;
+        match self.streams() {
+            Ok(mut over) => Ok(self.run_over(rt, words, &mut over)?),
+            Err(trouble) => Err(trouble),
+        }
     }
 }
