@@ -1,7 +1,7 @@
 // Why records were not read.
 ghost use Rattle.std.specs.Prelude.{◌≡◌};
-ghost use Rattle.mesh_kept.specs.declared.fault.LoadFail.TheVariants.{Memory as OutOfMemory};
-ghost use Rattle.mesh_kept.specs.Loads.{of_canon, of_keep};
+ghost use Rattle.mesh_stored.specs.declared.fault.LoadFail.TheVariants.{Memory as OutOfMemory};
+ghost use Rattle.mesh_stored.specs.Loads.{of_canon, of_keep};
 
 use mesh_canon_words::CanonFault;
 use mesh_keep::KeepFail;
@@ -9,7 +9,7 @@ use mesh_list::Memory;
 
 /// Why records were not read: the keeper failed, there was not enough memory, or some record is of no world.
 #[derive(Clone, Copy)]
-pub(crate) enum LoadFail {
+pub enum LoadFail {
     Failed,
     Memory,
     Unread,

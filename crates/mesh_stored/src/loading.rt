@@ -1,7 +1,7 @@
 // The world that records say.
 ghost use Rattle.std.specs.Prelude.{IsErrOf};
-ghost use Rattle.mesh_kept.specs.declared.fault.LoadFail.TheVariants.{Failed};
-ghost use Rattle.mesh_kept.specs.Loads.{Loads};
+ghost use Rattle.mesh_stored.specs.declared.fault.LoadFail.TheVariants.{Failed};
+ghost use Rattle.mesh_stored.specs.Loads.{Loads};
 
 use crate::fault::LoadFail;
 use crate::taking::take_thing;
@@ -53,14 +53,27 @@ fn load_kind<K: Keeper>(
     take_things(alloc, world, kind, records.as_slice())
 }
 
+// All things, into a world that has none.
+fn load_into<K: Keeper>(alloc: Global, keeper: &mut K, world: &mut World) -> Result<(), LoadFail>
+    ensures { Loads (K.told keeper.old) (K.told keeper.new) result }
+{
+    load_head(alloc, keeper, world)?;
+    for kind in 1..7u32 {
+        load_kind(alloc, keeper, world, kind)?;
+    }
+    Ok(())
+}
+
 /// The world that all records say.
 pub(crate) fn load<K: Keeper>(alloc: Global, keeper: &mut K) -> Result<World, LoadFail>
     ensures { Loads (K.told keeper.old) (K.told keeper.new) result }
 {
     let mut world = World::new(alloc);
-    load_head(alloc, keeper, &mut world)?;
-    for kind in 1..7u32 {
-        load_kind(alloc, keeper, &mut world, kind)?;
+    match load_into(alloc, keeper, &mut world) {
+        Ok(()) => Ok(world),
+        Err(fail) => {
+            drop(world);
+            Err(fail)
+        }
     }
-    Ok(world)
 }

@@ -1,13 +1,16 @@
 // The writes that a change comes to.
+ghost use Rattle.std.specs.Prelude.{◌≤◌, IsErrOf};
+ghost use Rattle.mesh_list.specs.Counts.{Rose};
+ghost use Rattle.mesh_house.specs.declared.house.WhFail.TheVariants.{Failed as Refused};
+
 use crate::things::{
-    put_env, put_head, put_object, put_snapshot, put_source, put_version, put_view,
+    put_book, put_env, put_object, put_snapshot, put_source, put_version, put_view, take_out,
 };
 use mesh_base::{Env, Forget, Snapshot};
 use mesh_book::Book;
-use mesh_house::{Change, World};
-use mesh_keep::{Write, Writes};
+use mesh_house::{Change, WhFail, World};
+use mesh_keep::{KeepFail, Keeper, Writes};
 use mesh_list::{Memory, Seq};
-use mesh_record_text::snapshot_key;
 use mesh_values::Name;
 use std::alloc::Global;
 
@@ -18,12 +21,7 @@ fn take_snapshots_out(
     out: &mut Writes,
 ) -> Result<(), Memory> {
     for snapshot in snapshots {
-        let name = snapshot_key(alloc, &snapshot.name, &snapshot.fingerprint)?;
-        out.push(Write {
-            kind: 1,
-            name,
-            body: None,
-        })?;
+        take_out(alloc, &snapshot.name, &snapshot.fingerprint, out)?;
     }
     Ok(())
 }
@@ -64,7 +62,7 @@ fn put_envs(alloc: Global, book: &Book, envs: &[Env], out: &mut Writes) -> Resul
 
 // All that speaks of fingerprints, and the version.
 fn put_moved(alloc: Global, book: &Book, out: &mut Writes) -> Result<(), Memory> {
-    put_head(alloc, book, out)?;
+    put_book(alloc, book, out)?;
     put_snapshots(alloc, book, book.snapshots.as_slice(), out)?;
     put_envs(alloc, book, book.environments.as_slice(), out)
 }
@@ -114,7 +112,7 @@ fn list_after(
 ) -> Result<(), Memory> {
     let book = &world.book;
     match change {
-        Change::Moment { .. } => put_head(alloc, book, out),
+        Change::Moment { .. } => put_book(alloc, book, out),
         Change::Load { name, .. } => put_source(alloc, world, name, out),
         Change::PutSnapshot { snapshot } => put_planned(alloc, book, snapshot, out),
         Change::MakeTable { object, .. } => put_made(alloc, world, object, out),
@@ -139,11 +137,33 @@ fn list_after(
     }
 }
 
-/// Makes a change in memory, and answers the writes by which records follow it.
-pub(crate) fn stepped(alloc: Global, world: &mut World, change: &Change) -> Result<Writes, Memory> {
-    let mut writes = Seq::new(alloc);
-    list_before(alloc, world, change, &mut writes)?;
+// Makes a change in memory, and lists the writes by which records follow it.
+fn step_into(
+    alloc: Global,
+    world: &mut World,
+    change: &Change,
+    out: &mut Writes,
+) -> Result<(), Memory> {
+    list_before(alloc, world, change, out)?;
     world.step(alloc, change)?;
-    list_after(alloc, world, change, &mut writes)?;
-    Ok(writes)
+    list_after(alloc, world, change, out)
+}
+
+/// Makes a change of a world in memory, and then by one write.
+pub(crate) fn written<K: Keeper>(
+    alloc: Global,
+    keeper: &mut K,
+    world: &mut World,
+    change: &Change,
+) -> Result<(), WhFail>
+    ensures faults { (K.told keeper.old).faults ≤ (K.told keeper.new).faults }
+    ensures failed { IsErrOf result Refused → Rose (K.told keeper.old).faults (K.told keeper.new).faults }
+{
+    let mut writes = Seq::new(alloc);
+    step_into(alloc, world, change, &mut writes)?;
+    match keeper.write(alloc, &writes) {
+        Ok(()) => Ok(()),
+        Err(KeepFail::Failed) => Err(WhFail::Failed),
+        Err(KeepFail::Memory) => Err(WhFail::Memory),
+    }
 }

@@ -6,8 +6,8 @@ use Rattle.mesh_canon_words.specs.declared.fault.CanonFault.TheVariants as canon
 use Rattle.mesh_keep.specs.declared.keeper.KeepFail.{KeepFail}
 use Rattle.mesh_keep.specs.declared.keeper.KeepFail.TheVariants as keep
 use Rattle.mesh_keep.specs.Keeping.{KeeperTold}
-use Rattle.mesh_kept.specs.declared.fault.LoadFail.{LoadFail}
-use Rattle.mesh_kept.specs.declared.fault.LoadFail.TheVariants.{Failed, Memory, Unread}
+use Rattle.mesh_stored.specs.declared.fault.LoadFail.{LoadFail}
+use Rattle.mesh_stored.specs.declared.fault.LoadFail.TheVariants.{Failed, Memory, Unread}
 
 -- a body that isn't one is a record that wasn't read
 abbrev pub of_canon : CanonFault → LoadFail

@@ -1,7 +1,7 @@
 // The things of a world, from their records.
 ghost use Rattle.std.specs.Prelude.{IsErrOf, ◌≡◌, OnOk};
 ghost use Rattle.mesh_house.specs.Objects.{is_physical};
-ghost use Rattle.mesh_kept.specs.declared.fault.LoadFail.TheVariants.{Failed};
+ghost use Rattle.mesh_stored.specs.declared.fault.LoadFail.TheVariants.{Failed};
 
 use crate::fault::LoadFail;
 use mesh_book::Book;
