@@ -1,4 +1,2 @@
 -- Counts: what the house tells.
 pub mod Counts
--- Loads: why records aren't read, and what reading them leaves of a keeper.
-pub mod Loads

@@ -1,20 +1,14 @@
 // A warehouse over a keeper.
-ghost use Rattle.std.specs.Prelude.{◌≡◌, ◌≤◌, IsErrOf};
-ghost use Rattle.mesh_list.specs.Counts.{Rose};
-ghost use Rattle.mesh_keep.specs.declared.keeper.KeepFail.TheVariants.{Failed};
-ghost use Rattle.mesh_house.specs.declared.house.WhFail.TheVariants.{Failed as Refused};
+ghost use Rattle.std.specs.Prelude.{◌≡◌};
 ghost use Rattle.mesh_house.specs.World.{head, body, view, book};
 ghost use Rattle.mesh_house.specs.House.{Changes, Reads};
 ghost use Rattle.mesh_kept.specs.Counts.{counted};
 
-use crate::fault::LoadFail;
-use crate::loading::load;
-use crate::writes::stepped;
-use mesh_book::{BOOK_VERSION, Book};
-use mesh_house::{Body, Change, Warehouse, WhFail, World};
-use mesh_keep::{KeepFail, Keeper, Write};
-use mesh_list::{Duplicate, Seq};
-use mesh_record_text::{BookHead, head_body, head_key};
+use mesh_book::Book;
+use mesh_house::{Body, Change, Warehouse, WhFail};
+use mesh_keep::{KeepFail, Keeper};
+use mesh_list::Duplicate;
+use mesh_stored::{Held, LoadFail, begin};
 use mesh_values::{Columns, Name};
 use std::alloc::Global;
 
@@ -24,55 +18,12 @@ pub enum KeepFault<K> {
     Memory(K),
 }
 
-/// The world that a keeper's records say, and the keeper. The world is absent until it is read.
+/// The world that a keeper's records say, and the keeper.
 pub struct KeptHouse<K: Keeper> {
     keeper: K,
-    world: Option<World>,
+    held: Held,
     calls: u64,
     unread: u64,
-}
-
-// Where there is no record of the moment, puts that of an empty book.
-fn begin<K: Keeper>(alloc: Global, keeper: &mut K) -> Result<(), KeepFail>
-    ensures faults { (K.told keeper.old).faults ≤ (K.told keeper.new).faults }
-    ensures failed { IsErrOf result Failed → Rose (K.told keeper.old).faults (K.told keeper.new).faults }
-{
-    let name = head_key(alloc)?;
-    match keeper.get(alloc, 0, &name)? {
-        Some(_) => Ok(()),
-        None => {
-            let head = BookHead {
-                version: BOOK_VERSION,
-                moment: 0,
-            };
-            let body = Some(head_body(alloc, &head)?);
-            let mut writes = Seq::new(alloc);
-            writes.push(Write {
-                kind: 0,
-                name,
-                body,
-            })?;
-            keeper.write(alloc, &writes)
-        }
-    }
-}
-
-// Makes a change of a world in memory, and then by one write.
-fn written<K: Keeper>(
-    alloc: Global,
-    keeper: &mut K,
-    world: &mut World,
-    change: &Change,
-) -> Result<(), WhFail>
-    ensures faults { (K.told keeper.old).faults ≤ (K.told keeper.new).faults }
-    ensures failed { IsErrOf result Refused → Rose (K.told keeper.old).faults (K.told keeper.new).faults }
-{
-    let writes = stepped(alloc, world, change)?;
-    match keeper.write(alloc, &writes) {
-        Ok(()) => Ok(()),
-        Err(KeepFail::Failed) => Err(WhFail::Failed),
-        Err(KeepFail::Memory) => Err(WhFail::Memory),
-    }
 }
 
 impl<K: Keeper> KeptHouse<K> {
@@ -82,7 +33,7 @@ impl<K: Keeper> KeptHouse<K> {
         match begin(alloc, &mut keeper) {
             Ok(()) => Ok(KeptHouse {
                 keeper,
-                world: None,
+                held: Held::new(),
                 calls: 0,
                 unread: 0,
             }),
@@ -95,11 +46,11 @@ impl<K: Keeper> KeptHouse<K> {
     pub fn into_keeper(self) -> K {
         let KeptHouse {
             keeper,
-            world,
+            held,
             calls: _,
             unread: _,
         } = self;
-        drop(world);
+        held.close();
         keeper
     }
 
@@ -107,38 +58,13 @@ impl<K: Keeper> KeptHouse<K> {
     fn ready(&mut self, alloc: Global) -> Result<(), WhFail>
         ensures { Reads (λ _. record {}) (counted (K.told self.old.keeper) self.old.calls self.old.unread) (counted (K.told self.new.keeper) self.new.calls self.new.unread) result }
     {
-        if self.world.is_some() {
-            return Ok(());
-        }
-        match load(alloc, &mut self.keeper) {
-            Ok(world) => {
-                drop(std::mem::replace(&mut self.world, Some(world)));
-                Ok(())
-            }
+        match self.held.ready(alloc, &mut self.keeper) {
+            Ok(()) => Ok(()),
             Err(LoadFail::Failed) => Err(WhFail::Failed),
             Err(LoadFail::Memory) => Err(WhFail::Memory),
             Err(LoadFail::Unread) => {
                 self.unread = self.unread.saturating_add(1);
                 Err(WhFail::Failed)
-            }
-        }
-    }
-
-    // Makes a change in memory, and then by one write. Where that is refused, the world is read anew before it is used.
-    fn make(&mut self, alloc: Global, change: &Change) -> Result<(), WhFail>
-        ensures { Reads (λ _. record {}) (counted (K.told self.old.keeper) self.old.calls self.old.unread) (counted (K.told self.new.keeper) self.new.calls self.new.unread) result }
-    {
-        let Some(mut world) = std::mem::replace(&mut self.world, None) else {
-            return Err(WhFail::Memory);
-        };
-        match written(alloc, &mut self.keeper, &mut world, change) {
-            Ok(()) => {
-                drop(std::mem::replace(&mut self.world, Some(world)));
-                Ok(())
-            }
-            Err(fail) => {
-                drop(world);
-                Err(fail)
             }
         }
     }
@@ -150,12 +76,12 @@ impl<K: Keeper> Warehouse for KeptHouse<K> {
     fn change(&mut self, alloc: Global, change: &Change) -> Result<(), WhFail> {
         self.calls = self.calls.saturating_add(1);
         self.ready(alloc)?;
-        self.make(alloc, change)
+        self.held.make(alloc, &mut self.keeper, change)
     }
 
     fn head(&mut self, alloc: Global, name: &Name) -> Result<Option<Columns>, WhFail> {
         self.ready(alloc)?;
-        match &self.world {
+        match self.held.world() {
             Some(world) => Ok(world.head(name)?),
             None => Err(WhFail::Memory),
         }
@@ -163,7 +89,7 @@ impl<K: Keeper> Warehouse for KeptHouse<K> {
 
     fn body(&mut self, alloc: Global, name: &Name) -> Result<Option<Body>, WhFail> {
         self.ready(alloc)?;
-        match &self.world {
+        match self.held.world() {
             Some(world) => Ok(world.body(name)?),
             None => Err(WhFail::Memory),
         }
@@ -171,7 +97,7 @@ impl<K: Keeper> Warehouse for KeptHouse<K> {
 
     fn view(&mut self, alloc: Global, name: &Name) -> Result<Option<Name>, WhFail> {
         self.ready(alloc)?;
-        let Some(world) = &self.world else {
+        let Some(world) = self.held.world() else {
             return Err(WhFail::Memory);
         };
         match world.views.find(name) {
@@ -182,7 +108,7 @@ impl<K: Keeper> Warehouse for KeptHouse<K> {
 
     fn book(&mut self, alloc: Global) -> Result<Book, WhFail> {
         self.ready(alloc)?;
-        match &self.world {
+        match self.held.world() {
             Some(world) => Ok(world.book.copy()?),
             None => Err(WhFail::Memory),
         }

@@ -1,0 +1,46 @@
+// Why records were not read.
+ghost use Rattle.std.specs.Prelude.{◌≡◌};
+ghost use Rattle.mesh_stored.specs.declared.fault.LoadFail.TheVariants.{Memory as OutOfMemory};
+ghost use Rattle.mesh_stored.specs.Loads.{of_canon, of_keep};
+
+use mesh_canon_words::CanonFault;
+use mesh_keep::KeepFail;
+use mesh_list::Memory;
+
+/// Why records were not read: the keeper failed, there was not enough memory, or some record is of no world.
+#[derive(Clone, Copy)]
+pub enum LoadFail {
+    Failed,
+    Memory,
+    Unread,
+}
+
+impl From<Memory> for LoadFail {
+    ghost from_gives = { λ _ e. e ≡ OutOfMemory };
+
+    fn from(_error: Memory) -> LoadFail {
+        LoadFail::Memory
+    }
+}
+
+impl From<CanonFault> for LoadFail {
+    ghost from_gives = { λ f e. e ≡ of_canon f };
+
+    fn from(fault: CanonFault) -> LoadFail {
+        match fault {
+            CanonFault::NotCanonical => LoadFail::Unread,
+            CanonFault::Memory => LoadFail::Memory,
+        }
+    }
+}
+
+impl From<KeepFail> for LoadFail {
+    ghost from_gives = { λ f e. e ≡ of_keep f };
+
+    fn from(fail: KeepFail) -> LoadFail {
+        match fail {
+            KeepFail::Failed => LoadFail::Failed,
+            KeepFail::Memory => LoadFail::Memory,
+        }
+    }
+}
