@@ -11,7 +11,7 @@ use Rattle.mesh_casts.specs.Casts.{number_named}
 use Rattle.mesh_line.specs.declared.line.Command.{Command}
 use Rattle.mesh_line.specs.declared.line.Command.TheVariants.{Invalidate}
 use Rattle.mesh_line.specs.declared.line.Line.{Line}
-use Rattle.mesh_line.specs.Values.{IsMomentOf, crew, is_crew, workers_named}
+use Rattle.mesh_options.specs.Values.{IsMomentOf, crew, is_crew, workers_named}
 use Rattle.mesh_line.specs.Lines.{IsCommandOf, IsLine, again_given, apply_given, command_given, days_given, env_given, evaluate_given, fetchdf_given, given, ingest_given, invalidate_given, model_given, plan_given, run_given, workers_given}
 use Rattle.mesh_cli.specs.Fit.{IsCrew, IsFit}
 

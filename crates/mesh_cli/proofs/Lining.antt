@@ -7,7 +7,7 @@ use Rattle.mesh_values.specs.Picked.{same_text}
 use Rattle.mesh_line.specs.declared.line.Command.{Command}
 use Rattle.mesh_line.specs.declared.line.Line.{Line}
 use Rattle.mesh_line.specs.Lines.{IsCommandOf, IsLine, again_given, apply_given, command_given, env_given, plan_given, run_given, workers_given}
-use Rattle.mesh_line.specs.Scripts.{words_of}
+use Rattle.mesh_scripts.specs.Scripts.{words_of}
 use Rattle.std.specs.Prelude.{IfOk, IfErr, IsErrOf}
 use Rattle.mesh_printed.specs.declared.refusals.Refusal.{Refusal}
 use Rattle.mesh_printed.specs.declared.refusals.Refusal.TheVariants.{Usage}

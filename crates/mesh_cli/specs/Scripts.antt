@@ -12,7 +12,7 @@ use Rattle.mesh_line.specs.declared.line.Line.{Line}
 use Rattle.mesh_line.specs.declared.line.UsageFault.{UsageFault}
 use Rattle.mesh_line.specs.declared.line.UsageFault.TheVariants as fault
 use Rattle.mesh_line.specs.Lines.{IsLine}
-use Rattle.mesh_line.specs.Scripts.{is_skipped, lines, words_of}
+use Rattle.mesh_scripts.specs.Scripts.{is_skipped, lines, words_of}
 use Rattle.mesh_cli.specs.Ends.{Commanded, IsSaid}
 use Rattle.mesh_printed.specs.Printing.{Printed, Sinks}
 use Rattle.mesh_cli.specs.Sides.{Sides, here, place_or}

@@ -1,7 +1,7 @@
 // The lines of a script, one after another.
 ghost use Rattle.std.specs.Prelude.{◌≡◌, ◌⊎◌, true, false, IfOk, IfErr, IsErrOf};
 ghost use Rattle.mesh_line.specs.declared.line.Line.{Line as Asked};
-ghost use Rattle.mesh_line.specs.Scripts.{lines};
+ghost use Rattle.mesh_scripts.specs.Scripts.{lines};
 ghost use Rattle.mesh_printed.specs.declared.refusals.Refusal.TheVariants as refusal;
 ghost use Rattle.mesh_cli.specs.Fit.{IsFit};
 ghost use Rattle.mesh_cli.specs.Scripts.{AskedAnswers, IsTextLine, ScriptEnds, StepEnds, TextsEnd, is_batch, may_stand, of_usage};
@@ -10,13 +10,13 @@ ghost use Rattle.mesh_printed.specs.Printing.{sinks};
 
 use crate::command::line_answer;
 use crate::place::place_of;
-
 use crate::script::lines_of;
 use mesh_house::Warehouse;
 use mesh_io::{Clock, Folder, Sink};
-use mesh_line::{Command, Line, UsageFault, is_skipped, line_words, read_words};
+use mesh_line::{Command, Line, UsageFault, read_words};
 use mesh_list::Memory;
 use mesh_printed::{Refusal, printed};
+use mesh_scripts::{is_skipped, line_words};
 use mesh_values::Str;
 use std::alloc::Global;
 use std::thread::Threads;

@@ -1,7 +1,7 @@
 // A script: its size, and its lines.
 ghost use Rattle.std.specs.Prelude.{◌≡◌, ◌⊎◌, IfOk};
 ghost use Rattle.mesh_printed.specs.declared.refusals.Refusal.TheVariants.{Memory as NoMemory};
-ghost use Rattle.mesh_line.specs.Scripts.{lines};
+ghost use Rattle.mesh_scripts.specs.Scripts.{lines};
 ghost use Rattle.mesh_cli.specs.Scripts.{IsScript, too_large};
 
 use crate::moment::of_io;

@@ -1,11 +1,12 @@
 -- What a command's words give, and which words give none.
-use Rattle.std.proofs.Common.{◌≡◌, refl, sym, ◌∙◌, ap, subst, ℕ, ℤ, Bool, true, false, List, Some, None, codes, option_map, if◌then◌else◌}
+use Rattle.std.proofs.Common.{◌≡◌, refl, sym, ◌∙◌, ap, subst, ℤ, Bool, true, false, List, Some, None, codes, option_map, if◌then◌else◌}
 use Rattle.std.specs.Option.{option_and_then, unwrap_or, is_some}
 use Rattle.std.specs.declared.option.Option.{Option}
 use Rattle.clap.specs.Walk.{Row, Text}
 use Rattle.mesh_values.specs.Picked.{same_text}
+use Rattle.mesh_options.specs.Values.{is_other, other_than_prod}
 use Rattle.mesh_line.specs.declared.line.Command.{Command}
-use Rattle.mesh_line.specs.declared.line.Command.TheVariants.{Plan, Apply, Run, Janitor}
+use Rattle.mesh_line.specs.declared.line.Command.TheVariants.{Invalidate}
 use Rattle.mesh_line.specs.declared.line.Line.{Line}
 use Rattle.mesh_line.specs.Lines.{IsCommand, IsCommandOf, IsLineOf, again_given, apply_given, command_given, env_given, plan_given, run_given, workers_given}
 
@@ -58,3 +59,11 @@ refuses rows sub n given t is none line h =
     let k : IsCommand n given line.command = subst (λ s. IsCommandOf s line.command) is h.command in
     let e : false ≡ true = ap (λ (o : Option Command). is_some o) none ∙ command_same t k.moment n given ∙ ap (λ (o : Option Command). is_some o) k.is in
     absurd (cc)
+
+-- an environment that is to expire is another than production
+pub expires : (env : Option Text) → option_map Invalidate (option_and_then other_than_prod env) ≡ option_and_then (λ e. if is_other e then Some (Invalidate e) else None) env
+expires None = refl
+expires (Some e) = by_test (is_other e) where
+  by_test : (b : Bool) → option_map Invalidate (if b then Some e else None) ≡ (if b then Some (Invalidate e) else None)
+  by_test true = refl
+  by_test false = refl

@@ -1,5 +1,5 @@
 -- Elements of a list that are passed over one after another.
-use Rattle.std.proofs.Common.{◌≡◌, ◌∙◌, ◌<◌, ◌≤◌, ◌+◌, ◌++◌, ◌∷◌, [], ◌⊎◌, inl, inr, refl, sym, ap, subst, arith, ℕ, zero, suc, List, map, take, length, get_or}
+use Rattle.std.proofs.Common.{◌≡◌, ◌∙◌, ◌<◌, ◌+◌, ◌++◌, ◌∷◌, [], ◌⊎◌, inl, inr, refl, sym, ap, subst, arith, ℕ, zero, suc, List, map, take, length, get_or}
 use Rattle.std.proofs.lemmas.List.{get_or_default, map-append}
 use Rattle.std.proofs.Math.Seq.{take-suc}
 

@@ -1,6 +1,6 @@
 -- What a command has with one more argument, or with another command below it.
-use Rattle.std.proofs.Common.{◌≡◌, ◌||◌, false, Result, Ok, Err, IfOk, refl, ◌∙◌, ap, ap₂}
-use Rattle.clap.specs.Words.{App, Rule, AddsArg, AddsSubcommand, app_of, rule_of, shape_of}
+use Rattle.std.proofs.Common.{◌≡◌, ◌||◌, false, Result, Ok, Err, IfOk, ◌∙◌, ap, ap₂}
+use Rattle.clap.specs.Words.{App, Rule, AddsArg, AddsSubcommand, app_of, rule_of}
 use Rattle.clap.specs.Simple.{with_rule, with_subcommand}
 use Rattle.clap.specs.declared.builder.arg.Arg.{Arg}
 use Rattle.clap.specs.declared.builder.command.Command.{Command}

@@ -6,3 +6,5 @@ pub mod Asking
 pub mod Below
 -- Grown: what a command has with one more argument, or with another command below it.
 pub mod Grown
+-- Ruled: the rule of an argument after a setting of it was changed.
+pub mod Ruled

@@ -1,5 +1,5 @@
 -- Words that are taken and words that are refused, by computation.
-use Rattle.std.proofs.Common.{◌≡◌, refl, codes, List, ℕ, Option, Some, None, [], ◌∷◌, option_map}
+use Rattle.std.proofs.Common.{◌≡◌, refl, codes, Some, [], ◌∷◌, option_map}
 use Rattle.clap.specs.Walk.{first_of}
 use Rattle.clap.specs.Simple.{subcommand_of}
 use Rattle.clap.specs.Words.{fault_of}

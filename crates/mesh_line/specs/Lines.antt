@@ -1,5 +1,5 @@
 -- What a command line asks for.
-use Rattle.std.specs.Prelude.{◌≡◌, ℕ, ℤ, Bool, false, not, List, [], ◌∷◌, codes, map, Some, None, IsUtf8, if◌then◌else◌}
+use Rattle.std.specs.Prelude.{◌≡◌, ℕ, ℤ, Bool, false, List, [], codes, Some, None, IsUtf8, if◌then◌else◌}
 use Rattle.std.specs.List.{All}
 use Rattle.std.specs.Option.{option_and_then, option_map}
 use Rattle.std.specs.declared.option.Option.{Option}
@@ -12,7 +12,7 @@ use Rattle.mesh_base.specs.declared.forgets.Restate.{Restate}
 use Rattle.mesh_line.specs.declared.line.Command.{Command}
 use Rattle.mesh_line.specs.declared.line.Command.TheVariants.{Plan, Apply, Run, Evaluate, Fetchdf, Ingest, Janitor, Invalidate, Migrate, Batch}
 use Rattle.mesh_line.specs.declared.line.Line.{Line}
-use Rattle.mesh_line.specs.Values.{IsMomentOf, again_named, days_named, env_named, name_named, workers_named}
+use Rattle.mesh_options.specs.Values.{IsMomentOf, again_named, days_named, env_named, expiring_named, is_other, name_named, workers_named}
 use Rattle.mesh_line.specs.Words.{mesh_app}
 
 -- the value that was given under this name
@@ -30,6 +30,10 @@ is_flagged id rows = is_yes (given id rows)
 abbrev pub env_given : List Row → Option Text
 env_given rows = env_named (given (codes "env") rows)
 
+-- an environment that is to expire
+abbrev pub expiring_given : List Row → Option Text
+expiring_given rows = expiring_named (given (codes "env") rows)
+
 abbrev pub workers_given : List Row → Option ℕ
 workers_given rows = workers_named (given (codes "workers") rows)
 
@@ -39,8 +43,12 @@ again_given rows = again_named (given (codes "restate-model") rows) (given (code
 abbrev pub model_given : Text → List Row → Option Name
 model_given id rows = option_and_then name_named (given id rows)
 
+-- the days from the first text's to the last text's
+abbrev pub days_between : Option Text → Option Text → Option (ℤ × ℤ)
+days_between first last = option_and_then (λ text. option_and_then (days_named text) last) first
+
 abbrev pub days_given : List Row → Option (ℤ × ℤ)
-days_given rows = option_and_then (λ first. option_and_then (days_named first) (given (codes "end") rows)) (given (codes "start") rows)
+days_given rows = days_between (given (codes "start") rows) (given (codes "end") rows)
 
 -- each command of these words, at a moment if one is given
 abbrev pub plan_given : Option ℤ → List Row → Option Command
@@ -70,9 +78,6 @@ ingest_given rows =
     (given (codes "file") rows)) (model_given (codes "name") rows)
 
 -- production stays, so it can't be named to be over
-abbrev pub is_other : Text → Bool
-is_other env = not (same_text env (codes "prod"))
-
 abbrev pub invalidate_given : List Row → Option Command
 invalidate_given rows = option_and_then (λ env. if is_other env then Some (Invalidate env) else None) (env_given rows)
 

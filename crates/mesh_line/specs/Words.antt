@@ -1,5 +1,5 @@
 -- Which words a command line has: the options in front, the commands, and what each of them takes.
-use Rattle.std.specs.Prelude.{ℕ, List, true, codes, Some}
+use Rattle.std.specs.Prelude.{true, codes, Some}
 use Rattle.clap.specs.Walk.{Rule, Text}
 use Rattle.clap.specs.Simple.{App, new_app, new_rule, on_top, with_rule, with_subcommand}
 use Rattle.clap.specs.declared.builder.action.ArgAction.TheVariants.{Set, SetTrue}

@@ -1,16 +1,19 @@
 // Each command, as its words ask for it.
 ghost use Rattle.std.specs.Prelude.{◌≡◌, codes, IfOk};
+ghost use Rattle.std.specs.Option.{option_map};
 ghost use Rattle.clap.specs.Walk.{rows_of};
 ghost use Rattle.clap.specs.Matches.{found_of};
+ghost use Rattle.mesh_line.specs.declared.line.Command.TheVariants.{Invalidate};
 ghost use Rattle.mesh_line.specs.Lines.{apply_given, command_given, evaluate_given, fetchdf_given, ingest_given, invalidate_given, plan_given, run_given};
 
 use crate::given::{
-    again_given, days_given, env_given, is_flagged, model_given, text_given, workers_given,
+    again_given, days_given, env_given, expiring_given, is_flagged, model_given, text_given,
+    workers_given,
 };
 use crate::line::Command;
 use clap::ArgMatches;
 use mesh_list::Memory;
-use mesh_values::same_text;
+use mesh_values::{Str, same_text};
 use std::alloc::Global;
 
 fn plan_given(
@@ -130,14 +133,21 @@ fn ingest_given(alloc: Global, m: &ArgMatches<'_>) -> Result<Option<Command>, Me
     }
 }
 
+fn invalidated(env: Option<Str>) -> Option<Command>
+    ensures { result ≡ option_map Invalidate env }
+{
+    match env {
+        None => None,
+        Some(env) => Some(Command::Invalidate { env }),
+    }
+}
+
 /// Production stays, so it can't be named to be over.
 fn invalidate_given(alloc: Global, m: &ArgMatches<'_>) -> Result<Option<Command>, Memory>
     ensures { IfOk result (λ made. made ≡ invalidate_given (rows_of (found_of m.now))) }
 {
-    match env_given(alloc, m)? {
-        Some(env) if !same_text(env.as_slice(), b"prod") => Ok(Some(Command::Invalidate { env })),
-        _ => Ok(None),
-    }
+    let env = expiring_given(alloc, m)?;
+    Ok(invalidated(env))
 }
 
 /// The command of a name, at a moment if one is given.

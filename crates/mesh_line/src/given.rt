@@ -1,14 +1,15 @@
 // What was given to a command.
 ghost use Rattle.std.specs.Prelude.{◌≡◌, codes, IfOk};
-ghost use Rattle.std.specs.Option.{option_map};
+ghost use Rattle.std.specs.Option.{option_and_then, option_map};
 ghost use Rattle.clap.specs.Walk.{rows_of};
 ghost use Rattle.clap.specs.Matches.{found_of};
-ghost use Rattle.mesh_line.specs.Lines.{again_given, days_given, env_given, given, is_flagged, model_given, workers_given};
+ghost use Rattle.mesh_options.specs.Values.{name_named};
+ghost use Rattle.mesh_line.specs.Lines.{again_given, days_between, days_given, env_given, expiring_given, given, is_flagged, is_yes, model_given, workers_given};
 
-use crate::values::{again_named, days_named, env_named, name_named, workers_named};
 use clap::ArgMatches;
 use mesh_base::Restate;
 use mesh_list::{Memory, Seq};
+use mesh_options::{again_named, days_named, env_named, expiring_named, name_named, workers_named};
 use mesh_values::{Name, Str, same_text};
 use std::alloc::Global;
 
@@ -19,13 +20,28 @@ pub(crate) fn given<'a>(m: &ArgMatches<'a>, id: &str) -> Option<&'a str>
     m.get_str(id)
 }
 
+fn copied(alloc: Global, text: Option<&str>) -> Result<Option<Str>, Memory>
+    ensures { IfOk result (λ made. made ≡ option_map (λ s. s.now) text.entry) }
+{
+    match text {
+        None => Ok(None),
+        Some(text) => Ok(Some(Seq::from_vec(Vec::from_slice(alloc, text.as_bytes())?))),
+    }
+}
+
 /// The same, copied.
 pub(crate) fn text_given(alloc: Global, m: &ArgMatches<'_>, id: &str) -> Result<Option<Str>, Memory>
     ensures { IfOk result (λ made. made ≡ given id.now (rows_of (found_of m.now))) }
 {
-    match given(m, id) {
-        None => Ok(None),
-        Some(text) => Ok(Some(Seq::from_vec(Vec::from_slice(alloc, text.as_bytes())?))),
+    copied(alloc, given(m, id))
+}
+
+fn is_yes(text: Option<&str>) -> bool
+    ensures { result ≡ is_yes (option_map (λ s. s.now) text.entry) }
+{
+    match text {
+        None => false,
+        Some(text) => same_text(text.as_bytes(), b"true"),
     }
 }
 
@@ -33,16 +49,19 @@ pub(crate) fn text_given(alloc: Global, m: &ArgMatches<'_>, id: &str) -> Result<
 pub(crate) fn is_flagged(m: &ArgMatches<'_>, id: &str) -> bool
     ensures { result ≡ is_flagged id.now (rows_of (found_of m.now)) }
 {
-    match given(m, id) {
-        None => false,
-        Some(text) => same_text(text.as_bytes(), b"true"),
-    }
+    is_yes(given(m, id))
 }
 
 pub(crate) fn env_given(alloc: Global, m: &ArgMatches<'_>) -> Result<Option<Str>, Memory>
     ensures { IfOk result (λ made. made ≡ env_given (rows_of (found_of m.now))) }
 {
     env_named(alloc, given(m, "env"))
+}
+
+pub(crate) fn expiring_given(alloc: Global, m: &ArgMatches<'_>) -> Result<Option<Str>, Memory>
+    ensures { IfOk result (λ made. made ≡ expiring_given (rows_of (found_of m.now))) }
+{
+    expiring_named(alloc, given(m, "env"))
 }
 
 pub(crate) fn workers_given(m: &ArgMatches<'_>) -> Option<u32>
@@ -65,6 +84,15 @@ pub(crate) fn again_given(
     )
 }
 
+fn model_named(alloc: Global, text: Option<&str>) -> Result<Option<Name>, Memory>
+    ensures { IfOk result (λ made. made ≡ option_and_then name_named (option_map (λ s. s.now) text.entry)) }
+{
+    match text {
+        None => Ok(None),
+        Some(text) => name_named(alloc, text.as_bytes()),
+    }
+}
+
 pub(crate) fn model_given(
     alloc: Global,
     m: &ArgMatches<'_>,
@@ -72,20 +100,20 @@ pub(crate) fn model_given(
 ) -> Result<Option<Name>, Memory>
     ensures { IfOk result (λ made. made ≡ model_given id.now (rows_of (found_of m.now))) }
 {
-    match given(m, id) {
-        None => Ok(None),
-        Some(text) => name_named(alloc, text.as_bytes()),
+    model_named(alloc, given(m, id))
+}
+
+fn days_between(first: Option<&str>, last: Option<&str>) -> Option<(i32, i32)>
+    ensures { result ≡ days_between (option_map (λ s. s.now) first.entry) (option_map (λ s. s.now) last.entry) }
+{
+    match (first, last) {
+        (Some(first), Some(last)) => days_named(first.as_bytes(), last.as_bytes()),
+        _ => None,
     }
 }
 
 pub(crate) fn days_given(m: &ArgMatches<'_>) -> Option<(i32, i32)>
     ensures { result ≡ days_given (rows_of (found_of m.now)) }
 {
-    let Some(first) = given(m, "start") else {
-        return None;
-    };
-    match given(m, "end") {
-        None => None,
-        Some(last) => days_named(first.as_bytes(), last.as_bytes()),
-    }
+    days_between(given(m, "start"), given(m, "end"))
 }

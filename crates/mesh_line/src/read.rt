@@ -15,10 +15,10 @@ use crate::apps::commands;
 use crate::commands::command_given;
 use crate::given::{given, text_given};
 use crate::line::{Line, UsageFault};
-use crate::values::moment_named;
 use clap::error::ErrorKind;
 use clap::{ArgMatches, Error};
 use mesh_list::Memory;
+use mesh_options::moment_named;
 use mesh_values::Str;
 use std::alloc::Global;
 

@@ -1,6 +1,6 @@
 use Rattle.std.proofs.Common.{List, ℕ, sym, ◌∙◌, ap, subst}
 use Rattle.mesh_line.specs.Lines.{IsLine}
-use Rattle.mesh_line.specs.Scripts.{words_of}
+use Rattle.mesh_scripts.specs.Scripts.{words_of}
 use Rattle.mesh_cli.proofs.Fitting.{fits}
 use Rattle.mesh_cli.proofs.Lining.{line_fit, line_usage}
 use Rattle.mesh_cli.proofs.batches.line_of.Goals as goal

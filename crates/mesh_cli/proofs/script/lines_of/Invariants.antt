@@ -1,5 +1,5 @@
 use Rattle.std.proofs.Common.{◌≡◌, ◌++◌, drop}
-use Rattle.mesh_line.specs.Scripts.{lines, lines_from}
+use Rattle.mesh_scripts.specs.Scripts.{lines, lines_from}
 use Rattle.mesh_cli.proofs.script.lines_of.Given as goal
 
 -- the lines so far, and those of the bytes that are left

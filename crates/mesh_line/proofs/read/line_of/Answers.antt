@@ -1,10 +1,8 @@
-use Rattle.std.proofs.Common.{◌≡◌, ◌∙◌, refl, sym, ap, subst, Some, None}
-use Rattle.clap.specs.Walk.{Row, rows_of}
+use Rattle.std.proofs.Common.{◌∙◌, refl, sym, subst}
+use Rattle.clap.specs.Walk.{rows_of}
 use Rattle.clap.specs.Matches.{found_of}
-use Rattle.clap.specs.Simple.{subcommand_rows_of}
-use Rattle.clap.specs.declared.parser.matches.ArgMatches.{out-ArgMatches}
 use Rattle.mesh_line.specs.Lines.{IsCommandOf}
-use Rattle.mesh_line.specs.Values.{IsMomentOf}
+use Rattle.mesh_options.specs.Values.{IsMomentOf}
 use Rattle.mesh_line.proofs.Asking.{both_of, refuses}
 use Rattle.mesh_line.proofs.read.line_of.Goals as goal
 

@@ -1,4 +1,4 @@
-use Rattle.std.proofs.Common.{◌≡◌, ◌∙◌, ◌≤◌, ap, sym, subst, arith, map, IsUtf8}
+use Rattle.std.proofs.Common.{◌∙◌, ap, sym, subst, arith, map, IsUtf8}
 use Rattle.std.proofs.lemmas.List.{take_all}
 use Rattle.mesh_line.proofs.Below.{one_more, one_more_value}
 use Rattle.mesh_line.proofs.read.texts.Goals as goal

@@ -1,7 +1,7 @@
 use Rattle.std.proofs.Common.{◌≡◌, drop}
-use Rattle.mesh_line.specs.Scripts.{words_of}
-use Rattle.mesh_line.specs.Splitting.{resumed}
-use Rattle.mesh_line.proofs.scripts.line_words.Given as goal
+use Rattle.mesh_scripts.specs.Scripts.{words_of}
+use Rattle.mesh_scripts.specs.Splitting.{resumed}
+use Rattle.mesh_scripts.proofs.scripts.line_words.Given as goal
 
 -- what was split and what is left give the words of the line
 abbrev pub invariant-loop-b : goal.invariant-loop-b

@@ -1,11 +1,12 @@
 -- What the values of options and places stand for.
-use Rattle.std.specs.Prelude.{ℕ, ℤ, pos, unsigned_abs, Bool, ◌&&◌, ◌==◌, if◌then◌else◌, List, ◌+◌, map, take, drop, Some, None}
+use Rattle.std.specs.Prelude.{ℕ, ℤ, pos, unsigned_abs, Bool, not, ◌&&◌, ◌==◌, if◌then◌else◌, List, ◌+◌, map, take, drop, Some, None}
 use Rattle.std.specs.List.{position}
 use Rattle.std.specs.Option.{option_and_then, option_map}
 use Rattle.std.specs.declared.option.Option.{Option}
 use Rattle.std.specs.Int.Signed.{le_z}
 use Rattle.std.specs.Char.{to_ascii_lowercase}
 use Rattle.mesh_values.specs.Names.{is_identifier}
+use Rattle.mesh_values.specs.Picked.{same_text}
 use Rattle.mesh_values.specs.declared.values.Name.{Name}
 use Rattle.mesh_base.specs.declared.forgets.Restate.{Restate}
 use Rattle.mesh_days.specs.Moments.{IsMomentText}
@@ -17,6 +18,16 @@ use Rattle.mesh_changes.specs.Environments.{is_env_name, prod}
 abbrev pub env_named : Option (List ℕ) → Option (List ℕ)
 env_named None = Some prod
 env_named (Some text) = if is_env_name text then Some text else None
+
+-- an environment that is to expire: any but production, which stays
+abbrev pub is_other : List ℕ → Bool
+is_other env = not (same_text env prod)
+
+abbrev pub other_than_prod : List ℕ → Option (List ℕ)
+other_than_prod env = if is_other env then Some env else None
+
+abbrev pub expiring_named : Option (List ℕ) → Option (List ℕ)
+expiring_named text = option_and_then other_than_prod (env_named text)
 
 abbrev pub is_crew : ℤ → Bool
 is_crew n = le_z (pos 1) n && le_z n (pos 64)

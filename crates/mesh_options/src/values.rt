@@ -4,13 +4,13 @@ ghost use Rattle.std.specs.List.{list_all, position};
 ghost use Rattle.std.specs.Option.{option_map};
 ghost use Rattle.std.specs.declared.option.Option.{Option};
 ghost use Rattle.mesh_changes.specs.Environments.{is_env_byte, is_env_name};
-ghost use Rattle.mesh_line.specs.Values.{IsMomentOf, again_named, days_named, env_named, is_point, name_named, name_of, restate_named, workers_named};
+ghost use Rattle.mesh_options.specs.Values.{IsMomentOf, again_named, days_named, env_named, expiring_named, is_other, is_point, name_named, name_of, restate_named, workers_named};
 
 use mesh_base::Restate;
 use mesh_casts::{day_named, lower_case, number_named};
 use mesh_days::moment_of;
 use mesh_list::{Memory, Seq};
-use mesh_values::{Name, Str, is_identifier};
+use mesh_values::{Name, Str, is_identifier, same_text};
 use std::alloc::Global;
 
 fn is_env_byte(b: u8) -> bool
@@ -36,8 +36,14 @@ fn is_env_name(name: &[u8]) -> bool
     }
 }
 
+fn is_other(env: &[u8]) -> bool
+    ensures { result ≡ is_other env.now }
+{
+    !same_text(env, b"prod")
+}
+
 /// An environment by its name, and production where none is given.
-pub(crate) fn env_named(alloc: Global, text: Option<&str>) -> Result<Option<Str>, Memory>
+pub fn env_named(alloc: Global, text: Option<&str>) -> Result<Option<Str>, Memory>
     ensures { IfOk result (λ made. made ≡ env_named (option_map (λ s. s.now) text.entry)) }
 {
     let Some(text) = text else {
@@ -49,8 +55,19 @@ pub(crate) fn env_named(alloc: Global, text: Option<&str>) -> Result<Option<Str>
     Ok(None)
 }
 
+/// An environment that is to expire: any but production, which stays.
+pub fn expiring_named(alloc: Global, text: Option<&str>) -> Result<Option<Str>, Memory>
+    ensures { IfOk result (λ made. made ≡ expiring_named (option_map (λ s. s.now) text.entry)) }
+{
+    match env_named(alloc, text) {
+        Ok(Some(env)) if is_other(env.as_slice()) => Ok(Some(env)),
+        Ok(_) => Ok(None),
+        Err(refused) => Err(refused),
+    }
+}
+
 /// How many workers: 1 to 64, and 1 where nothing is said.
-pub(crate) fn workers_named(text: Option<&str>) -> Option<u32>
+pub fn workers_named(text: Option<&str>) -> Option<u32>
     ensures { result ≡ workers_named (option_map (λ s. s.now) text.entry) }
 {
     match text {
@@ -63,7 +80,7 @@ pub(crate) fn workers_named(text: Option<&str>) -> Option<u32>
 }
 
 /// The moment that a text is, where one is given; the outer answer is none where it is no moment's.
-pub(crate) fn moment_named(text: Option<&str>) -> Option<Option<i64>>
+pub fn moment_named(text: Option<&str>) -> Option<Option<i64>>
     ensures { MatchOption result ((t : Option ℤ) → ¬ IsMomentOf (option_map (λ s. s.now) text.entry) t) (λ t. IsMomentOf (option_map (λ s. s.now) text.entry) t) }
 {
     match text {
@@ -94,7 +111,7 @@ fn name_of(alloc: Global, schema: &[u8], model: &[u8]) -> Result<Option<Name>, M
 }
 
 /// A name of two parts, in small letters.
-pub(crate) fn name_named(alloc: Global, text: &[u8]) -> Result<Option<Name>, Memory>
+pub fn name_named(alloc: Global, text: &[u8]) -> Result<Option<Name>, Memory>
     ensures { IfOk result (λ made. made ≡ name_named text.now) }
 {
     match point_in(text) {
@@ -104,7 +121,7 @@ pub(crate) fn name_named(alloc: Global, text: &[u8]) -> Result<Option<Name>, Mem
 }
 
 /// Two days, the first not above the last.
-pub(crate) fn days_named(first: &[u8], last: &[u8]) -> Option<(i32, i32)>
+pub fn days_named(first: &[u8], last: &[u8]) -> Option<(i32, i32)>
     ensures { result ≡ days_named first.now last.now }
 {
     let Some(first) = day_named(first) else {
@@ -139,7 +156,7 @@ fn restate_named(name: Name, first: Option<&str>, last: Option<&str>) -> Option<
 }
 
 /// What is to be computed again, if anything is; the outer answer is none where the words are none.
-pub(crate) fn again_named(
+pub fn again_named(
     alloc: Global,
     model: Option<&str>,
     first: Option<&str>,

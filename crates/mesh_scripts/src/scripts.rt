@@ -1,8 +1,8 @@
 // The lines of a script.
 ghost use Rattle.std.specs.Prelude.{◌≡◌, ◌++◌, ◌∷◌, [], IfOk, OnOk};
-ghost use Rattle.mesh_line.specs.declared.scripts.State.TheVariants as state;
-ghost use Rattle.mesh_line.specs.Scripts.{is_skipped, words_of};
-ghost use Rattle.mesh_line.specs.Splitting.{Steps, resumed};
+ghost use Rattle.mesh_scripts.specs.declared.scripts.State.TheVariants as state;
+ghost use Rattle.mesh_scripts.specs.Scripts.{is_skipped, words_of};
+ghost use Rattle.mesh_scripts.specs.Splitting.{Steps, resumed};
 
 use mesh_list::{Duplicate, Memory, Seq};
 use mesh_values::{Str, Strs};

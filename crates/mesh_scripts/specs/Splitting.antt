@@ -2,10 +2,10 @@
 use Rattle.std.specs.Prelude.{◌≡◌, ℕ, List, ◌∷◌, ◌++◌, None}
 use Rattle.std.specs.Option.{option_map}
 use Rattle.std.specs.declared.option.Option.{Option}
-use Rattle.mesh_line.specs.declared.scripts.Splitting.{Splitting}
-use Rattle.mesh_line.specs.declared.scripts.State.{State}
-use Rattle.mesh_line.specs.declared.scripts.State.TheVariants.{Between, Plain, Quoted, Closed, Wrong}
-use Rattle.mesh_line.specs.Scripts.{between, closed, plain, quoted}
+use Rattle.mesh_scripts.specs.declared.scripts.Splitting.{Splitting}
+use Rattle.mesh_scripts.specs.declared.scripts.State.{State}
+use Rattle.mesh_scripts.specs.declared.scripts.State.TheVariants.{Between, Plain, Quoted, Closed, Wrong}
+use Rattle.mesh_scripts.specs.Scripts.{between, closed, plain, quoted}
 
 -- the words that are still to come
 abbrev pub rest_by : State → List ℕ → List ℕ → Option (List (List ℕ))
