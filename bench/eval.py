@@ -8,12 +8,11 @@ and that of the tables alone. The program reads its cases where it runs, so each
 Usage: bench/eval.py [PROGRAM], where PROGRAM is crates/mesh_answers/out/mesh_answers if left out (`rt run` makes it)."""
 import os
 import sqlite3
-import subprocess
 import sys
-import tempfile
 import time
 
-TOP = os.path.dirname(os.path.dirname(os.path.abspath(__file__)))
+from measured import TOP, ran
+
 SIZES = (1_000_000, 100_000, 50_000)
 BLOCK = 1000
 WHENS = " ".join(f"WHEN v % 10 = {n} THEN {n}" for n in range(9))
@@ -74,26 +73,17 @@ def cases(what, rows, times):
     return block + tables + f"sum {what} | (query [] [{query}])\n" * times
 
 
-def run(program, what, rows, times):
-    """Seconds of processor, megabytes at the most, and what was printed."""
-    with tempfile.TemporaryDirectory() as folder:
-        open(f"{folder}/resolved.txt", "w").close()
-        with open(f"{folder}/cases.txt", "w") as file:
-            file.write(cases(what, rows, times))
-        child = subprocess.Popen([program], stdout=subprocess.PIPE, text=True, cwd=folder)
-        said = child.stdout.read()
-        _, status, used = os.wait4(child.pid, 0)
-    assert status == 0, status
-    return used.ru_utime + used.ru_stime, used.ru_maxrss / 1024, said
+def run(program, what, rows, times, runs=1):
+    """The least seconds of processor of some runs, megabytes at the most, and what was printed."""
+    return ran(program, {"cases.txt": cases(what, rows, times), "resolved.txt": ""}, runs)
 
 
 def ours(program, what, rows):
     """The least seconds of one evaluation, without those that making the tables takes, and what one prints."""
     times = 1 if rows > 100_000 else 5
-    none = min(run(program, what, rows, 0)[0] for _ in range(3))
-    runs = [run(program, what, rows, times) for _ in range(3)]
-    said = set(runs[0][2].splitlines())
-    return (min(r[0] for r in runs) - none) / times, " ".join(said)
+    none, _, _ = run(program, what, rows, 0, 3)
+    least, _, said = run(program, what, rows, times, 3)
+    return (least - none) / times, " ".join(set(said.splitlines()))
 
 
 def theirs(what, rows):

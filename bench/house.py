@@ -1,57 +1,85 @@
 #!/usr/bin/env python3
-"""Times `mesh_bench`: a warehouse in memory with tables, a view and a version for each, and then 100,000 changes that
+"""Times `mesh_cases_house` on a warehouse in memory: one with tables, a view and a version for each, and then 100,000 changes that
 each record an hour of one version after another; for 2,048 tables and for 4,096. Then one change that forgets 200,000
-hours of a version, which adjoin or are every second one; and one that gives 10,000 snapshots other fingerprints, which
-are of as many models or of one. Last `mesh_rows`: the views of a further environment of many models, by `apply` without
-those of `plan`, and a janitor's sweep of the snapshots and tables of environments that are over. Prints seconds and growth.
+units of a version, which adjoin or are every second one; and one that gives 10,000 snapshots other fingerprints, which
+are of as many models or of one. Their seconds are those of a file that makes the changes at once and counts what is then
+there, without one that has the same changes and makes none. Last `mesh_rows`: the views of a further environment of many models,
+by `apply` without those of `plan`, and a janitor's sweep of the snapshots and tables of environments that are over. Prints
+seconds of processor and growth.
 
-Usage: bench/house.py [PROGRAM], where PROGRAM is crates/mesh_bench/out/mesh_bench if left out (`rt run` makes it)."""
-import os
-import subprocess
+Usage: bench/house.py [PROGRAM], where PROGRAM is crates/mesh_cases_house/out/mesh_cases_house if left out (`rt run` makes it)."""
+import random
 import sys
-import time
 
 import played
+from measured import Program
 
-TOP = os.path.dirname(os.path.dirname(os.path.abspath(__file__)))
 CHANGES = 100_000
 UNITS = 200_000
 SNAPSHOTS = 10_000
 TIMES = 20
+MOVES = 5
+HOUR = 3_600
+OWN = "own m (own 1:a 1:m (view) 9:0 0 * * * hour none [] (query [] []))"
 
 
-def seconds(program, words, end):
-    """The least time of three runs, which each print this at the end."""
-    best = None
-    for _ in range(3):
-        begin = time.monotonic()
-        done = subprocess.run([program, *map(str, words)], capture_output=True, text=True, check=True)
-        passed = time.monotonic() - begin
-        assert done.stdout.endswith(end), done.stdout
-        best = passed if best is None else min(best, passed)
-    return best
+def made(program, front, changes, answer):
+    """The seconds of making these changes at once behind those in front, which leaves so many snapshots and spans."""
+    kept = [OWN, *(f"also {change}" for change in front), "count_all", *(f"also {change}" for change in changes)]
+    none, _ = program.ran("changes.txt", kept)
+    all, said = program.ran("changes.txt", [*kept, "count_all"])
+    assert said.splitlines()[1] == answer, said[-1000:]
+    return all - none
 
 
 def recorded(program, tables):
+    front = []
+    for n in range(tables):
+        front += [f"put_snapshot b.{n:04}/0 m 0 s__b.{n:04} 0", f"make_table s__b.{n:04}", f"point_view b.{n:04} s__b.{n:04}"]
+    hours = ((n % tables, n // tables * HOUR) for n in range(CHANGES))
+    changes = [f"record_range s__b.{table:04} {start} {start + HOUR}" for table, start in hours]
     # Each version is recorded without a hole.
-    return seconds(program, ["0", "0", tables, CHANGES], f" {tables} spans\n")
+    return made(program, front, changes, f"snapshots {tables}, spans {tables}")
 
 
 def forgotten(program, units, step):
-    # Between two hours that are forgotten one or none is left.
-    return seconds(program, ["forget", units, step], f"{0 if step == 1 else units} are left\n")
+    front = ["put_snapshot b.m/0 m 0 b.t 0", f"record_range b.t 0 {units * step}"]
+    change = " ".join(f"b.t:{n * step}:{n * step + 1}" for n in range(units))
+    # Between two units that are forgotten one or none is left.
+    return made(program, front, [f"forget_units {change}"], f"snapshots 1, spans {0 if step == 1 else units}")
 
 
-def migrated(program, snapshots, models):
-    """The time of one migration: that of many without that of the world they begin with."""
-    end = f"{snapshots - 1} are left\n"
-    many = seconds(program, ["migrate", snapshots, models, TIMES], end)
-    none = seconds(program, ["migrate", snapshots, models, 0], end)
-    return (many - none) / TIMES
+def fingerprints(count):
+    """So many fingerprints that differ, each as its first four bytes, of which the last stands in all places behind."""
+    drawn = random.Random(7).sample(range(2**32), count)
+    return [tuple(number.to_bytes(4, "big")) for number in drawn]
+
+
+def written(bytes):
+    return ".".join(map(str, bytes))
+
+
+def turned(bytes, places):
+    return bytes[places:] + bytes[:places]
+
+
+def migrated(program, count, models):
+    """The seconds of one of some migrations of snapshots, each of which has the two before it as parents and stands in an
+    environment."""
+    keys = [(f"b.{n % models:06}", first) for n, first in enumerate(fingerprints(count))]
+    said = [f"{name}/{written(first)}" for name, first in keys]
+    order = sorted(range(count), key=keys.__getitem__)
+    front = [f"put_snapshot {said[n]} m 0 b.000000 0 parents {' '.join(said[max(0, n - 2) : n])}" for n in order]
+    front.append(f"set_pending prod none list {' '.join(said[n] for n in order)}")
+    changes = []
+    for move in range(MOVES):
+        old = sorted((name, turned(first, move % 4)) for name, first in keys)
+        changes.append(f"migrate {' '.join(f'{name}/{written(bytes)}={written(turned(bytes, 1))}' for name, bytes in old)}")
+    return made(program, front, changes, f"snapshots {count}, spans 0") / MOVES
 
 
 def promoted(count):
-    """The time of pointing an environment's views: that of further environments of a project without that of their plans."""
+    """The seconds of pointing an environment's views: those of further environments of a project without those of their plans."""
     files, front = played.star(count), played.applied(1)
     apply = played.each(played.PROGRAM, files, front, [f"mesh apply e{n} --execution-time 2024-01-03T00:30" for n in range(TIMES)])
     plan = played.each(played.PROGRAM, files, front, [f"mesh plan e{n} --execution-time 2024-01-03T00:30" for n in range(TIMES)])
@@ -59,17 +87,17 @@ def promoted(count):
 
 
 def swept(count):
-    """The time of a janitor that sweeps four versions of so many models, which the fifth one has replaced."""
+    """The seconds of a janitor that sweeps four versions of so many models, which the fifth one has replaced."""
     files, front = played.star(count), played.applied(5)
     return played.each(played.PROGRAM, files, front, ["mesh janitor --execution-time 2024-02-03T00:30"])
 
 
 def main():
-    program = sys.argv[1] if len(sys.argv) > 1 else f"{TOP}/crates/mesh_bench/out/mesh_bench"
+    program = Program("mesh_cases_house", *sys.argv[1:])
     half = recorded(program, 2048)
     full = recorded(program, 4096)
-    print(f"2,048 tables, then {CHANGES:,} changes: {half:.3f} s")
-    print(f"4,096 tables, then {CHANGES:,} changes: {full:.3f} s")
+    print(f"{CHANGES:,} changes over 2,048 tables: {half:.3f} s")
+    print(f"{CHANGES:,} changes over 4,096 tables: {full:.3f} s")
     print(f"growth from half to full: {full / half:.2f}")
     for step, how in ((1, "adjoining"), (2, "every second one")):
         once = forgotten(program, UNITS, step)

@@ -7,13 +7,10 @@ at an earlier moment, which loads the project, reads the book and refuses. Print
 
 Usage: bench/plan.py [lattice] [plans] for one of the two parts; the programs are crates/mesh_cases_plans/out/mesh_cases_plans and
 crates/mesh_rows/out/mesh_rows (`rt run` makes them)."""
-import os
-import subprocess
 import sys
-import tempfile
 
 import played
-from measured import TOP
+from measured import TOP, ran
 
 TIMES = 20
 REFUSED = 7
@@ -21,17 +18,7 @@ HOURS = {200_000: "2023-10-26T08:00", 100_000: "2012-05-29T16:00"}
 
 
 def seconds(program, lines):
-    with tempfile.TemporaryDirectory() as folder:
-        with open(f"{folder}/cases.txt", "w") as file:
-            file.write("\n".join(lines) + "\n")
-        best = None
-        for _ in range(2):
-            child = subprocess.Popen([program], stdout=subprocess.DEVNULL, cwd=folder)
-            _, status, used = os.wait4(child.pid, 0)
-            assert status == 0, status
-            passed = used.ru_utime + used.ru_stime
-            best = passed if best is None else min(best, passed)
-    return best
+    return ran(program, {"cases.txt": "\n".join(lines) + "\n"}, 2)[0]
 
 
 def asked(program, width, height, words):

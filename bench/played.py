@@ -1,34 +1,18 @@
 """Seconds of processor that a step of a script takes, as `mesh_rows` plays it over a project and a warehouse in memory."""
-import os
-import subprocess
-import tempfile
-
-from measured import TOP
+from measured import TOP, ran
 
 PROGRAM = f"{TOP}/crates/mesh_rows/out/mesh_rows"
 
 
 def seconds(program, files, script, last=0, status=0):
     """The least seconds of two runs of a script over an example's files, whose last commands have this status, and all others 0."""
-    with tempfile.TemporaryDirectory() as folder:
-        for path, text in {**files, "script": "\n".join(script) + "\n"}.items():
-            place = f"{folder}/rows/example/{path}"
-            os.makedirs(os.path.dirname(place), exist_ok=True)
-            with open(place, "w") as file:
-                file.write(text)
-        best = None
-        for _ in range(2):
-            child = subprocess.Popen([program], stdout=subprocess.PIPE, cwd=folder)
-            said = child.stdout.read().decode()
-            _, ended, used = os.wait4(child.pid, 0)
-            assert ended == 0, said[-1000:]
-            answered = [line for line in said.splitlines() if line.startswith("status ")]
-            assert len(answered) == sum(line.startswith("mesh ") for line in script), said[:1000]
-            assert all(line.startswith(f"status {status}, ") for line in answered[len(answered) - last :]), said[-1000:]
-            assert all(line.startswith("status 0, ") for line in answered[: len(answered) - last]), said[:1000]
-            passed = used.ru_utime + used.ru_stime
-            best = passed if best is None else min(best, passed)
-    return best
+    example = {**files, "script": "\n".join(script) + "\n"}
+    least, _, said = ran(program, {f"rows/example/{path}": text for path, text in example.items()}, 2)
+    answered = [line for line in said.splitlines() if line.startswith("status ")]
+    assert len(answered) == sum(line.startswith("mesh ") for line in script), said[:1000]
+    assert all(line.startswith(f"status {status}, ") for line in answered[len(answered) - last :]), said[-1000:]
+    assert all(line.startswith("status 0, ") for line in answered[: len(answered) - last]), said[:1000]
+    return least
 
 
 def each(program, files, front, steps, status=0):

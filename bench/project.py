@@ -4,11 +4,9 @@ models that read three of the layer before. Prints seconds of processor and grow
 
 Usage: bench/project.py [PROGRAM], where PROGRAM is crates/mesh_cases_plans/out/mesh_cases_plans if left out (`rt run` makes it)."""
 import os
-import subprocess
 import sys
-import tempfile
 
-from measured import TOP
+from measured import TOP, ran
 
 BYTES = 300
 
@@ -37,23 +35,10 @@ def layers(width, height):
 
 
 def seconds(program, models):
-    with tempfile.TemporaryDirectory() as folder:
-        os.makedirs(f"{folder}/project/models")
-        for number, model in enumerate(models):
-            with open(f"{folder}/project/models/m{number:04}.sql", "w") as file:
-                file.write(model)
-        with open(f"{folder}/cases.txt", "w") as file:
-            file.write("read project\n")
-        best = None
-        for _ in range(3):
-            child = subprocess.Popen([program], stdout=subprocess.PIPE, cwd=folder)
-            said = child.stdout.read()
-            _, status, used = os.wait4(child.pid, 0)
-            assert status == 0, status
-            assert said == f"read project {len(models)}\n".encode(), said
-            passed = used.ru_utime + used.ru_stime
-            best = passed if best is None else min(best, passed)
-    return best
+    files = {f"project/models/m{number:04}.sql": model for number, model in enumerate(models)}
+    least, _, said = ran(program, {**files, "cases.txt": "read project\n"}, 3)
+    assert said == f"read project {len(models)}\n", said
+    return least
 
 
 def main():

@@ -1,33 +1,45 @@
 #!/usr/bin/env python3
-"""Times `mesh_bench`: ranges with 10,000 holes and the units that are missing of 200,000 hours, and the last ticks of
-ten crons at 10,000 moments from 1970 to 9999; and half of each. Prints seconds and growth.
+"""Times `mesh_cases_files`: ranges with 10,000 holes and the units that are missing of 200,000 hours, and the last ticks of
+ten crons at 10,000 moments from 1970 to 9999; and half of each. Each is the time of a file that has these lines eleven times
+without one that has them once, since a line of its own asks for so many ranges or moments. Prints seconds of processor and
+growth.
 
-Usage: bench/time.py [PROGRAM], where PROGRAM is crates/mesh_bench/out/mesh_bench if left out (`rt run` makes it)."""
-import os
-import subprocess
+Usage: bench/time.py [PROGRAM], where PROGRAM is crates/mesh_cases_files/out/mesh_cases_files if left out (`rt run` makes it)."""
 import sys
-import time
 
-TOP = os.path.dirname(os.path.dirname(os.path.abspath(__file__)))
+from measured import Program
+
+HOUR = 3_600
+CRONS = (
+    "@hourly",
+    "@daily",
+    "@weekly",
+    "@monthly",
+    "@yearly",
+    "30 6 * * *",
+    "0 */7 * * *",
+    "0 0 29 2 *",
+    "0 0 13 * 5",
+    "15 12 1-7 6 *",
+)
 
 
-def seconds(program, holes, moments):
-    best = None
-    for _ in range(5):
-        begin = time.monotonic()
-        done = subprocess.run([program, str(holes), str(moments)], capture_output=True, text=True, check=True)
-        passed = time.monotonic() - begin
-        assert done.stdout.startswith(f"{holes} missing"), done.stdout
-        best = passed if best is None else min(best, passed)
-    return best
+def ranges(program, holes):
+    """The seconds of recording 19 of each 20 hours, and of finding the units that are missing."""
+    lines = ["ranges", f"spread 0 {19 * HOUR} {20 * HOUR} {holes}", f"missing-size 0 {20 * HOUR * holes} hour"]
+    return program.each("ranges", lines, f"=> spans {holes}")
+
+
+def ticks(program, moments):
+    lines = [f"floors {cron} | 25340231 {moments}" for cron in CRONS]
+    return program.each("times", lines, "")
 
 
 def main():
-    program = sys.argv[1] if len(sys.argv) > 1 else f"{TOP}/crates/mesh_bench/out/mesh_bench"
-    for name, half, full in (("ranges with holes, and what is missing", (5000, 0), (10000, 0)),
-                             ("last ticks of ten crons", (0, 5000), (0, 10000))):
-        one, two = seconds(program, *half), seconds(program, *full)
-        print(f"{name}: half {one:.3f} s, full {two:.3f} s, growth {two / one:.2f}")
+    program = Program("mesh_cases_files", *sys.argv[1:])
+    for name, measure in (("ranges with holes, and what is missing", ranges), ("last ticks of ten crons", ticks)):
+        half, full = measure(program, 5_000), measure(program, 10_000)
+        print(f"{name}: half {half:.4f} s, full {full:.4f} s, growth {full / half:.2f}")
 
 
 if __name__ == "__main__":

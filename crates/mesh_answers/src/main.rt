@@ -26,7 +26,7 @@
 //! - `waves` computes jobs by several workers (`mesh_wave`): none, two of which one waits for the other at a gate, and 256, and
 //!   shows how many lists of rows there are, and whether each stands at the place of its job.
 //!
-//! `bench/eval.py` runs the program where its own cases lie.
+//! `bench/eval.py` and `bench/text.py` run the program where their own cases lie.
 #![tactic(auto)]
 
 mod asked;

@@ -52,6 +52,14 @@ pub fn own_again(alloc: Global, text: &[u8]) -> Result<Answer, Trouble> {
     }
 }
 
+/// Reads a definition and writes a copy of it.
+fn copy_again(alloc: Global, text: &[u8]) -> Result<Answer, Trouble> {
+    match read_own(alloc, text) {
+        Ok(own) => Ok(compared(text, own_text(alloc, &own.copy()?)?.as_slice())),
+        Err(fault) => Ok(refusal(fault)),
+    }
+}
+
 /// Reads a definition by its former text and writes it so again.
 fn former_again(alloc: Global, text: &[u8]) -> Result<Answer, Trouble> {
     match read_own_old(alloc, text) {
@@ -158,6 +166,22 @@ impl Frame {
         Ok(())
     }
 
+    fn copied(&self, text: &[u8], report: &mut Vec<u8>) -> Result<(), Trouble> {
+        let whole = self.whole(text)?;
+        let answer = copy_again(self.alloc, whole.as_slice())?;
+        put_answer(self.alloc, report, whole.as_slice(), answer)
+    }
+
+    /// Reads a definition, and writes nothing of it.
+    fn read(&self, text: &[u8], report: &mut Vec<u8>) -> Result<(), Trouble> {
+        let word = match read_own(self.alloc, self.whole(text)?.as_slice()) {
+            Ok(_) => b"read",
+            Err(fault) => word_of(refusal(fault)),
+        };
+        report.extend_from_slice(word)?;
+        Ok(())
+    }
+
     fn former(&self, text: &[u8], report: &mut Vec<u8>) -> Result<(), Trouble> {
         let whole = self.whole(text)?;
         let answer = former_again(self.alloc, whole.as_slice())?;
@@ -207,6 +231,10 @@ impl Frame {
             self.own(text, false, report)?;
         } else if word == b"near".as_slice() {
             self.own(text, true, report)?;
+        } else if word == b"copied".as_slice() {
+            self.copied(text, report)?;
+        } else if word == b"read-own".as_slice() {
+            self.read(text, report)?;
         } else if word == b"former".as_slice() {
             self.former(text, report)?;
         } else if word == b"renewed".as_slice() {

@@ -1,5 +1,5 @@
 // Crons and their ticks.
-use mesh_cases::{Trouble, halves, number_of, put_number};
+use mesh_cases::{Trouble, front_word, halves, number_of, put_number};
 use mesh_time::{floor, read_cron, ticks_at, unit_of};
 use mesh_values::{Cron, CronFault, Unit};
 use std::alloc::Global;
@@ -75,6 +75,29 @@ fn put_floor(alloc: Global, text: &[u8], report: &mut Vec<u8>) -> Result<(), Tro
     Ok(())
 }
 
+/// The sum of the last ticks of a cron up to so many moments, which begin with 1970 and are a step apart.
+fn sum_of_floors(cron: &Cron, step: i64, count: i64) -> Result<i64, Trouble> {
+    let mut sum = 0i64;
+    for number in 0..count {
+        let moment = number.saturating_mul(step);
+        if moment < 0 || moment > LAST {
+            return Err(Trouble::Case);
+        }
+        sum = sum.wrapping_add(floor(cron, moment));
+    }
+    Ok(sum)
+}
+
+fn put_floors(alloc: Global, text: &[u8], report: &mut Vec<u8>) -> Result<(), Trouble> {
+    let (cron, moments) = halves(text)?;
+    let (step, count) = front_word(moments);
+    let Ok(cron) = read_cron(cron) else {
+        return Err(Trouble::Case);
+    };
+    let sum = sum_of_floors(&cron, number_of(step)?, number_of(count)?)?;
+    put_number(alloc, report, sum)
+}
+
 /// Makes the call of a word, if it is one of these.
 pub fn call(
     alloc: Global,
@@ -86,6 +109,8 @@ pub fn call(
         read(alloc, text, report)?;
     } else if word == b"floor".as_slice() {
         put_floor(alloc, text, report)?;
+    } else if word == b"floors".as_slice() {
+        put_floors(alloc, text, report)?;
     } else {
         return Ok(false);
     }

@@ -7,15 +7,18 @@
 //! - `day TEXT` and `moment TEXT` read a day or a moment, and `day-text N` and `moment-text N` write one;
 //! - `value CELL` is the moment of a cell, which is `NULL`, a number, a text in single quotes, `day N`, `true` or `false`;
 //! - `cron TEXT` reads a cron, and answers its sets as numbers of bits, a star behind that of a field `*`, and its unit;
-//! - `floor CRON | N` is the last tick of a cron up to a moment, and `tick` follows where the moment is one;
+//! - `floor CRON | N` is the last tick of a cron up to a moment, and `tick` follows where the moment is one; `floors CRON |
+//!   STEP COUNT` is the sum of the last ticks up to that many moments, the first of them 0 and each STEP behind the last;
 //! - `number TEXT`, `truth TEXT` and `lower TEXT` read a number or a truth, and write a text in lower case;
 //! - `cast TYPE CELL` is the cell as another type: `int`, `text`, `date` or `bool`;
 //! - `ranges` begins with no second; `add A B` and `forget A B` change the ranges, and answer their spans; `holds A B` and
-//!   `missing A B UNIT` ask them; `copy` answers the spans of a copy, and whether it is the same as the ranges;
+//!   `missing A B UNIT` ask them; `copy` answers the spans of a copy, and whether it is the same as the ranges; `spread A
+//!   LENGTH STEP COUNT` adds that many ranges from A on, and like `missing-size A B UNIT` answers how many spans there are;
 //! - `around FRONT | BACK` has texts stand between the two from then on; `own TEXT` reads a definition and writes it again;
-//!   `near TEXT` does so too, and then reads each text that has one byte dropped, changed or added; `former TEXT` reads and
-//!   writes the former text of a definition, and `renewed TEXT` is the text that it has now; `list TEXT`, `cell TEXT` and
-//!   `type TEXT` read and write a list, a cell and the type of a column;
+//!   `near TEXT` does so too, and then reads each text that has one byte dropped, changed or added; `copied TEXT` writes a
+//!   copy of it, and `read-own TEXT` nothing; `former TEXT` reads and writes the former text of a definition, and `renewed
+//!   TEXT` is the text that it has now; `list TEXT`, `cell TEXT` and `type TEXT` read and write a list, a cell and the type of
+//!   a column;
 //! - `orphan` begins with no parents, `parent SCHEMA MODEL BYTES` adds one with a fingerprint, and `node TEXT` is the text of
 //!   a definition with its parents;
 //! - `digest TEXT` is the fingerprint of a text in hexadecimal digits.
@@ -33,6 +36,8 @@
 //!   how many faults the object has counted;
 //! - `host-list DIR`, `host-read MOST PATH`, `host-take MOST` and `host-put BYTES` ask the folder of the host that this
 //!   runs in, its input and its output; `host-now` is whether its clock is within the years that a moment has.
+//!
+//! `bench/time.py`, `bench/canon.py` and `bench/text.py` run the program where their own cases lie.
 #![tactic(auto)]
 
 mod answers;

@@ -1,4 +1,5 @@
 // Ranges of seconds.
+use crate::answers::put_count;
 use mesh_cases::{Trouble, front_word, number_of, put_number};
 use mesh_list::{Duplicate, Same};
 use mesh_time::{END_OF_SECONDS, FIRST_SECOND, Ranges};
@@ -44,6 +45,11 @@ fn put_spans(alloc: Global, report: &mut Vec<u8>, spans: &Spans) -> Result<(), T
     Ok(())
 }
 
+/// Adds how many spans there are.
+fn put_size(alloc: Global, report: &mut Vec<u8>, spans: &Spans) -> Result<(), Trouble> {
+    put_count(alloc, report, b"spans", spans.len() as u64)
+}
+
 fn answer(truth: bool) -> &'static [u8] {
     if truth { b"yes" } else { b"no" }
 }
@@ -57,12 +63,27 @@ impl Held {
         }
     }
 
-    fn add(&mut self, text: &[u8]) -> Result<(), Trouble> {
-        let (start, end, _) = two_numbers(text)?;
+    fn add_range(&mut self, start: i64, end: i64) -> Result<(), Trouble> {
         if start >= end {
             return Err(Trouble::Case);
         }
         self.ranges.add(start, end)?;
+        Ok(())
+    }
+
+    fn add(&mut self, text: &[u8]) -> Result<(), Trouble> {
+        let (start, end, _) = two_numbers(text)?;
+        self.add_range(start, end)
+    }
+
+    /// Adds ranges of one length, so many, each of which starts a step behind the one before it.
+    fn spread(&mut self, text: &[u8]) -> Result<(), Trouble> {
+        let (first, length, rest) = two_numbers(text)?;
+        let (step, count, _) = two_numbers(rest)?;
+        for number in 0..count {
+            let start = first.saturating_add(number.saturating_mul(step));
+            self.add_range(start, start.saturating_add(length))?;
+        }
         Ok(())
     }
 
@@ -75,18 +96,14 @@ impl Held {
         Ok(())
     }
 
-    fn missing(&self, text: &[u8], report: &mut Vec<u8>) -> Result<(), Trouble> {
+    fn missing(&self, text: &[u8]) -> Result<Spans, Trouble> {
         let (start, end, unit) = two_numbers(text)?;
         let unit = unit_named(unit)?;
         if start < FIRST_SECOND || end > END_OF_SECONDS {
             return Err(Trouble::Case);
         }
         let schedule = Schedule { start, end, unit };
-        put_spans(
-            self.alloc,
-            report,
-            &self.ranges.missing(self.alloc, &schedule)?,
-        )
+        Ok(self.ranges.missing(self.alloc, &schedule)?)
     }
 
     fn holds(&self, text: &[u8], report: &mut Vec<u8>) -> Result<(), Trouble> {
@@ -126,10 +143,15 @@ impl Held {
     ) -> Result<bool, Trouble> {
         if self.change(word, text)? {
             put_spans(self.alloc, report, self.ranges.spans())?;
+        } else if word == b"spread".as_slice() {
+            self.spread(text)?;
+            put_size(self.alloc, report, self.ranges.spans())?;
         } else if word == b"holds".as_slice() {
             self.holds(text, report)?;
         } else if word == b"missing".as_slice() {
-            self.missing(text, report)?;
+            put_spans(self.alloc, report, &self.missing(text)?)?;
+        } else if word == b"missing-size".as_slice() {
+            put_size(self.alloc, report, &self.missing(text)?)?;
         } else if word == b"copy".as_slice() {
             self.copied(report)?;
         } else {

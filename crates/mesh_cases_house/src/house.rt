@@ -2,7 +2,9 @@
 use crate::changes::change;
 use crate::line::{Line, Named, Owns, parted};
 use crate::owns::add_own;
-use crate::written::{put, put_body, put_book, put_columns, put_fingerprints, put_name, put_world};
+use crate::written::{
+    put, put_body, put_book, put_columns, put_counts, put_fingerprints, put_name, put_world,
+};
 use mesh_book::Book;
 use mesh_cases::{Trouble, cases_of, put_number};
 use mesh_house::{Change, Changes, Fail, MemHouse, Warehouse, WhFail, World, make, make_all};
@@ -89,6 +91,16 @@ impl Stage {
         let answer = make_all(&mut self.house, alloc, copied.as_slice());
         self.list = Seq::new(alloc);
         self.put_house(alloc, answer)
+    }
+
+    /// Makes the changes that are kept themselves, and tells only what the book has then.
+    fn count_all(&mut self, alloc: Global) -> Result<(), Trouble> {
+        let answer = make_all(&mut self.house, alloc, self.list.as_slice());
+        self.list = Seq::new(alloc);
+        if answer.is_err() {
+            return Err(Trouble::Case);
+        }
+        put_counts(alloc, &mut self.report, &self.house.world().book)
     }
 
     /// Tells whether the changes that are kept are all the first.
@@ -214,6 +226,8 @@ impl Stage {
     fn shown(&mut self, line: &Line, owns: &[Named]) -> Result<(), Trouble> {
         if line.is(0, b"make_all") {
             self.change_all(line.alloc())?;
+        } else if line.is(0, b"count_all") {
+            self.count_all(line.alloc())?;
         } else if line.is(0, b"alike") {
             self.alike(line.alloc())?;
         } else if line.is(0, b"fingerprints") {

@@ -39,11 +39,20 @@ fn name_of(alloc: Global, word: &[u8]) -> Result<Name, Trouble> {
     Ok(Name { schema, model })
 }
 
+/// The fingerprint that begins with these numbers, of which the last stands in each place that is left.
+fn fingerprint_of(mark: &[u8]) -> Result<[u8; 32], Trouble> {
+    let mut fingerprint = [0u8; 32];
+    for (at, number) in mark.split(|byte| *byte == b'.').enumerate() {
+        let byte = u8::try_from(number_of(number)?).map_err(|_| Trouble::Case)?;
+        fingerprint.get_mut(at..).ok_or(Trouble::Case)?.fill(byte);
+    }
+    Ok(fingerprint)
+}
+
 fn reference_of(alloc: Global, name: &[u8], mark: &[u8]) -> Result<Ref, Trouble> {
-    let byte = u8::try_from(number_of(mark)?).map_err(|_| Trouble::Case)?;
     Ok(Ref {
         name: name_of(alloc, name)?,
-        fingerprint: [byte; 32],
+        fingerprint: fingerprint_of(mark)?,
     })
 }
 
@@ -59,15 +68,13 @@ fn forget_of(alloc: Global, word: &[u8]) -> Result<Forget, Trouble> {
     Ok(Forget::Range { object, start, end })
 }
 
-/// A reference, and behind an equals sign the number that its fingerprint gets.
+/// A reference, and behind an equals sign the numbers that its fingerprint gets.
 fn rename_of(alloc: Global, word: &[u8]) -> Result<Rename, Trouble> {
     let (old, new) = parted(word, b'=');
     let (name, mark) = parted(old, b'/');
-    let old = reference_of(alloc, name, mark)?;
-    let byte = u8::try_from(number_of(new)?).map_err(|_| Trouble::Case)?;
     Ok(Rename {
-        old,
-        new: [byte; 32],
+        old: reference_of(alloc, name, mark)?,
+        new: fingerprint_of(new)?,
     })
 }
 

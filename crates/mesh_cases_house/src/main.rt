@@ -3,8 +3,9 @@
 //! worked out by hand.
 //!
 //! A step is a line, and a line that has nothing or begins with `#` is none. In both files `own WORD TEXT` has WORD call
-//! the definition with this canonical text. A reference `S.M/N` has the fingerprint of 32 bytes N. All tables have the two
-//! columns `day` and `n`, a row is given by the number that it has in both, and is printed by it.
+//! the definition with this canonical text. A reference `S.M/N` has the fingerprint of 32 bytes N, and one `S.M/N.N..` that of
+//! these bytes, the last of them in all places behind. All tables have the two columns `day` and `n`, a row is given by the
+//! number that it has in both, and is printed by it.
 //!
 //! The steps of `changes.txt`:
 //! - `== TITLE` begins anew with an empty house;
@@ -21,12 +22,12 @@
 //!   `set_pending ENV EXPIRES|none list REF..`,
 //!   `point_view VIEW OBJECT`,
 //!   `forget_units` with items that are an OBJECT, for its marks, or `OBJECT:START:END`,
-//!   `migrate REF=N..`, where the fingerprint gets the bytes N,
+//!   `migrate REF=N..`, where the fingerprint gets the bytes N, or `N.N..` as in a reference,
 //!   and `drop_view`, `finalize`, `expire`, `forget_version`, `drop_object`, `delete_snapshot` and `delete_env` with what
 //!   they are of. The world is printed as the house has it after the change. Where the world's own step makes another one
 //!   of it, a complaint follows;
 //! - `also CHANGE` keeps a change for `make_all`, which makes a copy of those kept, one after another, and prints the
-//!   world;
+//!   world; `count_all` makes those kept themselves, and prints how many snapshots the book has and how many spans;
 //! - `alike` prints whether the changes kept all forget the same or all go by the same map, and makes none of them;
 //! - `version N` has the book go on with that version, and `fingerprints` prints its version, and the fingerprints of its
 //!   snapshots, of their parents and in the lists of its environments;
@@ -43,7 +44,8 @@
 //! - `columns_of OWN` prints a definition with its columns in place of its query, and `sort_rows OWN` a seed with its rows
 //!   sorted.
 //!
-//! It stands on `mesh_base`, `mesh_time`, `mesh_book`, `mesh_house`, `mesh_canon`, `mesh_io` and `mesh_cases`.
+//! `bench/house.py` runs the program where its own cases lie. It stands on `mesh_base`, `mesh_time`, `mesh_book`, `mesh_house`,
+//! `mesh_canon`, `mesh_io` and `mesh_cases`.
 #![tactic(auto)]
 
 mod books;

@@ -173,6 +173,20 @@ pub fn put_book(alloc: Global, line: &mut Vec<u8>, book: &Book) -> Result<(), Tr
     Ok(())
 }
 
+/// How many snapshots a book has, and how many spans its versions.
+pub fn put_counts(alloc: Global, line: &mut Vec<u8>, book: &Book) -> Result<(), Trouble> {
+    let mut spans = 0usize;
+    for version in book.versions.as_slice() {
+        spans = spans.saturating_add(version.ranges.spans().len());
+    }
+    let text = format!(in alloc;
+        "snapshots {}, spans {spans}",
+        book.snapshots.as_slice().len()
+    )?;
+    line.extend_from_slice(text.as_bytes())?;
+    Ok(())
+}
+
 /// The moment, and then all that a world has.
 pub fn put_world(alloc: Global, line: &mut Vec<u8>, world: &World) -> Result<(), Trouble> {
     put_number(alloc, line, world.book.moment)?;

@@ -20,6 +20,8 @@
 //! - `faults.txt`: `N | WHAT`, the line of the fault MN that names WHAT, at byte 10 of `models/m.sql`: a text, a name of two
 //!   parts (5, 17, and 21 for the other fault M17), names with blanks between them (12) or two numbers with ` | ` between
 //!   them (16, 19: of two fingerprints each byte).
+//!
+//! `bench/text.py` runs the program where its own cases lie.
 #![tactic(auto)]
 
 mod answers;
