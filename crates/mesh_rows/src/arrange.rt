@@ -121,7 +121,7 @@ enum Turn {
     Over,
 }
 
-fn turn(snapshot: &mut Snapshot, how: Turn) {
+fn turned(snapshot: &mut Snapshot, how: Turn) {
     match how {
         Turn::Definition => snapshot.own.unit = other_unit(snapshot.own.unit),
         Turn::Parents(refs) => drop(replace(&mut snapshot.parents, refs)),
@@ -134,7 +134,7 @@ fn turn_first(alloc: Global, world: &mut World, how: Turn) {
     let none = Register::from_vec(Vec::new(alloc));
     let mut all = replace(&mut world.book.snapshots, none).into_vec();
     match all.first_mut() {
-        Some(first) => turn(first, how),
+        Some(first) => turned(first, how),
         None => drop(how),
     }
     drop(replace(&mut world.book.snapshots, Register::from_vec(all)));

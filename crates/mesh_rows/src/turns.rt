@@ -244,7 +244,11 @@ struct Whole {
     shown: Vec<u8>,
 }
 
-fn whole<R: Threads + Sync>(rt: &R, stage: &mut Stage, words: &[Str]) -> Result<Whole, Trouble> {
+fn run_whole<R: Threads + Sync>(
+    rt: &R,
+    stage: &mut Stage,
+    words: &[Str],
+) -> Result<Whole, Trouble> {
     let outcome = stage.run(rt, words)?;
     let shown = views_text(stage)?;
     Ok(Whole { outcome, shown })
@@ -349,7 +353,7 @@ fn stop_each<R: Threads + Sync>(
     stopping: &Stopping,
     turns: &mut Turns,
 ) -> Result<u64, Trouble> {
-    match whole(rt, stage, stopping.words) {
+    match run_whole(rt, stage, stopping.words) {
         Ok(whole) => run_stops(rt, stage, stopping, &whole, turns),
         Err(trouble) => Err(trouble),
     }
