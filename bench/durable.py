@@ -34,7 +34,7 @@ SEED = 20240103
 SHOP = f"{TOP}/examples/shop"
 FILE = "warehouse.db"
 # The longest that a command may take: one that takes longer hangs.
-LIMIT = 60
+LIMIT = 600
 INGEST = ["ingest", "raw.orders", "orders.csv"]
 # Thirty days, so that an apply has many changes.
 APPLY = ["apply", "--execution-time", "2024-01-31T00:30"]
