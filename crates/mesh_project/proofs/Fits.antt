@@ -22,11 +22,11 @@ use Rattle.mesh_rules.specs.Relations.{rank_over}
 use Rattle.mesh_order.specs.declared.readers.Ranked.{Ranked}
 use Rattle.mesh_order.specs.declared.readers.Reader.{Reader}
 use Rattle.mesh_order.specs.Order.{AreApart, IsOrder, itself, name_at, place, ranked_cmp}
-use Rattle.mesh_project.specs.declared.earlier.Place.{Place}
-use Rattle.mesh_project.specs.Earlier.{named, place_at}
+use Rattle.mesh_nodes.specs.declared.earlier.Place.{Place}
+use Rattle.mesh_nodes.specs.Earlier.{named, place_at}
 use Rattle.mesh_project.proofs.In.{In, all_below, fits_length, fits_right, of_map}
-use Rattle.mesh_project.proofs.Among.{IsAt, Stands, named_stand}
-use Rattle.mesh_project.proofs.Places.{name_is}
+use Rattle.mesh_nodes.proofs.Among.{IsAt, Stands, named_stand}
+use Rattle.mesh_nodes.proofs.Places.{name_is}
 use Rattle.mesh_project.proofs.Ranks.{Fits, parents_named, rank_is, ranked_total, ranks, within}
 
 got_kept : {X : Type 0} (xs ys : List X) (k : ℕ) → is_some (slice_get xs k) ≡ true → slice_get (xs ++ ys) k ≡ slice_get xs k

@@ -9,7 +9,7 @@ use Rattle.mesh_resolve.specs.Owns.{is_seed}
 use Rattle.mesh_files.specs.declared.project.ModelFile.{ModelFile}
 use Rattle.mesh_files.specs.Kept.{IsReadFile}
 use Rattle.mesh_files.proofs.Kept.{query_kept, schema_kept, start_kept}
-use Rattle.mesh_project.specs.Nodes.{IsWhole}
+use Rattle.mesh_nodes.specs.Nodes.{IsWhole}
 
 same_kind : (k : Kind) → is_seed_kind k ≡ is_seed k
 same_kind Full = refl

@@ -1,15 +1,8 @@
-mod Places
-mod Among
 mod In
 mod Ranks
 mod Fits
-mod Steps
 mod Alone
-mod Loops
-mod Agree
 mod Whole
 mod Meant
 mod Single
 mod Kept
-mod Local
-mod Tables

@@ -12,10 +12,10 @@ use Rattle.mesh_files.specs.declared.faults.LoadFault.{LoadFault}
 use Rattle.mesh_files.specs.declared.faults.LoadFault.TheVariants.{Fault, Folder, Memory}
 use Rattle.mesh_files.specs.declared.project.ModelFile.{ModelFile}
 use Rattle.mesh_files.specs.declared.project.ProjectFiles.{ProjectFiles}
-use Rattle.mesh_project.specs.Apart.{apart}
-use Rattle.mesh_project.specs.Nodes.{nodes_of}
+use Rattle.mesh_nodes.specs.Apart.{apart}
+use Rattle.mesh_nodes.specs.Nodes.{nodes_of}
 use Rattle.mesh_project.specs.Project.{IsMeant, TellsCycle, checked, counted, reader_of}
-use Rattle.mesh_project.proofs.Steps.{refused_on}
+use Rattle.mesh_nodes.proofs.Steps.{refused_on}
 
 pub refuses_itself : (X : Type 0) (fault : LoadFault) → Refuses {X = X} fault (Err fault)
 refuses_itself X (Fault file at kind) = refl

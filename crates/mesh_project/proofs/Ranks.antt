@@ -22,10 +22,10 @@ use Rattle.mesh_rules.specs.Relations.{rank_over}
 use Rattle.mesh_order.specs.declared.readers.Ranked.{Ranked}
 use Rattle.mesh_order.specs.declared.readers.Reader.{Reader}
 use Rattle.mesh_order.specs.Order.{AreApart, IsOrder, above, itself, name_at, parents, place, ranked_cmp, reader_at, reads}
-use Rattle.mesh_project.specs.declared.earlier.Place.{Place}
-use Rattle.mesh_project.specs.Earlier.{named, place_at, place_name, place_of}
+use Rattle.mesh_nodes.specs.declared.earlier.Place.{Place}
+use Rattle.mesh_nodes.specs.Earlier.{named, place_at, place_name, place_of}
 use Rattle.mesh_project.proofs.In.{In, all_below, all_of, fits_left, fits_right, in_contained, in_either, in_filter, in_found, in_got, in_left, in_map, in_range, in_right, of_all, of_filter, of_map}
-use Rattle.mesh_project.proofs.Among.{IsAt, at_place_of, Stands, named_found, named_stand, names_of, place_is_there}
+use Rattle.mesh_nodes.proofs.Among.{IsAt, at_place_of, Stands, named_found, named_stand, names_of, place_is_there}
 
 -- one more than the greatest
 pub least_above : (ns : List ℕ) (most : ℕ) → AllByRecursion (λ n. n + 1 ≤ most) ns → above ns ≤ most

@@ -15,7 +15,7 @@ use Rattle.mesh_files.specs.declared.project.ProjectFiles.{ProjectFiles}
 use Rattle.mesh_files.specs.Loading.{◌>>=◌, Gives}
 use Rattle.mesh_files.proofs.Once.{IsNews, Once, given, once, once_behind}
 use Rattle.mesh_files.proofs.Unique.{all_once}
-use Rattle.mesh_project.specs.Nodes.{nodes_of}
+use Rattle.mesh_nodes.specs.Nodes.{nodes_of}
 use Rattle.mesh_project.specs.Project.{IsLoaded, IsMade, IsMeant, IsOrdered, checked, cycle, meaning, reader_of}
 
 -- an order and a cycle don't go together

@@ -41,17 +41,17 @@ use Rattle.mesh_files.specs.declared.faults.LoadFault.{LoadFault}
 use Rattle.mesh_files.specs.declared.project.ModelFile.{ModelFile}
 use Rattle.mesh_files.specs.declared.project.ProjectFiles.{ProjectFiles}
 use Rattle.mesh_files.specs.Loading.{◌>>=◌, in_file}
-use Rattle.mesh_project.specs.declared.earlier.Place.{Place}
-use Rattle.mesh_project.specs.Earlier.{named, place_name}
-use Rattle.mesh_project.specs.Nodes.{IsWhole, known_before, input_at, inputs_at, known_to, node_over, nodes_of, own_over, parents_of, with_file, with_model}
+use Rattle.mesh_nodes.specs.declared.earlier.Place.{Place}
+use Rattle.mesh_nodes.specs.Earlier.{named, place_name}
+use Rattle.mesh_nodes.specs.Nodes.{IsWhole, known_before, input_at, inputs_at, known_to, node_over, nodes_of, own_over, parents_of, with_file, with_model}
 use Rattle.mesh_project.specs.Project.{reader_of}
-use Rattle.mesh_project.specs.Reads.{text_reads}
-use Rattle.mesh_project.specs.Walk.{along}
-use Rattle.mesh_project.proofs.Agree.{names_agree}
-use Rattle.mesh_project.proofs.Among.{IsAt, Stands, named_ascend, named_stand}
+use Rattle.mesh_nodes.specs.Reads.{text_reads}
+use Rattle.mesh_nodes.specs.Walk.{along}
+use Rattle.mesh_nodes.proofs.Agree.{names_agree}
+use Rattle.mesh_nodes.proofs.Among.{IsAt, Stands, named_ascend, named_stand}
 use Rattle.mesh_project.proofs.Fits.{names_differ, new_fits, nodes_ascend, nodes_few, one_more_fits}
 use Rattle.mesh_project.proofs.In.{In, fits_push, in_got, in_right, of_all}
-use Rattle.mesh_project.proofs.Tables.{named_suffice}
+use Rattle.mesh_nodes.proofs.Tables.{named_suffice}
 use Rattle.mesh_project.proofs.Ranks.{Fits, IsOf, each_of, parents_named, rank_fits, within}
 
 -- the names in a definition are those in its file

@@ -14,9 +14,9 @@ use Rattle.mesh_files.specs.declared.faults.LoadFault.TheVariants.{Fault, Folder
 use Rattle.mesh_files.specs.declared.project.ModelFile.{ModelFile}
 use Rattle.mesh_files.specs.declared.project.ProjectFiles.{ProjectFiles}
 use Rattle.mesh_files.specs.Project.{AreFiles}
-use Rattle.mesh_project.specs.Apart.{apart}
-use Rattle.mesh_project.specs.Nodes.{nodes_of}
-use Rattle.mesh_project.specs.Reads.{text_reads}
+use Rattle.mesh_nodes.specs.Apart.{apart}
+use Rattle.mesh_nodes.specs.Nodes.{nodes_of}
+use Rattle.mesh_nodes.specs.Reads.{text_reads}
 
 -- as many models as a project may have
 abbrev pub counted : List ModelFile → Result (Unit {0}) LoadFault

@@ -16,18 +16,18 @@ ghost use Rattle.mesh_order.specs.declared.readers.Ranked.{Ranked};
 ghost use Rattle.mesh_order.specs.Order.{AreApart, IsOrder};
 ghost use Rattle.mesh_files.specs.declared.project.ModelFile.{ModelFile};
 ghost use Rattle.mesh_files.specs.declared.project.ProjectFiles.{ProjectFiles};
-ghost use Rattle.mesh_project.specs.Nodes.{IsWhole, known_before, known_to, nodes_of, parents_of};
+ghost use Rattle.mesh_nodes.specs.Nodes.{IsWhole, known_before, known_to, nodes_of, parents_of};
 ghost use Rattle.mesh_project.specs.Project.{IsFirstFault, Loads, reader_of};
-ghost use Rattle.mesh_project.specs.Reads.{query_reads};
+ghost use Rattle.mesh_nodes.specs.Reads.{query_reads};
 
 /// A resolved query names the relations of two parts that its text names, as often and in the same order.
-#[tactic(auto, using(crate::proofs::Agree::names_agree))]
+#[tactic(auto, using(mesh_nodes::proofs::Agree::names_agree))]
 pub fn resolved_names_are_those_of_the_text()
     ensures { (known : Known) (surface : Surface) (query : Query) → resolved known surface ≡ Ok query → defn_names (body.Sql query) ≡ query_reads surface }
 {}
 
 /// A model's definition over the models that its query names is that over all models before it.
-#[tactic(auto, using(crate::proofs::Tables::named_suffice))]
+#[tactic(auto, using(mesh_nodes::proofs::Tables::named_suffice))]
 pub fn models_that_are_named_suffice()
     ensures { (sources : List Decl) (nodes : List Node) (f : ModelFile) → own f.text f.seed (known_to sources nodes (parents_of nodes f) f.text.kind) ≡ own f.text f.seed (known_before sources nodes f.text.kind) }
 {}

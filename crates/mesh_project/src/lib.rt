@@ -2,17 +2,12 @@
 //! gives the project that the relation `IsLoaded` says of the files of a folder, or their first fault with its file and
 //! place, and a project is proper by its type's rule: that a resolved query names the relations that its text names, and
 //! that the models in order are a proper project, are laws. It stands on `mesh_files` for the files, on `mesh_order` for
-//! ranks and cycles, on `mesh_resolve` with `mesh_resolve_laws` for definitions, and on `mesh_canon_text` and
-//! `mesh_fingerprint` for fingerprints.
+//! ranks and cycles, on `mesh_nodes` for the models over one another, and on `mesh_resolve_laws` for what is proper.
 #![tactic(auto)]
 
-mod apart;
-mod earlier;
 mod laws;
-mod nodes;
 mod order;
 mod project;
-mod reads;
 
 pub use laws::{
     files_are_one_project, models_in_order_are_a_project, models_that_are_named_suffice,

@@ -4,9 +4,9 @@ ghost use Rattle.mesh_order.specs.Order.{AreApart};
 ghost use Rattle.mesh_files.specs.declared.faults.LoadFault.TheVariants as fault;
 ghost use Rattle.mesh_project.specs.Project.{IsOrdered, cycle, reader_of};
 
-use crate::reads::text_reads;
 use mesh_files::{LoadFault, ModelFile};
 use mesh_list::{Duplicate, Memory, Seq};
+use mesh_nodes::text_reads;
 use mesh_order::{Order, OrderFault, Reader, in_order};
 use mesh_tokens::FaultKind;
 use mesh_values::Names;

@@ -3,14 +3,13 @@ ghost use Rattle.std.specs.List.{AllByRecursion};
 ghost use Rattle.std.specs.Prelude.{IsErrOf};
 ghost use Rattle.mesh_files.specs.Loading.{AsksAs, Gives};
 ghost use Rattle.mesh_files.specs.declared.faults.LoadFault.TheVariants as fault;
-ghost use Rattle.mesh_project.specs.Nodes.{IsWhole};
+ghost use Rattle.mesh_nodes.specs.Nodes.{IsWhole};
 ghost use Rattle.mesh_project.specs.Project.{IsLoaded, IsMeant, checked, counted};
 
-use crate::apart::are_apart;
-use crate::nodes::nodes_of;
 use crate::order::ordered;
 use mesh_files::{LoadFault, ModelFile, ProjectFiles, read_files, too_large};
 use mesh_io::Folder;
+use mesh_nodes::{are_apart, nodes_of};
 use mesh_rules::Project;
 use mesh_values::{MOST_MODELS, Str};
 use std::alloc::Global;

@@ -3,7 +3,7 @@ use Rattle.std.proofs.lemmas.Result.{err_from_is_err_and}
 use Rattle.mesh_rules.specs.Proper.{is_proper}
 use Rattle.mesh_order.specs.Order.{AreApart, IsOrder}
 use Rattle.mesh_files.specs.Loading.{Refuses}
-use Rattle.mesh_project.specs.Nodes.{nodes_of}
+use Rattle.mesh_nodes.specs.Nodes.{nodes_of}
 use Rattle.mesh_project.specs.Project.{TellsCycle, reader_of}
 use Rattle.mesh_project.proofs.Alone.{readers_apart}
 use Rattle.mesh_project.proofs.Meant.{are_alone, are_few, not_checked, not_ordered, not_resolved, all_resolved}
