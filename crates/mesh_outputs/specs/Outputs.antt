@@ -19,7 +19,7 @@ use Rattle.mesh_scope.specs.InSight.{Sight}
 use Rattle.mesh_types.specs.declared.typed.Typed.{Typed}
 use Rattle.mesh_types.specs.Faults.{most_columns, too_many_columns}
 use Rattle.mesh_tokens.specs.Walk.{provided, along}
-use Rattle.mesh_types.specs.Kinds.{or_text}
+use Rattle.mesh_type_rules.specs.Kinds.{or_text}
 use Rattle.mesh_scope.specs.Sight.{answers_to, qualified, column_typed}
 use Rattle.mesh_scope.specs.Expressions.{typed}
 

@@ -31,7 +31,7 @@ use Rattle.mesh_scope.specs.InSight.{Sight}
 use Rattle.mesh_types.specs.declared.typed.Typed.{Typed}
 use Rattle.mesh_types.specs.Faults.{unknown_relation, mismatch}
 use Rattle.mesh_tokens.specs.Walk.{provided, along}
-use Rattle.mesh_types.specs.Kinds.{may_be}
+use Rattle.mesh_type_rules.specs.Kinds.{may_be}
 use Rattle.mesh_types.specs.Forms.{Read}
 use Rattle.mesh_scope.specs.Sight.{nothing_seen, seeing}
 use Rattle.mesh_scope.specs.Expressions.{typed}

@@ -15,7 +15,8 @@ use mesh_parts::Drawn;
 use mesh_scope::{Sight, typed_expression};
 use mesh_surface::{OrExpr, SurfaceFrom, SurfaceJoin, SurfaceRel};
 use mesh_tokens::ReadFault;
-use mesh_types::{Typed, may_be, mismatch, unknown_relation};
+use mesh_type_rules::may_be;
+use mesh_types::{Typed, mismatch, unknown_relation};
 use mesh_values::{ColType, Columns, Name, Str};
 use std::alloc::Global;
 

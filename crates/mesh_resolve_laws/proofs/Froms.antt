@@ -32,7 +32,7 @@ use Rattle.mesh_tokens.specs.Walk.{along}
 use Rattle.mesh_types.specs.declared.typed.Typed.{Typed}
 use Rattle.mesh_types.specs.Faults.{mismatch, unknown_relation}
 use Rattle.mesh_types.specs.Forms.{expr_of}
-use Rattle.mesh_types.specs.Kinds.{may_be}
+use Rattle.mesh_type_rules.specs.Kinds.{may_be}
 use Rattle.mesh_values.specs.declared.values.ColType.TheVariants.{Bool as Truth}
 use Rattle.mesh_scope.specs.declared.sight.Seen.{Seen}
 use Rattle.mesh_scope.specs.declared.sight.Sight.{Sight}

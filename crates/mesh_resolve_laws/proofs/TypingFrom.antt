@@ -28,7 +28,7 @@ use Rattle.mesh_meaning.specs.Tables as tables
 use Rattle.std.specs.Option.{ForSome}
 use Rattle.mesh_values.specs.declared.values.ColType.TheVariants as type
 use Rattle.mesh_types.specs.Faults.{mismatch}
-use Rattle.mesh_types.specs.Kinds.{may_be}
+use Rattle.mesh_type_rules.specs.Kinds.{may_be}
 use Rattle.mesh_scope.specs.Expressions.{typed}
 use Rattle.mesh_types.specs.declared.typed.Typed.{Typed}
 use Rattle.mesh_scope.specs.declared.sight.Seen.{Seen}

@@ -14,7 +14,7 @@ use Rattle.mesh_surface.specs.declared.queries.SurfaceItem.TheVariants.{All, All
 use Rattle.mesh_tokens.specs.Walk.{along}
 use Rattle.mesh_tokens.proofs.Along.{along_append}
 use Rattle.mesh_types.specs.Faults.{duplicate, most_columns, too_many_columns}
-use Rattle.mesh_types.specs.Kinds.{Kind, or_text}
+use Rattle.mesh_type_rules.specs.Kinds.{Kind, or_text}
 use Rattle.mesh_scope.specs.declared.sight.Seen.{Seen}
 use Rattle.mesh_scope.specs.declared.sight.Sight.{Sight}
 use Rattle.mesh_scope.specs.Sight.{answers_to, qualified}
