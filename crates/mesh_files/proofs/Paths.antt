@@ -15,8 +15,9 @@ use Rattle.mesh_statement.specs.declared.kinds.KindText.{KindText}
 use Rattle.mesh_statement.specs.declared.kinds.KindWord.{KindWord}
 use Rattle.mesh_statement.specs.declared.kinds.KindWord.TheVariants as the_kind
 use Rattle.mesh_statement.specs.declared.parts.Parts.{Parts}
-use Rattle.mesh_statement.specs.Brackets.{or_fault}
-use Rattle.mesh_statement.specs.Faults.{broken, bad}
+use Rattle.mesh_statement_bounds.specs.Brackets.{or_fault}
+use Rattle.mesh_statement_bounds.specs.Faults.{broken}
+use Rattle.mesh_statement.specs.Faults.{bad}
 use Rattle.mesh_statement.specs.Kinds.{kind_or_fault, first_at, is_one_of, formed, entries_in, whole, kind_value}
 use Rattle.mesh_statement.specs.Statement.{Read, is_free, is_property, put, admitted, value_size, property, statement}
 use Rattle.mesh_statement.specs.Values.{word, name_of, unit_of, start_of, cron_value, columns_value}

@@ -35,14 +35,17 @@ use Rattle.mesh_tokens.specs.Walk.{along, provided}
 use Rattle.mesh_tokens.specs.declared.faults.ReadFault.{ReadFault}
 use Rattle.mesh_types.specs.Faults.{duplicate}
 use Rattle.mesh_resolve.specs.declared.drawn.Drawing.{Drawing}
-use Rattle.mesh_resolve.specs.declared.known.Common.{Common}
+use Rattle.mesh_outputs.specs.declared.commons.Common.{Common}
 use Rattle.mesh_resolve.specs.declared.known.Known.{Known}
-use Rattle.mesh_resolve.specs.Keys.{keys}
-use Rattle.mesh_resolve.specs.Outputs.{items}
+use Rattle.mesh_outputs.specs.Keys.{keys}
+use Rattle.mesh_outputs.specs.Outputs.{items}
 use Rattle.mesh_resolve.specs.Owns.{Behind, as_declared, body_of, in_order, is_read, own, query_body, sources_read, timed, with_body}
-use Rattle.mesh_resolve.specs.Queries.{cte, is_cte, one_select, resolved, selects, with_sides_alike}
-use Rattle.mesh_resolve.specs.Relations.{columns_named, condition, conditional, dotted, drawing, drawn_from, found_relation, joined, model_columns, nothing_drawn, or_else, or_unknown, relation, relation_by, seeing_relation, selects_of, source_columns, unconditional}
-use Rattle.mesh_resolve.specs.Selects.{is_grouped, resolved_as, right_keys, select, some_condition, walked}
+use Rattle.mesh_outputs.specs.Commons.{is_cte, selects_of}
+use Rattle.mesh_outputs.specs.Sides.{with_sides_alike}
+use Rattle.mesh_resolve.specs.Queries.{cte, one_select, resolved, selects}
+use Rattle.mesh_resolve.specs.Relations.{columns_named, condition, conditional, dotted, drawing, drawn_from, found_relation, joined, model_columns, nothing_drawn, or_else, or_unknown, relation, relation_by, seeing_relation, source_columns, unconditional}
+use Rattle.mesh_parts.specs.Standing.{is_grouped}
+use Rattle.mesh_resolve.specs.Selects.{resolved_as, right_keys, select, some_condition, walked}
 use Rattle.mesh_nodes.specs.Reads.{cte_reads, from_reads, join_reads, of_two_parts, query_reads, rel_reads, select_reads, text_reads, union_reads}
 use Rattle.mesh_nodes.proofs.Agree.{names_agree}
 use Rattle.mesh_nodes.proofs.Places.{name_is}

@@ -1,15 +1,10 @@
 -- Lists of columns of unlike length.
-use Rattle.std.proofs.Common.{◌≡◌, ◌≢◌, suc, Bool, true, false, ◌&&◌, List, [], ◌∷◌, length, refl, ap}
-use Rattle.mesh_base.specs.declared.queries.Item.{Item}
-use Rattle.mesh_base.specs.Outputs.{item_columns}
+use Rattle.std.proofs.Common.{◌≡◌, ◌≢◌, suc, false, ◌&&◌, List, [], ◌∷◌, length, refl, ap}
 use Rattle.mesh_values.specs.declared.values.Column.{Column}
 use Rattle.mesh_values.specs.Picked.{same_text}
-use Rattle.mesh_values.specs.Types.{same_type, have_same_types}
+use Rattle.mesh_values.specs.Types.{same_type}
+use Rattle.mesh_outputs.proofs.Sides.{and_false}
 use Rattle.mesh_resolve.specs.Owns.{are_same_columns}
-
-and_false : (p r : Bool) → false ≡ r → false ≡ (p && r)
-and_false true r is = is
-and_false false r is = refl
 
 pub unlike_columns : (a b : List Column) → length a ≢ length b → false ≡ are_same_columns a b
 unlike_columns [] [] apart = absurd (apart refl)
@@ -18,10 +13,3 @@ unlike_columns (c ∷ cs) [] apart = refl
 unlike_columns (c ∷ cs) (d ∷ ds) apart =
     and_false (same_text c.name d.name) (same_type c.kind d.kind && are_same_columns cs ds)
     (and_false (same_type c.kind d.kind) (are_same_columns cs ds) (unlike_columns cs ds (λ same. apart (ap suc same))))
-
-pub unlike_items : (a b : List Item) → length a ≢ length b → false ≡ have_same_types (item_columns a) (item_columns b)
-unlike_items [] [] apart = absurd (apart refl)
-unlike_items [] (j ∷ js) apart = refl
-unlike_items (i ∷ is) [] apart = refl
-unlike_items (i ∷ is) (j ∷ js) apart =
-    and_false (same_type i.kind j.kind) (have_same_types (item_columns is) (item_columns js)) (unlike_items is js (λ same. apart (ap suc same)))

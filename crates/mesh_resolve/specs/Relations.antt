@@ -1,5 +1,5 @@
 -- What FROM draws: relations by two-part names, and earlier CTEs by one-part names.
-use Rattle.std.specs.Prelude.{ℕ, suc, List, [], ◌∷◌, ◌++◌, Result, Ok, Err, if◌then◌else◌}
+use Rattle.std.specs.Prelude.{ℕ, List, [], ◌∷◌, ◌++◌, Result, Ok, Err}
 use Rattle.std.specs.Option.{option_map}
 use Rattle.std.specs.declared.option.Option.{Option}
 use Rattle.std.specs.declared.option.Option.TheVariants.{None, Some}
@@ -10,14 +10,11 @@ use Rattle.mesh_base.specs.declared.jobs.Input.{Input}
 use Rattle.mesh_base.specs.declared.queries.Join.{Join}
 use Rattle.mesh_base.specs.declared.queries.Join.TheVariants as join
 use Rattle.mesh_base.specs.declared.queries.Rel.{Rel}
-use Rattle.mesh_base.specs.declared.queries.Rel.TheVariants.{Named, Cte}
-use Rattle.mesh_base.specs.declared.queries.Select.{Select}
+use Rattle.mesh_base.specs.declared.queries.Rel.TheVariants.{Named}
 use Rattle.mesh_values.specs.declared.values.ColType.TheVariants.{Bool as Truth}
-use Rattle.mesh_list.specs.Keyed.{first_at, found}
+use Rattle.mesh_list.specs.Keyed.{found}
 use Rattle.mesh_base.specs.Keys.{input_name}
-use Rattle.mesh_values.specs.Names.{name_cmp, text_cmp}
-use Rattle.mesh_values.specs.Picked.{same_text}
-use Rattle.mesh_base.specs.Outputs.{select_columns}
+use Rattle.mesh_values.specs.Names.{name_cmp}
 use Rattle.mesh_surface.specs.declared.expressions.OrExpr.{OrExpr}
 use Rattle.mesh_surface.specs.declared.queries.SurfaceFrom.{SurfaceFrom}
 use Rattle.mesh_surface.specs.declared.queries.SurfaceJoin.{SurfaceJoin}
@@ -25,15 +22,16 @@ use Rattle.mesh_surface.specs.declared.queries.SurfaceJoin.TheVariants as writte
 use Rattle.mesh_surface.specs.declared.queries.SurfaceRel.{SurfaceRel}
 use Rattle.mesh_tokens.specs.Gives.{◌>>=◌}
 use Rattle.mesh_tokens.specs.declared.faults.ReadFault.{ReadFault}
+use Rattle.mesh_outputs.specs.declared.commons.Common.{Common}
+use Rattle.mesh_outputs.specs.Commons.{Found, cte_named}
+use Rattle.mesh_parts.specs.declared.parts.Drawn.{Drawn}
 use Rattle.mesh_resolve.specs.declared.known.Known.{Known}
-use Rattle.mesh_resolve.specs.declared.known.Common.{Common}
-use Rattle.mesh_resolve.specs.declared.drawn.Drawn.{Drawn}
 use Rattle.mesh_resolve.specs.declared.drawn.Drawing.{Drawing}
 use Rattle.mesh_scope.specs.InSight.{Sight}
 use Rattle.mesh_types.specs.declared.typed.Typed.{Typed}
 use Rattle.mesh_types.specs.Faults.{unknown_relation, mismatch}
 use Rattle.mesh_tokens.specs.Walk.{provided, along}
-use Rattle.mesh_types.specs.Kinds.{may_be}
+use Rattle.mesh_type_rules.specs.Kinds.{may_be}
 use Rattle.mesh_types.specs.Forms.{Read}
 use Rattle.mesh_scope.specs.Sight.{nothing_seen, seeing}
 use Rattle.mesh_scope.specs.Expressions.{typed}
@@ -56,24 +54,9 @@ or_else (Some x) other = Some x
 abbrev pub columns_named : Known → Name → Option (List Column)
 columns_named known name = or_else (model_columns known.models name) (source_columns known.sources name)
 
-abbrev pub selects_of : Common → List Select
-selects_of c = c.selects
-
--- CTEs are found by their names
-abbrev pub common_name : Common → List ℕ
-common_name c = c.name
-
--- the place of the first CTE of that name
-abbrev pub place_named : List ℕ → List Common → Option ℕ
-place_named name ctes = first_at text_cmp common_name name ctes
-
 -- `schema.model`, as it is printed
 abbrev pub dotted : List ℕ → List ℕ → List ℕ
 dotted schema name = schema ++ 46 ∷ name
-
--- a relation that is there, with its columns
-abbrev pub Found : Type 0
-Found = Rel × List Column
 
 abbrev pub or_unknown : ℕ → List ℕ → Option Found → Result Found ReadFault
 or_unknown at name None = Err (unknown_relation at name)
@@ -81,11 +64,6 @@ or_unknown at name (Some found) = Ok found
 
 abbrev pub found_relation : Name → List Column → Found
 found_relation name columns = (Named name, columns)
-
--- the first CTE of that name, by its place
-abbrev pub cte_named : ℕ → List Common → List ℕ → Option Found
-cte_named place [] name = None
-cte_named place (c ∷ cs) name = if same_text c.name name then Some (Cte place, select_columns c.selects) else cte_named (suc place) cs name
 
 abbrev pub two_part : Known → ℕ → List ℕ → List ℕ → Result Found ReadFault
 two_part known at schema name =

@@ -1,27 +1,24 @@
 // The walk through a query: its CTEs in order, its SELECTs, and then the sides of each UNION ALL.
 ghost use Rattle.std.specs.Prelude.{◌≡◌, [], map, IfOk};
-ghost use Rattle.std.specs.List.{list_all};
-ghost use Rattle.mesh_base.specs.Outputs.{item_columns};
 ghost use Rattle.mesh_tokens.specs.Gives.{Gives};
 ghost use Rattle.mesh_tokens.specs.Walk.{along};
-ghost use Rattle.mesh_values.specs.Types.{have_same_types};
-ghost use Rattle.mesh_resolve.specs.Leads.{Leads};
-ghost use Rattle.mesh_resolve.specs.Relations.{selects_of};
-ghost use Rattle.mesh_resolve.specs.Queries.{are_sides_alike, cte, resolved, selects, with_sides_alike};
+ghost use Rattle.mesh_outputs.specs.Leads.{Leads};
+ghost use Rattle.mesh_outputs.specs.Commons.{selects_of};
+ghost use Rattle.mesh_resolve.specs.Queries.{cte, resolved, selects};
 
 use crate::catalog::Catalog;
-use crate::faults::duplicate;
-use crate::known::{Common, Commons, Known};
+use crate::known::Known;
 use crate::selects::select;
-use mesh_base::{Ctes, Item, Query, Select, Selects};
+use mesh_base::{Ctes, Query, Selects};
 use mesh_list::{Duplicate, Memory, Seq};
+use mesh_outputs::{Common, Commons, with_sides_alike};
+use mesh_parts::duplicate;
 use mesh_surface::{Surface, SurfaceCte, SurfaceUnion};
 use mesh_tokens::ReadFault;
-use mesh_types::mismatch;
 use std::alloc::Global;
 
 // The sides of a UNION ALL.
-#[tactic(auto, using(crate::proofs::Steps::none_along, crate::proofs::Steps::one_more, crate::proofs::Steps::stops, crate::proofs::Steps::all_along), unfolding(crate::specs::Queries::selects))]
+#[tactic(auto, using(mesh_outputs::proofs::Steps::none_along, mesh_outputs::proofs::Steps::one_more, mesh_outputs::proofs::Steps::stops, mesh_outputs::proofs::Steps::all_along), unfolding(crate::specs::Queries::selects))]
 fn selects(
     alloc: Global,
     known: &Catalog,
@@ -51,7 +48,7 @@ fn cte(alloc: Global, known: &Catalog, done: &mut Commons, c: &SurfaceCte) -> Re
     Ok(())
 }
 
-#[tactic(auto, using(crate::proofs::Steps::none_along, crate::proofs::Steps::one_more, crate::proofs::Steps::stops, crate::proofs::Steps::all_along))]
+#[tactic(auto, using(mesh_outputs::proofs::Steps::none_along, mesh_outputs::proofs::Steps::one_more, mesh_outputs::proofs::Steps::stops, mesh_outputs::proofs::Steps::all_along))]
 fn ctes(alloc: Global, known: &Catalog, all: &[SurfaceCte]) -> Result<Commons, ReadFault>
     ensures { Gives result (along (cte known.now) [] all.now) }
 {
@@ -60,49 +57,6 @@ fn ctes(alloc: Global, known: &Catalog, all: &[SurfaceCte]) -> Result<Commons, R
         cte(alloc, known, &mut done, c)?;
     }
     Ok(done)
-}
-
-// Whether two lists of items have as many items, of the same types in the same order.
-#[tactic(auto, using(crate::proofs::Sides::unlike_items))]
-fn have_same_types(a: &[Item], b: &[Item]) -> bool
-    ensures { result ≡ have_same_types (item_columns a.now) (item_columns b.now) }
-{
-    if a.len() != b.len() {
-        return false;
-    }
-    for i in 0..a.len() {
-        if a[i].kind != b[i].kind {
-            return false;
-        }
-    }
-    true
-}
-
-fn are_sides_alike(all: &[Select]) -> bool
-    ensures { result ≡ are_sides_alike all.now }
-{
-    match all {
-        [] => true,
-        [first, ..] => {
-            for s in all {
-                if !have_same_types(first.items.as_slice(), s.items.as_slice()) {
-                    return false;
-                }
-            }
-            true
-        }
-    }
-}
-
-fn are_all_alike(ctes: &[Selects]) -> bool
-    ensures { result ≡ list_all are_sides_alike ctes.now }
-{
-    for c in ctes {
-        if !are_sides_alike(c.as_slice()) {
-            return false;
-        }
-    }
-    true
 }
 
 // The CTEs by their places.
@@ -114,17 +68,6 @@ fn by_place(alloc: Global, ctes: Commons) -> Result<Ctes, Memory>
         made.push(c.selects)?;
     }
     Ok(made)
-}
-
-// The query, if the sides of each UNION ALL are alike.
-fn with_sides_alike(ctes: Ctes, selects: Selects) -> Result<Query, ReadFault>
-    ensures { Gives result (with_sides_alike ctes selects) }
-{
-    if are_all_alike(ctes.as_slice()) && are_sides_alike(selects.as_slice()) {
-        Ok(Query { ctes, selects })
-    } else {
-        Err(mismatch(0))
-    }
 }
 
 /// The query with its names and types, or its first fault: CTEs in order, then the SELECTs, and at last the sides of

@@ -2,20 +2,21 @@
 ghost use Rattle.std.specs.Prelude.{◌≡◌, ◌++◌, ◌∷◌, [], IfOk, OnOk};
 ghost use Rattle.mesh_tokens.specs.Gives.{Gives};
 ghost use Rattle.mesh_scope.specs.Sight.{seeing};
-ghost use Rattle.mesh_resolve.specs.Relations.{condition, conditional, cte_named, dotted, drawn_from, item_drawn, joined, name_in_from, relation, two_part, unconditional};
+ghost use Rattle.mesh_resolve.specs.Relations.{condition, conditional, dotted, drawn_from, item_drawn, joined, name_in_from, relation, two_part, unconditional};
 ghost use Rattle.mesh_tokens.specs.Walk.{along};
-ghost use Rattle.mesh_resolve.specs.Leads.{Leads};
+ghost use Rattle.mesh_outputs.specs.Leads.{Leads};
 
 use crate::catalog::Catalog;
-use crate::drawn::{Drawing, Drawn};
-use crate::known::Commons;
+use crate::drawn::Drawing;
 use mesh_base::{Join, Rel};
-use mesh_columns::select_columns;
 use mesh_list::{Duplicate, Memory, Seq, both};
+use mesh_outputs::{Commons, cte_named};
+use mesh_parts::Drawn;
 use mesh_scope::{Sight, typed_expression};
 use mesh_surface::{OrExpr, SurfaceFrom, SurfaceJoin, SurfaceRel};
 use mesh_tokens::ReadFault;
-use mesh_types::{Typed, may_be, mismatch, unknown_relation};
+use mesh_type_rules::may_be;
+use mesh_types::{Typed, mismatch, unknown_relation};
 use mesh_values::{ColType, Columns, Name, Str};
 use std::alloc::Global;
 
@@ -48,21 +49,6 @@ fn dotted(schema: &Str, name: &Str) -> Result<Str, Memory>
     made.push(b'.')?;
     made.append(name)?;
     Ok(made)
-}
-
-// The first CTE of that name, by its place.
-#[tactic(auto, using(crate::proofs::Places::named_at))]
-fn cte_named(alloc: Global, ctes: &Commons, name: &Str) -> Result<Option<(Rel, Columns)>, Memory>
-    ensures { IfOk result (λ found. found ≡ cte_named 0 ctes.now name.now) }
-{
-    let Some(place) = ctes.place(name) else {
-        return Ok(None);
-    };
-    if place > 0xffff_ffff {
-        return Err(Memory);
-    }
-    let columns = select_columns(alloc, ctes.as_slice()[place].selects.as_slice())?;
-    Ok(Some((Rel::Cte(place as u32), columns)))
 }
 
 fn two_part(known: &Catalog, at: u64, schema: &Str, name: &Str) -> Result<(Rel, Columns), ReadFault>
@@ -185,7 +171,7 @@ fn joined(
 }
 
 // Further FROM items.
-#[tactic(auto, using(crate::proofs::Steps::none_along, crate::proofs::Steps::one_more, crate::proofs::Steps::stops, crate::proofs::Steps::all_along))]
+#[tactic(auto, using(mesh_outputs::proofs::Steps::none_along, mesh_outputs::proofs::Steps::one_more, mesh_outputs::proofs::Steps::stops, mesh_outputs::proofs::Steps::all_along))]
 fn all_joined(
     alloc: Global,
     known: &Catalog,

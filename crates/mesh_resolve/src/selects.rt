@@ -3,35 +3,20 @@ ghost use Rattle.std.specs.Prelude.{◌≡◌, map, IfOk};
 ghost use Rattle.std.specs.Option.{option_map};
 ghost use Rattle.mesh_tokens.specs.Gives.{Gives};
 ghost use Rattle.mesh_types.specs.Forms.{expr_of};
-ghost use Rattle.mesh_resolve.specs.Outputs.{resolved_item};
-ghost use Rattle.mesh_resolve.specs.Selects.{from_item, resolved_as, right_keys, select, some_condition, stands, walked};
+ghost use Rattle.mesh_resolve.specs.Selects.{from_item, resolved_as, right_keys, select, some_condition, walked};
 
-use crate::apart::{items_apart, outputs_apart};
 use crate::catalog::Catalog;
-use crate::drawn::{Drawing, Drawn};
-use crate::grouping::{is_grouped, keeps_groups};
-use crate::keys::{Key, key_exprs, keys};
-use crate::known::Commons;
-use crate::outputs::{Output, items};
+use crate::drawn::Drawing;
 use crate::relations::{condition, drawn_from};
-use mesh_base::{Expr, FromItem, Item, Select};
+use mesh_base::{Expr, FromItem, Select};
 use mesh_list::{Memory, Seq, together};
+use mesh_outputs::{Commons, group_keys, items, key_exprs, resolved_items};
+use mesh_parts::{Drawn, Walked, is_grouped, stands};
 use mesh_scope::Sight;
 use mesh_surface::{OrExpr, SurfaceSelect};
 use mesh_tokens::ReadFault;
 use mesh_types::Typed;
-use mesh_values::ColType;
 use std::alloc::Global;
-
-/// The parts of a SELECT, with their columns and types.
-#[derive(Drop)]
-pub struct Walked {
-    pub from: Seq<Drawn>,
-    pub filter: Option<Typed>,
-    pub outputs: Seq<Output>,
-    pub keys: Seq<Key>,
-    pub having: Option<Typed>,
-}
 
 fn some_condition(
     alloc: Global,
@@ -61,7 +46,7 @@ fn parts_of(
     let Drawing { sight, drawn } = drawn_from(alloc, known, ctes, &s.from)?;
     let filter = some_condition(alloc, &sight, &s.filter)?;
     let outputs = items(alloc, &sight, s.items.as_slice())?;
-    let keys = keys(alloc, &sight, outputs.as_slice(), s.keys.as_slice())?;
+    let keys = group_keys(alloc, &sight, outputs.as_slice(), s.keys.as_slice())?;
     let having = some_condition(alloc, &sight, &s.having)?;
     Ok(Walked {
         from: drawn,
@@ -82,28 +67,6 @@ fn expr_of(t: Option<Typed>) -> Option<Expr>
             Some(expr.into_inner())
         }
     }
-}
-
-fn resolved_item(o: Output) -> Item
-    ensures { result ≡ resolved_item o }
-{
-    let Output { name, typed, .. } = o;
-    let Typed { kind, expr, .. } = typed;
-    Item {
-        name,
-        kind: kind.unwrap_or(ColType::Text),
-        expr: expr.into_inner(),
-    }
-}
-
-fn resolved_items(alloc: Global, outputs: Seq<Output>) -> Result<Seq<Item>, Memory>
-    ensures { IfOk result (λ made. made ≡ map resolved_item outputs) }
-{
-    let mut made = Seq::new(alloc);
-    for o in outputs.into_vec() {
-        made.push(resolved_item(o))?;
-    }
-    Ok(made)
 }
 
 fn from_item(d: Drawn) -> FromItem
@@ -160,14 +123,6 @@ fn resolved_as(
             Err(Memory)
         }
     }
-}
-
-fn stands(alloc: Global, grouped: bool, keys: &[Expr], w: &Walked) -> Result<(), ReadFault>
-    ensures { Gives result (stands grouped keys.now w.now) }
-{
-    keeps_groups(alloc, grouped, keys, w)?;
-    outputs_apart(alloc, w.outputs.as_slice())?;
-    items_apart(alloc, w.from.as_slice())
 }
 
 fn right_keys(alloc: Global, w: &Walked) -> Result<Seq<Expr>, ReadFault>

@@ -32,18 +32,19 @@ use Rattle.mesh_tokens.specs.Walk.{along}
 use Rattle.mesh_types.specs.declared.typed.Typed.{Typed}
 use Rattle.mesh_types.specs.Faults.{mismatch, unknown_relation}
 use Rattle.mesh_types.specs.Forms.{expr_of}
-use Rattle.mesh_types.specs.Kinds.{may_be}
+use Rattle.mesh_type_rules.specs.Kinds.{may_be}
 use Rattle.mesh_values.specs.declared.values.ColType.TheVariants.{Bool as Truth}
 use Rattle.mesh_scope.specs.declared.sight.Seen.{Seen}
 use Rattle.mesh_scope.specs.declared.sight.Sight.{Sight}
 use Rattle.mesh_scope.specs.Expressions.{typed}
 use Rattle.mesh_resolve.specs.declared.drawn.Drawing.{Drawing}
-use Rattle.mesh_resolve.specs.declared.drawn.Drawn.{Drawn}
-use Rattle.mesh_resolve.specs.declared.known.Common.{Common}
+use Rattle.mesh_parts.specs.declared.parts.Drawn.{Drawn}
+use Rattle.mesh_outputs.specs.declared.commons.Common.{Common}
 use Rattle.mesh_resolve.specs.declared.known.Known.{Known}
-use Rattle.mesh_resolve.specs.Relations.{Found, columns_named, condition, conditional, decl_name, drawing, drawn_from, dotted, found_relation, item_drawn, joined, model_columns, nothing_drawn, or_else, or_unknown, place_named, relation, relation_by, seeing_relation, selects_of, source_columns, unconditional}
+use Rattle.mesh_outputs.specs.Commons.{Found, place_named, selects_of}
+use Rattle.mesh_resolve.specs.Relations.{columns_named, condition, conditional, decl_name, drawing, drawn_from, dotted, found_relation, item_drawn, joined, model_columns, nothing_drawn, or_else, or_unknown, relation, relation_by, seeing_relation, source_columns, unconditional}
 use Rattle.mesh_resolve.specs.Selects.{from_item}
-use Rattle.mesh_resolve.proofs.Places.{at_place, named_at, relation_of}
+use Rattle.mesh_outputs.proofs.Places.{at_place, named_at, relation_of}
 use Rattle.mesh_resolve_laws.specs.Sight.{known_relations, model_relation}
 use Rattle.mesh_resolve_laws.proofs.Good.{AllByRecursion-push, Good, any, along_good, each_weaker, given, provided_good, refused, then_good}
 use Rattle.mesh_resolve_laws.proofs.Sees.{Standing, Stands, typed_seen}

@@ -27,8 +27,8 @@ use Rattle.mesh_surface.specs.declared.signs.AddSign.{AddSign}
 use Rattle.mesh_surface.specs.declared.signs.AddSign.TheVariants as sign
 use Rattle.mesh_surface.specs.declared.signs.Cmp.{Cmp}
 use Rattle.mesh_surface.specs.declared.signs.Cmp.TheVariants as cmp
-use Rattle.mesh_types.specs.Forms.{sum_kind, sum_op, compare_op}
-use Rattle.mesh_types.specs.Kinds.{Kind, may_be, are_alike, first_kind, are_one_kind}
+use Rattle.mesh_type_rules.specs.Kinds.{sum_kind, Kind, may_be, are_alike, first_kind, are_one_kind}
+use Rattle.mesh_types.specs.Forms.{sum_op, compare_op}
 use Rattle.mesh_resolve_laws.specs.Typed.{HasKind}
 
 no : false ≡ true → ⊥

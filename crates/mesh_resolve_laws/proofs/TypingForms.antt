@@ -35,8 +35,9 @@ use Rattle.mesh_base.proofs.Equal.{exact, is_equality}
 use Rattle.mesh_meaning.proofs.Nodes as nodes
 use Rattle.mesh_types.specs.declared.typed.Typed.{Typed}
 use Rattle.mesh_types.specs.Faults.{mismatch, too_large_number, largest_number}
-use Rattle.mesh_types.specs.Kinds.{Kind, may_be, are_alike, first_kind, are_one_kind, kind_of, is_date, as_date, dated}
-use Rattle.mesh_types.specs.Forms.{Read, leaf, expr_of, over_two, over_one, uniform, either, both, joined, multiplied, added, sum_kind, sum_op, sum_of_kind, negated, denied, null_test, turned, compare_op, compared, compared_as_they_are, between, within, range, one_of, among, member, are_all_alike, cast, may_cast, called, unary, alternatives, call, aggregate, only, counted, summed, extreme, starred, distinct, cased, arm, test, when, else_or_null, values_of, choice, case_of}
+use Rattle.mesh_type_rules.specs.Kinds.{Kind, may_be, are_alike, first_kind, are_one_kind, sum_kind, may_cast}
+use Rattle.mesh_types.specs.Kinds.{kind_of, is_date, as_date, dated}
+use Rattle.mesh_types.specs.Forms.{Read, leaf, expr_of, over_two, over_one, uniform, either, both, joined, multiplied, added, sum_op, sum_of_kind, negated, denied, null_test, turned, compare_op, compared, compared_as_they_are, between, within, range, one_of, among, member, are_all_alike, cast, called, unary, alternatives, call, aggregate, only, counted, summed, extreme, starred, distinct, cased, arm, test, when, else_or_null, values_of, choice, case_of}
 use Rattle.mesh_scope.specs.Expressions.{number}
 use Rattle.mesh_resolve_laws.specs.Typed.{HasKind, RowFits, ScopeFits, HasTypeOver}
 use Rattle.mesh_resolve_laws.proofs.TypingCells as cells

@@ -28,16 +28,17 @@ use Rattle.mesh_meaning.specs.Tables as tables
 use Rattle.std.specs.Option.{ForSome}
 use Rattle.mesh_values.specs.declared.values.ColType.TheVariants as type
 use Rattle.mesh_types.specs.Faults.{mismatch}
-use Rattle.mesh_types.specs.Kinds.{may_be}
+use Rattle.mesh_type_rules.specs.Kinds.{may_be}
 use Rattle.mesh_scope.specs.Expressions.{typed}
 use Rattle.mesh_types.specs.declared.typed.Typed.{Typed}
 use Rattle.mesh_scope.specs.declared.sight.Seen.{Seen}
 use Rattle.mesh_scope.specs.declared.sight.Sight.{Sight}
-use Rattle.mesh_resolve.specs.declared.drawn.Drawn.{Drawn}
+use Rattle.mesh_parts.specs.declared.parts.Drawn.{Drawn}
 use Rattle.mesh_resolve.specs.declared.drawn.Drawing.{Drawing}
 use Rattle.mesh_resolve.specs.declared.known.Known.{Known}
-use Rattle.mesh_resolve.specs.declared.known.Common.{Common}
-use Rattle.mesh_resolve.specs.Relations.{Found, columns_named, condition, conditional, cte_named, dotted, drawing, drawn_from, found_relation, item_drawn, joined, name_in_from, nothing_drawn, or_unknown, relation, relation_by, seeing_relation, unconditional}
+use Rattle.mesh_outputs.specs.declared.commons.Common.{Common}
+use Rattle.mesh_outputs.specs.Commons.{Found, cte_named}
+use Rattle.mesh_resolve.specs.Relations.{columns_named, condition, conditional, dotted, drawing, drawn_from, found_relation, item_drawn, joined, name_in_from, nothing_drawn, or_unknown, relation, relation_by, seeing_relation, unconditional}
 use Rattle.mesh_resolve_laws.specs.Typed.{HasColumns, Fills}
 use Rattle.mesh_resolve_laws.proofs.Good.{Good, along_good}
 use Rattle.mesh_resolve_laws.proofs.TypingRows.{TableFits}

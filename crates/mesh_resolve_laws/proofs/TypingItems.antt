@@ -14,14 +14,14 @@ use Rattle.mesh_surface.specs.declared.queries.SurfaceItem.TheVariants.{All, All
 use Rattle.mesh_tokens.specs.Walk.{along}
 use Rattle.mesh_tokens.proofs.Along.{along_append}
 use Rattle.mesh_types.specs.Faults.{duplicate, most_columns, too_many_columns}
-use Rattle.mesh_types.specs.Kinds.{Kind, or_text}
+use Rattle.mesh_type_rules.specs.Kinds.{Kind, or_text}
 use Rattle.mesh_scope.specs.declared.sight.Seen.{Seen}
 use Rattle.mesh_scope.specs.declared.sight.Sight.{Sight}
 use Rattle.mesh_scope.specs.Sight.{answers_to, qualified}
 use Rattle.mesh_scope.specs.Expressions.{typed}
-use Rattle.mesh_resolve.specs.declared.outputs.Output.{Output}
-use Rattle.mesh_resolve.specs.Apart.{Taken, new_output, with_name}
-use Rattle.mesh_resolve.specs.Outputs.{all_of_one, expanded, item, items, output, resolved_item, starred, within_limit}
+use Rattle.mesh_outputs.specs.declared.outputs.Output.{Output}
+use Rattle.mesh_parts.specs.Apart.{Taken, new_output, with_name}
+use Rattle.mesh_outputs.specs.Outputs.{all_of_one, expanded, item, items, output, resolved_item, starred, within_limit}
 use Rattle.mesh_resolve_laws.specs.Typed.{HasTypeOver, HasColumns}
 use Rattle.mesh_resolve_laws.proofs.Good.{Good, along_good}
 use Rattle.mesh_resolve_laws.proofs.TypingForms.{held, passed}

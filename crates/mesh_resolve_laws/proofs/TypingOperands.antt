@@ -21,8 +21,8 @@ use Rattle.mesh_surface.specs.declared.signs.AddSign.{AddSign}
 use Rattle.mesh_surface.specs.declared.signs.AddSign.TheVariants as sign
 use Rattle.mesh_surface.specs.declared.signs.Cmp.{Cmp}
 use Rattle.mesh_surface.specs.declared.signs.Cmp.TheVariants as cmp
-use Rattle.mesh_types.specs.Forms.{sum_kind, sum_op, compare_op, casts, may_cast}
-use Rattle.mesh_types.specs.Kinds.{Kind, are_alike, may_be}
+use Rattle.mesh_type_rules.specs.Kinds.{sum_kind, casts, may_cast, Kind, are_alike, may_be}
+use Rattle.mesh_types.specs.Forms.{sum_op, compare_op}
 use Rattle.mesh_resolve_laws.specs.Operands.{Part, ArmPart, are_both_of, are_of_one_type, agg_fits, cast_takes, func_takes, node_fits, op_takes, operands_fit, when_fits, when_operands_fit}
 use Rattle.mesh_resolve_laws.specs.Typed.{HasKind}
 use Rattle.mesh_resolve_laws.proofs.TypingCells.{taken}

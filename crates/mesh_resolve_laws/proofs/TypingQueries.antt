@@ -24,9 +24,10 @@ use Rattle.mesh_csv.specs.Fits.{fits, is_of}
 use Rattle.mesh_meaning.specs.Sel.{Sel, cte_input, cte_inputs, select_rows, union_rows}
 use Rattle.mesh_types.specs.Faults.{duplicate, mismatch}
 use Rattle.mesh_resolve.specs.declared.known.Known.{Known}
-use Rattle.mesh_resolve.specs.declared.known.Common.{Common}
-use Rattle.mesh_resolve.specs.Queries.{are_sides_alike, cte, has_kinds_of, is_cte, one_select, resolved, selects, with_sides_alike}
-use Rattle.mesh_resolve.specs.Relations.{selects_of}
+use Rattle.mesh_outputs.specs.declared.commons.Common.{Common}
+use Rattle.mesh_outputs.specs.Commons.{is_cte, selects_of}
+use Rattle.mesh_outputs.specs.Sides.{are_sides_alike, has_kinds_of, with_sides_alike}
+use Rattle.mesh_resolve.specs.Queries.{cte, one_select, resolved, selects}
 use Rattle.mesh_resolve.specs.Selects.{select}
 use Rattle.mesh_resolve_laws.specs.Typed.{Suits}
 use Rattle.mesh_resolve_laws.specs.Evaluated.{ctes_fit, query_operands_fit, select_operands_fit}

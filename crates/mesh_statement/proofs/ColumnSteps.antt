@@ -4,7 +4,8 @@ use Rattle.std.specs.declared.option.Option.{Option}
 use Rattle.std.specs.declared.option.Option.TheVariants.{None, Some}
 use Rattle.mesh_values.specs.declared.values.Column.{Column}
 use Rattle.mesh_tokens.specs.declared.tokens.Token.{Token}
-use Rattle.mesh_statement.specs.Values.{◌>>=◌, one_column, columns_from}
+use Rattle.mesh_statement_bounds.specs.Found.{◌>>=◌}
+use Rattle.mesh_statement.specs.Values.{one_column, columns_from}
 
 left : (n i : ℕ) → i < n → n - i ≡ suc (n - (i + 1))
 left n i lt = omega arith

@@ -4,7 +4,9 @@ use Rattle.mesh_tokens.specs.Gives.{◌>>=◌}
 use Rattle.mesh_tokens.specs.declared.faults.ReadFault.{ReadFault}
 use Rattle.mesh_tokens.specs.declared.tokens.Token.{Token}
 use Rattle.mesh_statement.specs.declared.parts.Parts.{Parts}
-use Rattle.mesh_statement.specs.Faults.{broken, provided, is_sign, is_word}
+use Rattle.mesh_statement_bounds.specs.Faults.{broken}
+use Rattle.mesh_statement_bounds.specs.Signs.{is_sign}
+use Rattle.mesh_statement.specs.Faults.{provided, is_word}
 use Rattle.mesh_statement.specs.Statement.{Read, no_parts, property, expect, begins, closes, goes_on, one_property, properties, model_word, statement}
 
 pub bound : {A B : Type 0} (r : Result A ReadFault) (next : A → Result B ReadFault) (y : B) → (r >>= next) ≡ Ok y → (x : A) × (r ≡ Ok x) × (next x ≡ Ok y)

@@ -1,11 +1,7 @@
-pub mod LastOpen
-pub mod Steps
 pub mod EntrySteps
 pub mod NameSteps
 pub mod ColumnSteps
 pub mod PropertySteps
-pub mod Folders
-pub mod PathSteps
 pub mod Kept
 pub mod Held
 pub mod Lookbacks

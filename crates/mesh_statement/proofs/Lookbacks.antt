@@ -12,13 +12,16 @@ use Rattle.mesh_statement.specs.declared.kinds.KindText.{KindText}
 use Rattle.mesh_statement.specs.declared.kinds.KindWord.{KindWord}
 use Rattle.mesh_statement.specs.declared.kinds.KindWord.TheVariants as the_kind
 use Rattle.mesh_statement.specs.declared.parts.Parts.{Parts}
-use Rattle.mesh_statement.specs.Brackets.{or_fault, value_len}
-use Rattle.mesh_statement.specs.Faults.{broken, bad, is_sign}
-use Rattle.mesh_statement.specs.Kinds.{kind_or_fault, first_at, path_text, time_word, longest_lookback, number_kind, as_lookback, lookback_number, is_idle, is_one_of, is_entry, formed, noted, file_named, entry_value, is_empty, entry, one_entry, entries_from, no_entries, entries_in, whole, kind_value}
+use Rattle.mesh_statement_bounds.specs.Brackets.{or_fault, value_len}
+use Rattle.mesh_statement_bounds.specs.Faults.{broken}
+use Rattle.mesh_statement_bounds.specs.Found as options
+use Rattle.mesh_statement_bounds.specs.Numbers.{longest_lookback, number_kind, as_lookback, lookback_number}
+use Rattle.mesh_statement_bounds.specs.Signs.{is_sign}
+use Rattle.mesh_statement.specs.Faults.{bad}
+use Rattle.mesh_statement.specs.Kinds.{kind_or_fault, first_at, path_text, time_word, is_idle, is_one_of, is_entry, formed, noted, file_named, entry_value, is_empty, entry, one_entry, entries_from, no_entries, entries_in, whole, kind_value}
 use Rattle.mesh_statement.specs.Lookbacks.{is_short}
 use Rattle.mesh_statement.specs.Statement.{Read, is_free, is_property, put, admitted, value_size, property, statement}
 use Rattle.mesh_statement.specs.Values.{word, behind, name_of, unit_of, start_of, cron_value, columns_value}
-use Rattle.mesh_statement.specs.Values as options
 use Rattle.mesh_statement.proofs.Held.{after, after_any, either}
 use Rattle.mesh_statement.proofs.Kept.{stated}
 

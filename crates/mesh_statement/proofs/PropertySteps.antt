@@ -5,7 +5,7 @@ use Rattle.mesh_tokens.specs.declared.faults.ReadFault.{ReadFault}
 use Rattle.mesh_tokens.specs.declared.faults.ReadFault.TheVariants as faults
 use Rattle.mesh_tokens.specs.declared.tokens.Token.{Token}
 use Rattle.mesh_statement.specs.declared.parts.Parts.{Parts}
-use Rattle.mesh_statement.specs.Faults.{broken}
+use Rattle.mesh_statement_bounds.specs.Faults.{broken}
 use Rattle.mesh_statement.specs.Statement.{Read, one_property, properties}
 
 left : (n i : ℕ) → i < n → n - i ≡ suc (n - (i + 1))

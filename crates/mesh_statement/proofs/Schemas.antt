@@ -5,8 +5,9 @@ use Rattle.std.specs.declared.option.Option.TheVariants.{None, Some}
 use Rattle.mesh_values.specs.Names.{is_schema}
 use Rattle.mesh_values.specs.declared.values.Name.{Name}
 use Rattle.mesh_tokens.specs.declared.tokens.Token.{Token}
-use Rattle.mesh_statement.specs.Faults.{is_sign}
-use Rattle.mesh_statement.specs.Values.{◌>>=◌, word, name_of}
+use Rattle.mesh_statement_bounds.specs.Found.{◌>>=◌}
+use Rattle.mesh_statement_bounds.specs.Signs.{is_sign}
+use Rattle.mesh_statement.specs.Values.{word, name_of}
 
 pub schema_read : (value : List Token) (name : Name) → name_of value ≡ Some name → is_schema name.schema ≡ true
 schema_read [] name e = cc e

@@ -10,8 +10,9 @@ use Rattle.mesh_tokens.specs.Gives.{◌>>=◌}
 use Rattle.mesh_tokens.specs.declared.faults.ReadFault.{ReadFault}
 use Rattle.mesh_tokens.specs.declared.tokens.Token.{Token}
 use Rattle.mesh_statement.specs.declared.parts.Parts.{Parts}
-use Rattle.mesh_statement.specs.Brackets.{or_fault}
-use Rattle.mesh_statement.specs.Faults.{broken, bad, unknown, provided}
+use Rattle.mesh_statement_bounds.specs.Brackets.{or_fault}
+use Rattle.mesh_statement_bounds.specs.Faults.{broken}
+use Rattle.mesh_statement.specs.Faults.{bad, unknown, provided}
 use Rattle.mesh_statement.specs.Kinds.{kind_value, first_at, is_one_of}
 use Rattle.mesh_statement.specs.Named.{has_schema}
 use Rattle.mesh_statement.specs.Statement.{Read, noted, is_free, is_property, put_name, put_audits, put, admitted, end_of, value_size, property, statement}

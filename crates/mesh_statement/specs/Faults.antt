@@ -1,16 +1,12 @@
 -- What may be wrong with a statement, and where.
-use Rattle.std.specs.Prelude.{ℕ, Bool, false, List, codes, Result, Ok, Err, if◌then◌else◌}
+use Rattle.std.specs.Prelude.{ℕ, Bool, false, List, Result, Ok, Err, if◌then◌else◌}
 use Rattle.std.specs.Str.{bytes_eq}
-use Rattle.mesh_tokens.specs.declared.faults.FaultKind.TheVariants.{Syntax, TooLarge, UnknownProperty, BadProperty, Outside}
+use Rattle.mesh_tokens.specs.declared.faults.FaultKind.TheVariants.{UnknownProperty, BadProperty, Outside}
 use Rattle.mesh_tokens.specs.declared.faults.ReadFault.{ReadFault}
 use Rattle.mesh_tokens.specs.declared.faults.ReadFault.TheVariants.{Fault}
 use Rattle.mesh_tokens.specs.declared.tokens.Token.{Token}
 use Rattle.mesh_tokens.specs.declared.tokens.TokenKind.{TokenKind}
-use Rattle.mesh_tokens.specs.declared.tokens.TokenKind.TheVariants.{Ident, Sign}
-
--- no model file goes on so behind the token that ends here
-abbrev pub broken : ℕ → ReadFault
-broken before = Fault before Syntax
+use Rattle.mesh_tokens.specs.declared.tokens.TokenKind.TheVariants.{Ident}
 
 -- a property has a bad value, or is there twice
 abbrev pub bad : ℕ → List ℕ → ReadFault
@@ -22,23 +18,9 @@ unknown at name = Fault at (UnknownProperty name)
 abbrev pub outside : ℕ → List ℕ → ReadFault
 outside at name = Fault at (Outside name)
 
--- the most parentheses that are open at once
-abbrev pub deepest : ℕ
-deepest = 64
-
-abbrev pub too_deep : ReadFault
-too_deep = Fault 0 (TooLarge (codes "nesting") deepest)
-
 -- a value, where a test says so, and otherwise a fault
 abbrev pub provided : {A : Type 0} → Bool → A → ReadFault → Result A ReadFault
 provided b x fault = if b then Ok x else Err fault
-
-abbrev pub is_sign_kind : List ℕ → TokenKind → Bool
-is_sign_kind sign (Sign found) = bytes_eq found sign
-is_sign_kind sign _ = false
-
-abbrev pub is_sign : List ℕ → Token → Bool
-is_sign sign k = is_sign_kind sign k.kind
 
 abbrev pub is_word_kind : List ℕ → TokenKind → Bool
 is_word_kind word (Ident found) = bytes_eq found word

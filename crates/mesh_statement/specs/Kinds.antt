@@ -16,11 +16,12 @@ use Rattle.mesh_statement.specs.declared.kinds.Entries.{Entries}
 use Rattle.mesh_statement.specs.declared.kinds.KindText.{KindText}
 use Rattle.mesh_values.specs.declared.kinds.Kind.{Kind}
 use Rattle.mesh_values.specs.declared.kinds.Kind.TheVariants as base_kind
-use Rattle.mesh_statement.specs.Faults.{bad, unknown, outside, provided, is_sign, is_word}
-use Rattle.mesh_statement.specs.Brackets.{or_fault, value_len}
-use Rattle.mesh_statement.specs.Paths.{file_at}
+use Rattle.mesh_statement_bounds.specs.Brackets.{or_fault, value_len}
+use Rattle.mesh_statement_bounds.specs.Numbers.{lookback_number}
+use Rattle.mesh_statement_bounds.specs.Paths.{file_at}
+use Rattle.mesh_statement_bounds.specs.Signs.{is_sign}
+use Rattle.mesh_statement.specs.Faults.{bad, unknown, outside, provided, is_word}
 use Rattle.mesh_statement.specs.Values.{word, text, behind}
-use Rattle.mesh_statement.specs.Values as options
 
 abbrev pub words_left_out : List (List ℕ)
 words_left_out = codes "incremental_by_unique_key" ∷ codes "incremental_by_partition" ∷ codes "scd_type_2" ∷ codes "embedded" ∷ codes "managed" ∷ codes "custom" ∷ []
@@ -57,22 +58,6 @@ abbrev pub time_word : List Token → Option (List ℕ)
 time_word (k ∷ []) = word k
 time_word (a ∷ k ∷ c ∷ f ∷ b ∷ []) = if is_sign (codes "(") a && (is_sign (codes ",") c && (is_day_format (text f) && is_sign (codes ")") b)) then word k else None
 time_word _ = None
-
-abbrev pub longest_lookback : ℕ
-longest_lookback = 366
-
--- the number that a token is
-abbrev pub number_kind : TokenKind → Option ℕ
-number_kind (Number n) = Some n
-number_kind _ = None
-
-abbrev pub as_lookback : ℕ → Option ℕ
-as_lookback n = if nat_le n longest_lookback then Some n else None
-
--- a number from 0 to the longest lookback
-abbrev pub lookback_number : List Token → Option ℕ
-lookback_number (k ∷ []) = options.◌>>=◌ (number_kind k.kind) as_lookback
-lookback_number _ = None
 
 abbrev pub is_number_kind : ℕ → TokenKind → Bool
 is_number_kind n (Number m) = m == n

@@ -4,12 +4,8 @@ pub mod Views
 pub mod Answers
 -- Faults: what may be wrong with a statement.
 pub mod Faults
--- Brackets: the value of a property, up to its comma or closing parenthesis.
-pub mod Brackets
 -- Values: what the value of each property means.
 pub mod Values
--- Paths: where the file lies that a path names.
-pub mod Paths
 -- Kinds: what the value of `kind` means, with its entries.
 pub mod Kinds
 -- Lookbacks: how far incremental models look back.

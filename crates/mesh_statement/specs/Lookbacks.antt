@@ -3,8 +3,8 @@ use Rattle.std.specs.Prelude.{Bool, true, nat_le}
 use Rattle.std.specs.declared.option.Option.{Option}
 use Rattle.std.specs.declared.option.Option.TheVariants.{None, Some}
 use Rattle.mesh_values.specs.Kinds.{lookback_of}
+use Rattle.mesh_statement_bounds.specs.Numbers.{longest_lookback}
 use Rattle.mesh_statement.specs.declared.kinds.KindText.{KindText}
-use Rattle.mesh_statement.specs.Kinds.{longest_lookback}
 
 -- a kind's lookback is at most the longest
 abbrev pub is_short : Option KindText → Bool

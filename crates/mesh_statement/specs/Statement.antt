@@ -6,8 +6,10 @@ use Rattle.mesh_tokens.specs.Gives.{◌>>=◌}
 use Rattle.mesh_tokens.specs.declared.faults.ReadFault.{ReadFault}
 use Rattle.mesh_tokens.specs.declared.tokens.Token.{Token}
 use Rattle.mesh_statement.specs.declared.parts.Parts.{Parts}
-use Rattle.mesh_statement.specs.Faults.{broken, bad, unknown, provided, is_sign, is_word}
-use Rattle.mesh_statement.specs.Brackets.{or_fault, value_len}
+use Rattle.mesh_statement_bounds.specs.Brackets.{or_fault, value_len}
+use Rattle.mesh_statement_bounds.specs.Faults.{broken}
+use Rattle.mesh_statement_bounds.specs.Signs.{is_sign}
+use Rattle.mesh_statement.specs.Faults.{bad, unknown, provided, is_word}
 use Rattle.mesh_statement.specs.Values.{word, name_of, start_of, unit_of, cron_value, columns_value}
 use Rattle.mesh_statement.specs.Kinds.{kind_value, first_at, is_one_of}
 

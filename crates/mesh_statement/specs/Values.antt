@@ -19,7 +19,9 @@ use Rattle.mesh_tokens.specs.declared.faults.ReadFault.TheVariants.{Fault}
 use Rattle.mesh_tokens.specs.declared.tokens.Token.{Token}
 use Rattle.mesh_tokens.specs.declared.tokens.TokenKind.{TokenKind}
 use Rattle.mesh_tokens.specs.declared.tokens.TokenKind.TheVariants.{Ident, Text, Macro}
-use Rattle.mesh_statement.specs.Faults.{bad, provided, is_sign}
+use Rattle.mesh_statement_bounds.specs.Found.{◌>>=◌}
+use Rattle.mesh_statement_bounds.specs.Signs.{is_sign}
+use Rattle.mesh_statement.specs.Faults.{bad, provided}
 use Rattle.mesh_grammar.specs.Words.{type_of}
 
 -- the word or text of a token
@@ -36,11 +38,6 @@ text_kind _ = None
 
 abbrev pub text : Token → Option (List ℕ)
 text k = text_kind k.kind
-
-infixl 10 ◌>>=◌
-abbrev pub ◌>>=◌ : {A B : Type 0} → Option A → (A → Option B) → Option B
-None >>= next = None
-(Some x) >>= next = next x
 
 -- `schema.model`
 abbrev pub name_of : List Token → Option Name

@@ -1,23 +1,13 @@
 // The faults of a statement.
 ghost use Rattle.std.specs.Prelude.{◌≡◌, IfErr};
 ghost use Rattle.mesh_tokens.specs.Gives.{Gives, Refuses};
-ghost use Rattle.mesh_statement.specs.Faults.{broken, bad, unknown, outside, too_deep};
+ghost use Rattle.mesh_statement.specs.Faults.{bad, unknown, outside};
 ghost use Rattle.mesh_statement.specs.Answers.{Refused};
 
 use mesh_list::{Duplicate, Memory};
 use mesh_tokens::{FaultKind, ReadFault};
-use mesh_values::{DEEPEST_NESTING, Str};
+use mesh_values::Str;
 use std::alloc::Global;
-
-/// A fault of syntax behind the token that ends here.
-pub(crate) fn broken(before: u64) -> ReadFault
-    ensures { result ≡ broken before }
-{
-    ReadFault::Fault {
-        at: before,
-        kind: FaultKind::Syntax,
-    }
-}
 
 pub(crate) fn bad(alloc: Global, at: u64, name: &[u8]) -> ReadFault
     ensures { Refused result (bad at name.now) }
@@ -50,21 +40,6 @@ pub(crate) fn outside(alloc: Global, at: u64, name: &[u8]) -> ReadFault
         Ok(name) => ReadFault::Fault {
             at,
             kind: FaultKind::Outside { name },
-        },
-        Err(_) => ReadFault::Memory,
-    }
-}
-
-pub(crate) fn too_deep(alloc: Global) -> ReadFault
-    ensures { Refused result too_deep }
-{
-    match u8::copy_items(alloc, b"nesting") {
-        Ok(what) => ReadFault::Fault {
-            at: 0,
-            kind: FaultKind::TooLarge {
-                what,
-                limit: DEEPEST_NESTING,
-            },
         },
         Err(_) => ReadFault::Memory,
     }

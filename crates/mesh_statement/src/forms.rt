@@ -5,12 +5,12 @@ ghost use Rattle.mesh_statement.specs.Answers.{GivesAs};
 ghost use Rattle.mesh_statement.specs.Faults.{bad, provided};
 ghost use Rattle.mesh_statement.specs.Kinds.{one_name, names_from, has_needed, complete, formed, kind_word};
 
-use crate::brackets::value_len;
 use crate::faults::bad;
 use crate::kinds::KindWord;
-use crate::look::{is_sign, word};
+use crate::look::word;
 use crate::values::behind;
 use crate::words::{is_needed, needs_none};
+use mesh_statement_bounds::{is_sign, value_len};
 use mesh_tokens::{ReadFault, Token};
 use std::alloc::Global;
 

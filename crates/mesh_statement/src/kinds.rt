@@ -3,21 +3,20 @@ ghost use Rattle.std.specs.Prelude.{◌≡◌, IfOk, length, map};
 ghost use Rattle.std.specs.Char.{to_ascii_uppercase};
 ghost use Rattle.mesh_tokens.specs.Gives.{Gives};
 ghost use Rattle.mesh_statement.specs.Faults.{bad};
-ghost use Rattle.mesh_statement.specs.Kinds.{kind_or_fault, first_at, path_text, time_word, is_day_format, is_false, lookback_number, is_idle, noted, file_named, with_path, with_time, with_lookback, entry_value, entry, entry_behind, one_entry, entries_from, no_entries, entries_in, plain, seed, incremental, whole, kind_value, kind_word};
+ghost use Rattle.mesh_statement.specs.Kinds.{kind_or_fault, first_at, path_text, time_word, is_day_format, is_false, is_idle, noted, file_named, with_path, with_time, with_lookback, entry_value, entry, entry_behind, one_entry, entries_from, no_entries, entries_in, plain, seed, incremental, whole, kind_value, kind_word};
 ghost use Rattle.mesh_statement.specs.Answers.{GivesAs};
 ghost use Rattle.mesh_statement.specs.Values.{text as text_of};
 ghost use Rattle.mesh_statement.specs.Views.{seen};
 
-use crate::brackets::value_len;
 use crate::faults::{bad, outside, unknown};
 use crate::forms::formed;
-use crate::look::{is_number, is_sign, is_word, number, text, word};
-use crate::paths::file_at;
+use crate::look::{is_number, is_word, text, word};
 use crate::values::behind;
 use crate::words::{is_entry, is_left_out, is_one_of, kind_named};
 use mesh_list::{Duplicate, Memory, Seq};
+use mesh_statement_bounds::{file_at, is_sign, lookback_number, value_len};
 use mesh_tokens::{ReadFault, Token};
-use mesh_values::{Kind, LONGEST_LOOKBACK, Str, Strs};
+use mesh_values::{Kind, Str, Strs};
 use mesh_words::is_same;
 use std::alloc::Global;
 
@@ -112,24 +111,6 @@ fn time_word(value: &[Token]) -> Option<&[u8]>
             }
         }
         _ => None,
-    }
-}
-
-fn lookback_number(value: &[Token]) -> Option<u32>
-    ensures { result ≡ lookback_number value.now }
-{
-    let [token] = value else {
-        return None;
-    };
-    match number(token) {
-        Some(found) => {
-            if found <= u64::from(LONGEST_LOOKBACK) {
-                Some(found as u32)
-            } else {
-                None
-            }
-        }
-        None => None,
     }
 }
 

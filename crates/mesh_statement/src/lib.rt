@@ -1,16 +1,15 @@
 //! MODEL statements. Its contract: `read_statement` gives exactly what the definition `statement` says of the tokens of
 //! a model's file: the properties up to the semicolon, or the first fault among them. A seed's path is one of the
-//! project. It stands on `mesh_list`, `mesh_values`, `mesh_time`, `mesh_casts`, `mesh_tokens` and `mesh_words`.
+//! project. It stands on `mesh_list`, `mesh_values`, `mesh_time`, `mesh_casts`, `mesh_tokens`, `mesh_words` and
+//! `mesh_statement_bounds`.
 #![tactic(auto)]
 
-mod brackets;
 mod faults;
 mod forms;
 mod kinds;
 mod laws;
 mod look;
 mod parts;
-mod paths;
 mod properties;
 mod values;
 mod words;

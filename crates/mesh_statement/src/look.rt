@@ -1,22 +1,13 @@
 // What a token is.
 ghost use Rattle.std.specs.Prelude.{◌≡◌, MatchOption};
-ghost use Rattle.mesh_statement.specs.Faults.{is_sign, is_word};
+ghost use Rattle.mesh_statement.specs.Faults.{is_word};
 ghost use Rattle.mesh_statement.specs.Values.{word, text, said_kind};
-ghost use Rattle.mesh_statement.specs.Kinds.{number_kind, is_number};
+ghost use Rattle.mesh_statement.specs.Kinds.{is_number};
 ghost use Rattle.mesh_statement.specs.Views.{seen};
 
 use mesh_tokens::{Token, TokenKind};
 use mesh_values::Str;
 use mesh_words::is_same;
-
-pub(crate) fn is_sign(token: &Token, sign: &[u8]) -> bool
-    ensures { result ≡ is_sign sign.now token.now }
-{
-    match &token.kind {
-        TokenKind::Sign(found) => is_same(found.as_slice(), sign),
-        _ => false,
-    }
-}
 
 pub(crate) fn is_word(token: &Token, word: &[u8]) -> bool
     ensures { result ≡ is_word word.now token.now }
@@ -53,16 +44,6 @@ pub(crate) fn said(token: &Token) -> Option<&[u8]>
     match &token.kind {
         TokenKind::Ident(found) => Some(found.as_slice()),
         TokenKind::Text(found) => Some(found.as_slice()),
-        _ => None,
-    }
-}
-
-/// The number that a token is.
-pub(crate) fn number(token: &Token) -> Option<u64>
-    ensures { result ≡ number_kind token.now.kind }
-{
-    match &token.kind {
-        TokenKind::Number(found) => Some(*found),
         _ => None,
     }
 }

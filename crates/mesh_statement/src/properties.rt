@@ -5,12 +5,11 @@ ghost use Rattle.mesh_statement.specs.Answers.{GivesAs};
 ghost use Rattle.mesh_statement.specs.declared.parts.Parts.{Parts as PartsRead};
 ghost use Rattle.mesh_statement.specs.Statement.{Read, no_parts, end_of, value_size, valued, property, stands, begins, closes, goes_on, one_property, properties, model_word, statement};
 
-use crate::brackets::value_len;
-use crate::faults::broken;
 use crate::kinds::first_at;
-use crate::look::{is_sign, is_word, word};
+use crate::look::{is_word, word};
 use crate::parts::{Parts, admitted, no_parts, put};
 use crate::words::is_free;
+use mesh_statement_bounds::{broken, is_sign, value_len};
 use mesh_tokens::{ReadFault, Token};
 use std::alloc::Global;
 

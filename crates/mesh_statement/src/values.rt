@@ -6,9 +6,10 @@ ghost use Rattle.mesh_statement.specs.Values.{name_of, start_of, unit_named, uni
 ghost use Rattle.mesh_statement.specs.Answers.{Refused};
 
 use crate::faults::bad;
-use crate::look::{is_sign, said, text, word};
+use crate::look::{said, text, word};
 use mesh_casts::day_named;
 use mesh_list::{Duplicate, Memory, Seq};
+use mesh_statement_bounds::is_sign;
 use mesh_time::read_cron;
 use mesh_tokens::{FaultKind, ReadFault, Token, TokenKind};
 use mesh_values::{Column, Columns, Cron, MOST_COLUMNS, Name, Unit, is_schema};

@@ -9,12 +9,14 @@ use Rattle.mesh_values.specs.declared.values.Name.{Name}
 use Rattle.mesh_tokens.specs.Gives.{◌>>=◌}
 use Rattle.mesh_tokens.specs.declared.tokens.Token.{Token}
 use Rattle.mesh_statement.specs.declared.parts.Parts.{Parts}
-use Rattle.mesh_statement.specs.Brackets.{or_fault}
-use Rattle.mesh_statement.specs.Faults.{broken, bad, is_sign}
+use Rattle.mesh_statement_bounds.specs.Brackets.{or_fault}
+use Rattle.mesh_statement_bounds.specs.Faults.{broken}
+use Rattle.mesh_statement_bounds.specs.Found as options
+use Rattle.mesh_statement_bounds.specs.Signs.{is_sign}
+use Rattle.mesh_statement.specs.Faults.{bad}
 use Rattle.mesh_statement.specs.Kinds.{kind_value, first_at, is_one_of}
 use Rattle.mesh_statement.specs.Statement.{Read, is_free, is_property, put, admitted, value_size, property, statement}
 use Rattle.mesh_statement.specs.Values.{word, name_of, unit_of, start_of, cron_value, columns_value}
-use Rattle.mesh_statement.specs.Values as options
 use Rattle.mesh_statement.proofs.Held.{after, after_any, either}
 use Rattle.mesh_statement.proofs.Kept.{stated}
 use Rattle.mesh_text.specs.Complete.{is_word, is_model_name}

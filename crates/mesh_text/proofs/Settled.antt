@@ -8,7 +8,7 @@ use Rattle.mesh_tokens.specs.Gives.{◌>>=◌, Refuses}
 use Rattle.mesh_tokens.specs.declared.faults.ReadFault.{ReadFault}
 use Rattle.mesh_tokens.specs.declared.faults.ReadFault.TheVariants as faults
 use Rattle.mesh_statement.specs.declared.kinds.KindText.{KindText}
-use Rattle.mesh_statement.specs.Brackets.{or_fault}
+use Rattle.mesh_statement_bounds.specs.Brackets.{or_fault}
 use Rattle.mesh_statement.specs.Faults.{bad}
 use Rattle.mesh_model.specs.declared.model.ModelText.{ModelText}
 use Rattle.mesh_text.specs.declared.model.Whole.{Whole}

@@ -7,7 +7,7 @@ use Rattle.mesh_values.specs.Kinds.{lookback_of}
 use Rattle.mesh_values.specs.Names.{is_identifier, is_schema}
 use Rattle.mesh_values.specs.declared.values.Name.{Name}
 use Rattle.mesh_tokens.specs.Pieces.{longest_name}
-use Rattle.mesh_statement.specs.Kinds.{longest_lookback}
+use Rattle.mesh_statement_bounds.specs.Numbers.{longest_lookback}
 use Rattle.mesh_model.specs.declared.model.ModelText.{ModelText}
 use Rattle.mesh_text.specs.ModelTexts.{is_seed_kind, is_timed}
 

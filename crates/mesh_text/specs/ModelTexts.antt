@@ -17,8 +17,9 @@ use Rattle.mesh_tokens.specs.declared.faults.ReadFault.TheVariants.{Fault}
 use Rattle.mesh_tokens.specs.declared.tokens.Token.{Token}
 use Rattle.mesh_surface.specs.declared.queries.Surface.{Surface}
 use Rattle.mesh_statement.specs.declared.kinds.KindText.{KindText}
-use Rattle.mesh_statement.specs.Brackets.{or_fault}
-use Rattle.mesh_statement.specs.Faults.{bad, broken, provided}
+use Rattle.mesh_statement_bounds.specs.Brackets.{or_fault}
+use Rattle.mesh_statement_bounds.specs.Faults.{broken}
+use Rattle.mesh_statement.specs.Faults.{bad, provided}
 use Rattle.mesh_statement.specs.Kinds.{plain, is_empty}
 use Rattle.mesh_statement.specs.Statement.{Read, end_of, statement}
 use Rattle.mesh_statement.specs.Values.{quoted}

@@ -1,7 +1,7 @@
 // What follows from absent properties.
 ghost use Rattle.std.specs.Prelude.{◌≡◌, codes, IfOk};
 ghost use Rattle.std.specs.Option.{unwrap_or};
-ghost use Rattle.mesh_statement.specs.Brackets.{or_fault};
+ghost use Rattle.mesh_statement_bounds.specs.Brackets.{or_fault};
 ghost use Rattle.mesh_statement.specs.Faults.{bad};
 ghost use Rattle.mesh_tokens.specs.Gives.{Gives};
 ghost use Rattle.mesh_text.specs.ModelTexts.{kind_of, is_timed, started, cron_or_daily, unit_of, settled, finished};

@@ -4,7 +4,7 @@ use Rattle.std.specs.List.{list_all, list_any, flat_map}
 use Rattle.std.specs.declared.option.Option.{Option}
 use Rattle.std.specs.declared.option.Option.TheVariants.{None, Some}
 use Rattle.mesh_values.specs.declared.values.ColType.{ColType}
-use Rattle.mesh_values.specs.declared.values.ColType.TheVariants.{Int, Text, Date, Bool as Truth}
+use Rattle.mesh_values.specs.declared.values.ColType.TheVariants.{Int, Text, Bool as Truth}
 use Rattle.mesh_values.specs.declared.values.Cell.TheVariants as cell
 use Rattle.mesh_base.specs.declared.expressions.Expr.{Expr}
 use Rattle.mesh_base.specs.declared.expressions.Expr as expr
@@ -28,8 +28,8 @@ use Rattle.mesh_tokens.specs.declared.faults.ReadFault.{ReadFault}
 use Rattle.mesh_types.specs.declared.typed.Typed.{Typed}
 use Rattle.mesh_types.specs.Faults.{mismatch, unwritten}
 use Rattle.mesh_tokens.specs.Walk.{provided, all_of}
-use Rattle.mesh_values.specs.Types.{same_type}
-use Rattle.mesh_types.specs.Kinds.{Kind, may_be, are_alike, first_kind, are_one_kind, kind_of, is_date, as_date, dated}
+use Rattle.mesh_type_rules.specs.Kinds.{Kind, may_be, are_alike, first_kind, are_one_kind, sum_kind, may_cast}
+use Rattle.mesh_types.specs.Kinds.{kind_of, is_date, as_date, dated}
 
 -- an expression of a type, or its fault
 abbrev pub Read : Type 0
@@ -82,14 +82,6 @@ factor_op factor.Modulo = op.Rem
 
 abbrev pub multiplied : MulSign → ℕ → Typed → Typed → Read
 multiplied s = uniform Int (factor_op s)
-
--- DATE + INT and DATE - INT are DATE, DATE - DATE is INT; otherwise both are INT
-abbrev pub sum_kind : AddSign → Kind → Kind → Option ColType
-sum_kind sign.Plus (Some Date) b = if may_be Int b then Some Date else None
-sum_kind sign.Plus a b = if may_be Int a && may_be Int b then Some Int else None
-sum_kind sign.Minus a (Some Date) = if may_be Date a then Some Int else None
-sum_kind sign.Minus (Some Date) b = if may_be Int b then Some Date else None
-sum_kind sign.Minus a b = if may_be Int a && may_be Int b then Some Int else None
 
 abbrev pub sum_op : AddSign → Op
 sum_op sign.Plus = op.Add
@@ -165,18 +157,6 @@ unfoldable pub one_of : ℕ → Typed → List Typed → Read
 one_of at t ts =
     let turn = is_date t || list_any is_date ts in
     among at (dated turn t) (map (dated turn) ts)
-
--- to the same type, to TEXT and from it, and between BOOL and INT
-abbrev pub casts : ColType → ColType → Bool
-casts Text to = true
-casts from Text = true
-casts Int Truth = true
-casts Truth Int = true
-casts from to = same_type from to
-
-abbrev pub may_cast : ColType → Kind → Bool
-may_cast to None = true
-may_cast to (Some from) = casts from to
 
 unfoldable pub cast : ℕ → ColType → Typed → Read
 cast at to t = provided (may_cast to t.kind) (over_one at to (expr.Cast to t.expr) t) (mismatch at)

@@ -1,10 +1,8 @@
--- The types of expressions. A NULL has none until its place decides it.
-use Rattle.std.specs.Prelude.{ℤ, Bool, true, false, List, [], ◌∷◌, if◌then◌else◌}
-use Rattle.std.specs.List.{list_all}
+-- The types of resolved expressions, and text literals that are dates.
+use Rattle.std.specs.Prelude.{ℤ, Bool, if◌then◌else◌}
 use Rattle.std.specs.declared.option.Option.{Option}
 use Rattle.std.specs.declared.option.Option.TheVariants.{None, Some}
-use Rattle.mesh_values.specs.declared.values.ColType.{ColType}
-use Rattle.mesh_values.specs.declared.values.ColType.TheVariants.{Text, Date}
+use Rattle.mesh_values.specs.declared.values.ColType.TheVariants.{Date}
 use Rattle.mesh_values.specs.declared.values.Cell.{Cell}
 use Rattle.mesh_values.specs.declared.values.Cell.TheVariants as cell
 use Rattle.mesh_base.specs.declared.expressions.Expr.{Expr, out-Expr}
@@ -13,44 +11,12 @@ use Rattle.mesh_base.specs.declared.expressions.Expr.TheOpen.{Expr-F, Literal, M
 use Rattle.mesh_base.specs.declared.expressions.When.{When}
 use Rattle.mesh_base.specs.declared.expressions.Var.{Var}
 use Rattle.mesh_base.specs.declared.expressions.Var.TheVariants.{StartDate, EndDate, StartDs, EndDs}
-use Rattle.mesh_values.specs.Types.{same_type}
+use Rattle.mesh_type_rules.specs.Kinds.{Kind, is_date_kind}
 use Rattle.mesh_casts.specs.Dates.{day_named}
 use Rattle.mesh_types.specs.declared.typed.Typed.{Typed}
 
--- a type, or none yet
-abbrev pub Kind : Type 0
-Kind = Option ColType
-
--- NULL takes the type that its place needs
-abbrev pub may_be : ColType → Kind → Bool
-may_be wanted None = true
-may_be wanted (Some kind) = same_type wanted kind
-
-abbrev pub are_alike : Kind → Kind → Bool
-are_alike None b = true
-are_alike (Some kind) b = may_be kind b
-
--- the first type that is decided
-abbrev pub first_kind : List Kind → Kind
-first_kind [] = None
-first_kind (None ∷ kinds) = first_kind kinds
-first_kind (Some kind ∷ kinds) = Some kind
-
--- all that are decided are of one type
-abbrev pub are_one_kind : List Kind → Bool
-are_one_kind kinds = list_all (are_alike (first_kind kinds)) kinds
-
 abbrev pub kind_of : Typed → Kind
 kind_of t = t.kind
-
--- an undecided column is TEXT
-abbrev pub or_text : Kind → ColType
-or_text None = Text
-or_text (Some kind) = kind
-
-abbrev pub is_date_kind : Kind → Bool
-is_date_kind None = false
-is_date_kind (Some kind) = same_type Date kind
 
 abbrev pub is_date : Typed → Bool
 is_date t = is_date_kind t.kind

@@ -8,13 +8,13 @@ ghost use Rattle.mesh_tokens.specs.Gives.{Gives, ◌>>=◌ as ◌onto◌};
 ghost use Rattle.mesh_types.specs.Forms.{call, unary, alternatives, aggregate, only, counted, summed, extreme, called, with_parts, starred, distinct};
 
 use crate::faults::unwritten;
-use crate::kinds::{are_one_kind, first_kind, may_be};
 use crate::lists::{all_marks, exprs_of, kinds_of};
 use crate::typed::{Typed, Typeds, judged, with_parts};
 use mesh_base::{AggKind, Expr, Func};
 use mesh_list::{Memory, Seq, together};
 use mesh_surface::Function;
 use mesh_tokens::ReadFault;
+use mesh_type_rules::{are_one_kind, first_kind, may_be};
 use mesh_values::ColType;
 use std::alloc::Global;
 

@@ -7,13 +7,13 @@ ghost use Rattle.mesh_types.specs.Forms.{test, arm, when, arm_marks, arm_kind, e
 ghost use Rattle.mesh_types.specs.Sizes.{IsSmall};
 
 use crate::forms::compared;
-use crate::kinds::{are_one_kind, first_kind, may_be};
 use crate::lists::with_marks;
 use crate::sizes::is_small;
 use crate::typed::{Arms, Typed, copied, judged, leaf, with_made};
 use mesh_base::{Expr, Op, When, Whens};
 use mesh_list::{Memory, Seq, together};
 use mesh_tokens::ReadFault;
+use mesh_type_rules::{are_one_kind, first_kind, may_be};
 use mesh_values::{Cell, ColType};
 use std::alloc::Global;
 

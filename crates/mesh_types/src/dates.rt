@@ -1,12 +1,21 @@
-// Texts that are days, beside dates.
+// Dates, and texts that are days beside them.
 ghost use Rattle.std.specs.Prelude.{◌≡◌, map, IfOk};
-ghost use Rattle.mesh_types.specs.Kinds.{as_date, dated};
+ghost use Rattle.mesh_types.specs.Kinds.{is_date, as_date, dated};
 
 use crate::typed::{Typed, Typeds, with_parts};
 use mesh_base::{Expr, Var};
 use mesh_casts::day_named;
 use mesh_list::{Memory, Seq};
 use mesh_values::{Cell, ColType};
+
+pub(crate) fn is_date(t: &Typed) -> bool
+    ensures { result ≡ is_date t.now }
+{
+    match t.kind {
+        None => false,
+        Some(kind) => ColType::Date == kind,
+    }
+}
 
 /// A text literal of a real day, and the days that are given as text, as dates.
 pub(crate) fn as_date(t: Typed) -> Result<Typed, Memory>

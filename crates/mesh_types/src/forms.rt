@@ -1,17 +1,17 @@
 // Operators over one operand and over two.
 ghost use Rattle.std.specs.Prelude.{◌≡◌, IfOk};
 ghost use Rattle.mesh_tokens.specs.Gives.{Gives};
-ghost use Rattle.mesh_types.specs.Forms.{over_two, uniform, multiplied, sum_kind, sum_op, added, negated, denied, null_test, turned, compare_op, compared_as_they_are, compared, cast};
+ghost use Rattle.mesh_types.specs.Forms.{over_two, uniform, multiplied, sum_op, added, negated, denied, null_test, turned, compare_op, compared_as_they_are, compared, cast};
 
-use crate::dates::dated;
+use crate::dates::{dated, is_date};
 use crate::faults::mismatch;
-use crate::kinds::{are_alike, is_date, may_be, may_cast};
 use crate::lists::with_marks;
 use crate::typed::{Typed, judged, with_made, with_parts};
 use mesh_base::{Expr, Op};
 use mesh_list::{Memory, together};
 use mesh_surface::{AddSign, Cmp, MulSign};
 use mesh_tokens::ReadFault;
+use mesh_type_rules::{are_alike, may_be, may_cast, sum_kind};
 use mesh_values::ColType;
 use std::alloc::Global;
 
@@ -76,41 +76,6 @@ pub fn multiplied(
         MulSign::Modulo => Op::Rem,
     };
     uniform(alloc, ColType::Int, op, at, left, right)
-}
-
-fn sum_kind(sign: AddSign, left: Option<ColType>, right: Option<ColType>) -> Option<ColType>
-    ensures { result ≡ sum_kind sign left right }
-{
-    match (sign, left, right) {
-        (AddSign::Plus, Some(ColType::Date), b) => {
-            if may_be(ColType::Int, b) {
-                Some(ColType::Date)
-            } else {
-                None
-            }
-        }
-        (AddSign::Minus, a, Some(ColType::Date)) => {
-            if may_be(ColType::Date, a) {
-                Some(ColType::Int)
-            } else {
-                None
-            }
-        }
-        (AddSign::Minus, Some(ColType::Date), b) => {
-            if may_be(ColType::Int, b) {
-                Some(ColType::Date)
-            } else {
-                None
-            }
-        }
-        (_, a, b) => {
-            if may_be(ColType::Int, a) && may_be(ColType::Int, b) {
-                Some(ColType::Int)
-            } else {
-                None
-            }
-        }
-    }
 }
 
 fn sum_op(sign: AddSign) -> Op

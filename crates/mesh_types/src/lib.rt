@@ -1,6 +1,6 @@
 //! The types of expressions, and the faults of queries. Its contract: each form of an expression over finished operands
 //! gives the resolved expression with its type, or the fault of types, as the definitions in `specs/Forms.antt` say. It
-//! stands on `mesh_list`, `mesh_values`, `mesh_tokens`, `mesh_surface`, `mesh_casts` and `mesh_base`.
+//! stands on `mesh_list`, `mesh_values`, `mesh_tokens`, `mesh_surface`, `mesh_type_rules`, `mesh_casts` and `mesh_base`.
 #![tactic(auto)]
 
 mod calls;
@@ -8,7 +8,6 @@ mod cases;
 mod dates;
 mod faults;
 mod forms;
-mod kinds;
 mod lists;
 mod ranges;
 mod sizes;
@@ -23,6 +22,5 @@ pub use faults::{
 pub use forms::{
     added, cast, compare_op, compared, denied, multiplied, negated, null_test, turned, uniform,
 };
-pub use kinds::may_be;
 pub use ranges::{between, one_of};
 pub use typed::{Arms, Typed, Typeds, leaf};

@@ -5,13 +5,13 @@ ghost use Rattle.std.specs.List.{list_any};
 ghost use Rattle.mesh_types.specs.Kinds.{is_date};
 ghost use Rattle.mesh_types.specs.Forms.{range, within, between, are_all_alike, member, among, one_of};
 
-use crate::dates::{dated, dated_all};
-use crate::kinds::{are_alike, is_date};
+use crate::dates::{dated, dated_all, is_date};
 use crate::lists::{all_marks, exprs_of, three_marks, with_marks};
 use crate::typed::{Typed, Typeds, judged, with_made};
 use mesh_base::Expr;
 use mesh_list::{Memory, together};
 use mesh_tokens::ReadFault;
+use mesh_type_rules::are_alike;
 use mesh_values::ColType;
 use std::alloc::Global;
 

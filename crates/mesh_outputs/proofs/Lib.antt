@@ -1,0 +1,4 @@
+pub mod Places
+pub mod Sides
+pub mod Steps
+pub mod Room

@@ -1,0 +1,4 @@
+pub mod LastOpen
+pub mod Steps
+pub mod Folders
+pub mod PathSteps
