@@ -11,7 +11,7 @@ use crate::drawn::Drawing;
 use mesh_base::{Join, Rel};
 use mesh_list::{Duplicate, Memory, Seq, both};
 use mesh_outputs::{Commons, cte_named};
-use mesh_parts::Drawn;
+use mesh_selects::Drawn;
 use mesh_scope::{Sight, typed_expression};
 use mesh_surface::{OrExpr, SurfaceFrom, SurfaceJoin, SurfaceRel};
 use mesh_tokens::ReadFault;

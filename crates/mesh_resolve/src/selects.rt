@@ -11,7 +11,7 @@ use crate::relations::{condition, drawn_from};
 use mesh_base::{Expr, FromItem, Select};
 use mesh_list::{Memory, Seq, together};
 use mesh_outputs::{Commons, group_keys, items, key_exprs, resolved_items};
-use mesh_parts::{Drawn, Walked, is_grouped, stands};
+use mesh_selects::{Drawn, Walked, is_grouped, stands};
 use mesh_scope::Sight;
 use mesh_surface::{OrExpr, SurfaceSelect};
 use mesh_tokens::ReadFault;
