@@ -14,7 +14,6 @@ use Rattle.mesh_files.specs.Loading.{◌>>=◌, Gives}
 use Rattle.mesh_files.specs.declared.faults.LoadFault.{LoadFault}
 use Rattle.mesh_files.specs.declared.project.ModelFile.{ModelFile}
 use Rattle.mesh_nodes.specs.Apart.{Taken, apart, duplicate, names_of, with_model_name, with_name}
-use Rattle.mesh_project.specs.Project.{reader_of}
 use Rattle.mesh_nodes.specs.Walk.{Leads, along}
 use Rattle.mesh_nodes.proofs.Steps.{refused_on}
 

@@ -4,8 +4,8 @@ use Rattle.std.proofs.lemmas.Bool.{lt-leb}
 use Rattle.std.proofs.lemmas.Grind.{flat_map-append}
 use Rattle.std.proofs.lemmas.List.{drop_more, take-append-drop, length-append, length-map}
 use Rattle.std.specs.declared.option.Option.{Option}
-use Rattle.mesh_scope.specs.declared.sight.Seen.{Seen}
-use Rattle.mesh_scope.specs.Sight.{answers_to}
+use Rattle.mesh_sight.specs.declared.sight.Seen.{Seen}
+use Rattle.mesh_sight.specs.Sight.{answers_to}
 use Rattle.mesh_types.specs.Faults.{most_columns}
 use Rattle.mesh_outputs.specs.Outputs.{all_of_one, expanded, starred}
 

@@ -16,8 +16,8 @@ use Rattle.mesh_tokens.specs.declared.faults.ReadFault.{ReadFault}
 use Rattle.mesh_outputs.specs.declared.keys.Key.{Key}
 use Rattle.mesh_outputs.specs.declared.keys.Key.TheVariants.{Part, Item, Missing}
 use Rattle.mesh_outputs.specs.declared.outputs.Output.{Output}
-use Rattle.mesh_scope.specs.declared.sight.Seen.{Seen}
-use Rattle.mesh_scope.specs.InSight.{Sight}
+use Rattle.mesh_sight.specs.declared.sight.Seen.{Seen}
+use Rattle.mesh_sight.specs.InSight.{Sight}
 use Rattle.mesh_types.specs.declared.typed.Typed.{Typed}
 use Rattle.mesh_tokens.specs.Walk.{along}
 use Rattle.mesh_scope.specs.Expressions.{typed}

@@ -14,13 +14,13 @@ use Rattle.mesh_surface.specs.declared.queries.SurfaceItem.TheVariants.{All, All
 use Rattle.mesh_tokens.specs.Gives.{◌>>=◌}
 use Rattle.mesh_tokens.specs.declared.faults.ReadFault.{ReadFault}
 use Rattle.mesh_outputs.specs.declared.outputs.Output.{Output}
-use Rattle.mesh_scope.specs.declared.sight.Seen.{Seen}
-use Rattle.mesh_scope.specs.InSight.{Sight}
+use Rattle.mesh_sight.specs.declared.sight.Seen.{Seen}
+use Rattle.mesh_sight.specs.InSight.{Sight}
 use Rattle.mesh_types.specs.declared.typed.Typed.{Typed}
 use Rattle.mesh_types.specs.Faults.{most_columns, too_many_columns}
 use Rattle.mesh_tokens.specs.Walk.{provided, along}
 use Rattle.mesh_type_rules.specs.Kinds.{or_text}
-use Rattle.mesh_scope.specs.Sight.{answers_to, qualified, column_typed}
+use Rattle.mesh_sight.specs.Sight.{answers_to, qualified, column_typed}
 use Rattle.mesh_scope.specs.Expressions.{typed}
 
 -- a column of a FROM item, as `*` at this place names it

@@ -11,7 +11,8 @@ ghost use Rattle.mesh_outputs.specs.Keys.{by_number, is_input, item_at, item_mea
 use crate::outputs::Output;
 use mesh_base::Expr;
 use mesh_list::{Duplicate, Memory, Seq};
-use mesh_scope::{Sight, lone_name, typed_expression};
+use mesh_scope::{lone_name, typed_expression};
+use mesh_sight::Sight;
 use mesh_surface::OrExpr;
 use mesh_tokens::ReadFault;
 use mesh_types::Typed;

@@ -9,7 +9,8 @@ ghost use Rattle.mesh_outputs.specs.Outputs.{all_of_item, expanded, item, items,
 use itoa::Buffer;
 use mesh_base::Expr;
 use mesh_list::{Duplicate, Memory, Seq};
-use mesh_scope::{Seen, Sight, answers_to, column_typed, qualified, typed_expression};
+use mesh_scope::typed_expression;
+use mesh_sight::{Seen, Sight, answers_to, column_typed, qualified};
 use mesh_surface::{OrExpr, SurfaceItem};
 use mesh_tokens::ReadFault;
 use mesh_types::{Typed, too_many_columns};

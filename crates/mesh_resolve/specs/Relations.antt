@@ -27,13 +27,13 @@ use Rattle.mesh_outputs.specs.Commons.{Found, cte_named}
 use Rattle.mesh_selects.specs.declared.parts.Drawn.{Drawn}
 use Rattle.mesh_resolve.specs.declared.known.Known.{Known}
 use Rattle.mesh_resolve.specs.declared.drawn.Drawing.{Drawing}
-use Rattle.mesh_scope.specs.InSight.{Sight}
+use Rattle.mesh_sight.specs.InSight.{Sight}
 use Rattle.mesh_types.specs.declared.typed.Typed.{Typed}
 use Rattle.mesh_types.specs.Faults.{unknown_relation, mismatch}
 use Rattle.mesh_tokens.specs.Walk.{provided, along}
 use Rattle.mesh_type_rules.specs.Kinds.{may_be}
 use Rattle.mesh_types.specs.Forms.{Read}
-use Rattle.mesh_scope.specs.Sight.{nothing_seen, seeing}
+use Rattle.mesh_sight.specs.Sight.{nothing_seen, seeing}
 use Rattle.mesh_scope.specs.Expressions.{typed}
 
 -- models and declared sources are found by their names

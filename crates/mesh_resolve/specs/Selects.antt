@@ -9,7 +9,7 @@ use Rattle.mesh_surface.specs.declared.expressions.OrExpr.{OrExpr}
 use Rattle.mesh_surface.specs.declared.queries.SurfaceSelect.{SurfaceSelect}
 use Rattle.mesh_tokens.specs.Gives.{◌>>=◌}
 use Rattle.mesh_tokens.specs.declared.faults.ReadFault.{ReadFault}
-use Rattle.mesh_scope.specs.InSight.{Sight}
+use Rattle.mesh_sight.specs.InSight.{Sight}
 use Rattle.mesh_types.specs.declared.typed.Typed.{Typed}
 use Rattle.mesh_tokens.specs.Walk.{some_of}
 use Rattle.mesh_types.specs.Forms.{expr_of}

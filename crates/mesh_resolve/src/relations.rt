@@ -1,7 +1,7 @@
 // What FROM draws: relations by two-part names, and earlier CTEs by one-part names.
 ghost use Rattle.std.specs.Prelude.{◌≡◌, ◌++◌, ◌∷◌, [], IfOk, OnOk};
 ghost use Rattle.mesh_tokens.specs.Gives.{Gives};
-ghost use Rattle.mesh_scope.specs.Sight.{seeing};
+ghost use Rattle.mesh_sight.specs.Sight.{seeing};
 ghost use Rattle.mesh_resolve.specs.Relations.{condition, conditional, dotted, drawn_from, item_drawn, joined, name_in_from, relation, two_part, unconditional};
 ghost use Rattle.mesh_tokens.specs.Walk.{along};
 ghost use Rattle.mesh_outputs.specs.Leads.{Leads};
@@ -11,8 +11,9 @@ use crate::drawn::Drawing;
 use mesh_base::{Join, Rel};
 use mesh_list::{Duplicate, Memory, Seq, both};
 use mesh_outputs::{Commons, cte_named};
+use mesh_scope::typed_expression;
 use mesh_selects::Drawn;
-use mesh_scope::{Sight, typed_expression};
+use mesh_sight::Sight;
 use mesh_surface::{OrExpr, SurfaceFrom, SurfaceJoin, SurfaceRel};
 use mesh_tokens::ReadFault;
 use mesh_type_rules::may_be;

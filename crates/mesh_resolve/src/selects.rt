@@ -12,7 +12,7 @@ use mesh_base::{Expr, FromItem, Select};
 use mesh_list::{Memory, Seq, together};
 use mesh_outputs::{Commons, group_keys, items, key_exprs, resolved_items};
 use mesh_selects::{Drawn, Walked, is_grouped, stands};
-use mesh_scope::Sight;
+use mesh_sight::Sight;
 use mesh_surface::{OrExpr, SurfaceSelect};
 use mesh_tokens::ReadFault;
 use mesh_types::Typed;

@@ -34,8 +34,8 @@ use Rattle.mesh_types.specs.Faults.{mismatch, unknown_relation}
 use Rattle.mesh_types.specs.Forms.{expr_of}
 use Rattle.mesh_type_rules.specs.Kinds.{may_be}
 use Rattle.mesh_values.specs.declared.values.ColType.TheVariants.{Bool as Truth}
-use Rattle.mesh_scope.specs.declared.sight.Seen.{Seen}
-use Rattle.mesh_scope.specs.declared.sight.Sight.{Sight}
+use Rattle.mesh_sight.specs.declared.sight.Seen.{Seen}
+use Rattle.mesh_sight.specs.declared.sight.Sight.{Sight}
 use Rattle.mesh_scope.specs.Expressions.{typed}
 use Rattle.mesh_resolve.specs.declared.drawn.Drawing.{Drawing}
 use Rattle.mesh_selects.specs.declared.parts.Drawn.{Drawn}

@@ -19,11 +19,11 @@ use Rattle.mesh_tokens.specs.Gives.{◌>>=◌}
 use Rattle.mesh_types.specs.declared.typed.Typed.{Typed}
 use Rattle.mesh_types.specs.Faults.{most_columns, too_many_columns}
 use Rattle.mesh_types.specs.Forms.{expr_of}
-use Rattle.mesh_scope.specs.declared.sight.Seen.{Seen}
-use Rattle.mesh_scope.specs.declared.sight.Sight.{Sight}
+use Rattle.mesh_sight.specs.declared.sight.Seen.{Seen}
+use Rattle.mesh_sight.specs.declared.sight.Sight.{Sight}
 use Rattle.mesh_scope.specs.Expressions.{typed}
 use Rattle.mesh_scope.specs.Lone.{lone_name}
-use Rattle.mesh_scope.specs.Sight.{answers_to, qualified}
+use Rattle.mesh_sight.specs.Sight.{answers_to, qualified}
 use Rattle.mesh_outputs.specs.declared.keys.Key.{Key}
 use Rattle.mesh_outputs.specs.declared.keys.Key.TheVariants.{Item}
 use Rattle.mesh_outputs.specs.declared.commons.Common.{Common}

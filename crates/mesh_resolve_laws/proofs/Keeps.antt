@@ -13,8 +13,8 @@ use Rattle.mesh_surface.specs.declared.signs.Function.{Function}
 use Rattle.mesh_surface.specs.declared.signs.MulSign.{MulSign}
 use Rattle.mesh_types.specs.declared.typed.Typed.{Typed}
 use Rattle.mesh_types.specs.Forms.{leaf, either, both, joined, multiplied, added, negated, denied, null_test, turned, compare_op, compared, between, one_of, cast, called, starred, distinct, cased}
-use Rattle.mesh_scope.specs.InSight.{Sight}
-use Rattle.mesh_scope.specs.Sight.{column, macro_typed}
+use Rattle.mesh_sight.specs.InSight.{Sight}
+use Rattle.mesh_sight.specs.Sight.{column, macro_typed}
 use Rattle.mesh_scope.specs.Expressions.{number}
 
 -- each form gives what has the property, where its operands have it

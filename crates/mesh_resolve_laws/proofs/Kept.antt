@@ -27,9 +27,9 @@ use Rattle.mesh_types.specs.Faults.{mismatch, unwritten, too_large_number, large
 use Rattle.mesh_type_rules.specs.Kinds.{Kind, are_alike, are_one_kind, first_kind, may_be, may_cast, sum_kind}
 use Rattle.mesh_types.specs.Kinds.{as_date, dated, day_text_as_date, is_date, kind_of, node_as_date}
 use Rattle.mesh_types.specs.Forms.{Read, compare_op, factor_op, null_test, added, aggregate, alternatives, among, are_all_alike, arm, between, call, called, case_of, cased, cast, choice, compared, compared_as_they_are, denied, distinct, else_or_null, expr_of, leaf, member, negated, one_of, only, over_one, over_two, range, starred, sum_of_kind, sum_op, summed, test, turned, unary, uniform, values_of, when, within}
-use Rattle.mesh_scope.specs.declared.sight.Sight.{Sight}
+use Rattle.mesh_sight.specs.declared.sight.Sight.{Sight}
 use Rattle.mesh_scope.specs.Expressions.{number}
-use Rattle.mesh_scope.specs.Sight.{column, macro_kind, macro_named, macro_or_fault, macro_typed}
+use Rattle.mesh_sight.specs.Sight.{column, macro_kind, macro_named, macro_or_fault, macro_typed}
 use Rattle.mesh_resolve_laws.proofs.Good.{Good, given, refused, then_good, all_good, provided_good}
 use Rattle.mesh_resolve_laws.proofs.Keeps.{Keeps}
 

@@ -16,11 +16,11 @@ use Rattle.mesh_rules.specs.Seen.{column_at, has_column, has_in, sees, sees_here
 use Rattle.mesh_surface.specs.declared.expressions.OrExpr.{OrExpr}
 use Rattle.mesh_types.specs.declared.typed.Typed.{Typed}
 use Rattle.mesh_types.specs.Faults.{ambiguous, unknown_column}
-use Rattle.mesh_scope.specs.declared.sight.Meant.{Meant}
-use Rattle.mesh_scope.specs.declared.sight.Seen.{Seen}
-use Rattle.mesh_scope.specs.declared.sight.Sight.{Sight}
+use Rattle.mesh_sight.specs.declared.sight.Meant.{Meant}
+use Rattle.mesh_sight.specs.declared.sight.Seen.{Seen}
+use Rattle.mesh_sight.specs.declared.sight.Sight.{Sight}
 use Rattle.mesh_scope.specs.Expressions.{typed}
-use Rattle.mesh_scope.specs.Sight.{answers_to, column, column_typed, meant, meant_by, meant_column, meant_in, qualified, the_one}
+use Rattle.mesh_sight.specs.Sight.{answers_to, column, column_typed, meant, meant_by, meant_column, meant_in, qualified, the_one}
 use Rattle.mesh_resolve_laws.proofs.Good.{Good, given, refused, then_good}
 use Rattle.mesh_resolve_laws.proofs.Kept.{Closed, kept}
 use Rattle.mesh_resolve_laws.proofs.Walks.{walk_keeps}

@@ -31,8 +31,8 @@ use Rattle.mesh_types.specs.Faults.{mismatch}
 use Rattle.mesh_type_rules.specs.Kinds.{may_be}
 use Rattle.mesh_scope.specs.Expressions.{typed}
 use Rattle.mesh_types.specs.declared.typed.Typed.{Typed}
-use Rattle.mesh_scope.specs.declared.sight.Seen.{Seen}
-use Rattle.mesh_scope.specs.declared.sight.Sight.{Sight}
+use Rattle.mesh_sight.specs.declared.sight.Seen.{Seen}
+use Rattle.mesh_sight.specs.declared.sight.Sight.{Sight}
 use Rattle.mesh_selects.specs.declared.parts.Drawn.{Drawn}
 use Rattle.mesh_resolve.specs.declared.drawn.Drawing.{Drawing}
 use Rattle.mesh_resolve.specs.declared.known.Known.{Known}

@@ -15,9 +15,9 @@ use Rattle.mesh_tokens.specs.Walk.{along}
 use Rattle.mesh_tokens.proofs.Along.{along_append}
 use Rattle.mesh_types.specs.Faults.{duplicate, most_columns, too_many_columns}
 use Rattle.mesh_type_rules.specs.Kinds.{Kind, or_text}
-use Rattle.mesh_scope.specs.declared.sight.Seen.{Seen}
-use Rattle.mesh_scope.specs.declared.sight.Sight.{Sight}
-use Rattle.mesh_scope.specs.Sight.{answers_to, qualified}
+use Rattle.mesh_sight.specs.declared.sight.Seen.{Seen}
+use Rattle.mesh_sight.specs.declared.sight.Sight.{Sight}
+use Rattle.mesh_sight.specs.Sight.{answers_to, qualified}
 use Rattle.mesh_scope.specs.Expressions.{typed}
 use Rattle.mesh_outputs.specs.declared.outputs.Output.{Output}
 use Rattle.mesh_selects.specs.Apart.{Taken, new_output, with_name}

@@ -7,7 +7,7 @@ use Rattle.mesh_values.specs.Picked.{same_text}
 use Rattle.mesh_base.specs.declared.expressions.Expr.{Expr, out-Expr}
 use Rattle.mesh_surface.specs.declared.expressions.OrExpr.{OrExpr, out-OrExpr}
 use Rattle.mesh_types.specs.declared.typed.Typed.{Typed}
-use Rattle.mesh_scope.specs.declared.sight.Sight.{Sight}
+use Rattle.mesh_sight.specs.declared.sight.Sight.{Sight}
 use Rattle.mesh_scope.specs.Expressions.{typed}
 use Rattle.mesh_scope.specs.Lone.{lone_name}
 use Rattle.mesh_outputs.specs.declared.keys.Key.{Key}

@@ -39,9 +39,9 @@ use Rattle.mesh_types.specs.Faults.{mismatch, too_large_number, largest_number}
 use Rattle.mesh_type_rules.specs.Kinds.{Kind, may_be, are_alike, first_kind, are_one_kind, sum_kind, may_cast}
 use Rattle.mesh_types.specs.Kinds.{kind_of, is_date, as_date, dated, node_as_date, day_text_as_date}
 use Rattle.mesh_types.specs.Forms.{Read, leaf, expr_of, over_two, over_one, uniform, either, both, joined, multiplied, factor_op, added, sum_op, sum_of_kind, negated, denied, null_test, turned, compare_op, compared, compared_as_they_are, between, within, range, one_of, among, member, are_all_alike, cast, called, unary, alternatives, call, aggregate, only, counted, summed, extreme, starred, distinct, cased, arm, test, when, else_or_null, values_of, choice, case_of}
-use Rattle.mesh_scope.specs.declared.sight.Sight.{Sight}
+use Rattle.mesh_sight.specs.declared.sight.Sight.{Sight}
 use Rattle.mesh_scope.specs.Expressions.{number, typed}
-use Rattle.mesh_scope.specs.Sight.{column, column_typed, qualified, the_one, meant, macro_typed, macro_or_fault, macro_named, macro_kind}
+use Rattle.mesh_sight.specs.Sight.{column, column_typed, qualified, the_one, meant, macro_typed, macro_or_fault, macro_named, macro_kind}
 use Rattle.mesh_base.specs.declared.expressions.Var.{Var}
 use Rattle.mesh_resolve_laws.specs.Operands.{agg_fits, agg_takes, are_of_one_type, func_takes, op_takes, operands_fit}
 use Rattle.mesh_resolve_laws.specs.Typed.{HasColumns, HasKind, HasTypeOver, RowFits, ScopeFits}

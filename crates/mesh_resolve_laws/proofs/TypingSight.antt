@@ -14,10 +14,10 @@ use Rattle.mesh_meaning.specs.Macros.{macro_value, last_second}
 use Rattle.mesh_meaning.proofs.Nodes as nodes
 use Rattle.mesh_types.specs.declared.typed.Typed.{Typed}
 use Rattle.mesh_types.specs.Forms.{leaf}
-use Rattle.mesh_scope.specs.declared.sight.Meant.{Meant}
-use Rattle.mesh_scope.specs.declared.sight.Seen.{Seen}
-use Rattle.mesh_scope.specs.declared.sight.Sight.{Sight}
-use Rattle.mesh_scope.specs.Sight.{column, column_typed, answers_to, qualified, the_one, meant, meant_by, meant_in, meant_column, macro_typed, macro_or_fault, macro_named, macro_kind}
+use Rattle.mesh_sight.specs.declared.sight.Meant.{Meant}
+use Rattle.mesh_sight.specs.declared.sight.Seen.{Seen}
+use Rattle.mesh_sight.specs.declared.sight.Sight.{Sight}
+use Rattle.mesh_sight.specs.Sight.{column, column_typed, answers_to, qualified, the_one, meant, meant_by, meant_in, meant_column, macro_typed, macro_or_fault, macro_named, macro_kind}
 use Rattle.mesh_resolve_laws.specs.Typed.{HasTypeOver, HasColumns}
 use Rattle.mesh_resolve_laws.proofs.TypingCells as cells
 use Rattle.mesh_resolve_laws.proofs.TypingForms as forms

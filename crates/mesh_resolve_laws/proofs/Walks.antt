@@ -32,7 +32,7 @@ use Rattle.mesh_tokens.specs.Gives.{◌>>=◌}
 use Rattle.mesh_tokens.specs.Walk.{along}
 use Rattle.mesh_types.specs.declared.typed.Typed.{Typed}
 use Rattle.mesh_types.specs.Forms.{Read, either, both, joined, multiplied, added, negated, denied, null_test, turned, compare_op, compared, between, one_of, cast, called, distinct, cased}
-use Rattle.mesh_scope.specs.declared.sight.Sight.{Sight}
+use Rattle.mesh_sight.specs.declared.sight.Sight.{Sight}
 use Rattle.mesh_scope.specs.Expressions.{Behind, Arguments, chain, steps, then_right, one_step, one_cast, typed, and_typed, not_typed, pred_typed, test_typed, cat_typed, sum_typed, add_typed, product_typed, mul_typed, unary_typed, post_typed, value_typed, arm_typed, args_typed, some_typed, all_typed, arms_typed}
 use Rattle.mesh_scope.proofs.Layers.{or_layer, and_layer, not_layer, plain_layer, pred_layer, nothing_layer, compare_layer, is_null_layer, between_layer, one_of_layer, cat_layer, sum_layer, add_layer, product_layer, mul_layer, minus_layer, unsigned_layer, post_layer, number_layer, text_layer, date_layer, truth_layer, null_layer, macro_layer, column_layer, call_layer, group_layer, case_layer, cast_layer, arm_layer, star_layer, distinct_layer, list_layer}
 use Rattle.mesh_resolve_laws.proofs.Good.{Good, given, refused, then_good, along_good, all_good, none_good, some_good, each_good, any}

@@ -11,8 +11,8 @@ use Rattle.mesh_base.specs.declared.jobs.Input.{Input}
 use Rattle.mesh_csv.specs.Fits.{is_of, fits}
 use Rattle.mesh_meaning.specs.Ev.{Ev, Scope, Seen, at_row}
 use Rattle.mesh_type_rules.specs.Kinds.{Kind}
-use Rattle.mesh_scope.specs.declared.sight.Seen.{Seen as InSight}
-use Rattle.mesh_scope.specs.declared.sight.Sight.{Sight}
+use Rattle.mesh_sight.specs.declared.sight.Seen.{Seen as InSight}
+use Rattle.mesh_sight.specs.declared.sight.Sight.{Sight}
 use Rattle.mesh_resolve.specs.declared.known.Known.{Known}
 use Rattle.mesh_resolve.specs.Relations.{columns_named}
 

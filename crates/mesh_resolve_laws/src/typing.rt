@@ -18,7 +18,7 @@ ghost use Rattle.mesh_meaning.specs.Ev.{Scope};
 ghost use Rattle.mesh_meaning.specs.Sel.{Sel};
 ghost use Rattle.mesh_scratch.specs.Scratch.{rows_over, table_of};
 ghost use Rattle.mesh_types.specs.declared.typed.Typed.{Typed};
-ghost use Rattle.mesh_scope.specs.declared.sight.Sight.{Sight};
+ghost use Rattle.mesh_sight.specs.declared.sight.Sight.{Sight};
 ghost use Rattle.mesh_scope.specs.Expressions.{typed};
 ghost use Rattle.mesh_resolve.specs.declared.known.Known.{Known};
 ghost use Rattle.mesh_resolve.specs.Owns.{own};

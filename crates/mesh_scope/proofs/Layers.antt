@@ -28,11 +28,11 @@ use Rattle.mesh_surface.specs.declared.expressions.Unary.TheVariants as the_unar
 use Rattle.mesh_surface.specs.declared.expressions.Primary.TheVariants as the_primary
 use Rattle.mesh_surface.specs.declared.expressions.Args.TheVariants as the_args
 use Rattle.mesh_tokens.specs.Gives.{◌>>=◌}
-use Rattle.mesh_scope.specs.InSight.{Sight}
+use Rattle.mesh_sight.specs.InSight.{Sight}
 use Rattle.mesh_types.specs.declared.typed.Typed.{Typed}
 use Rattle.mesh_tokens.specs.Walk.{along}
 use Rattle.mesh_types.specs.Forms.{Read, leaf, either, both, joined, multiplied, added, negated, denied, null_test, turned, compare_op, compared, between, one_of, cast, called, starred, distinct, cased}
-use Rattle.mesh_scope.specs.Sight.{column, macro_typed}
+use Rattle.mesh_sight.specs.Sight.{column, macro_typed}
 use Rattle.mesh_scope.specs.Expressions.{Behind, Arguments, ArmRead, chain, steps, number, one_cast, args_here, not_here, value_here, test_here, unary_here, sum_here, add_here, and_here, arm_here, cat_here, product_here, mul_here, or_here, post_here, pred_here, typed, and_typed, not_typed, pred_typed, test_typed, cat_typed, sum_typed, add_typed, product_typed, mul_typed, unary_typed, post_typed, value_typed, arm_typed, args_typed, some_typed, all_typed, arms_typed}
 
 pub or_layer : (sight : Sight) (e : OrExpr) → typed sight e ≡ chain (out-OrExpr e).at (either (out-OrExpr e).at) (map (and_typed sight) (out-OrExpr e).parts)

@@ -4,7 +4,5 @@ pub mod Layers
 pub mod NameLayers
 -- Answered: a form over the answers for its operands.
 pub mod Answered
--- Soles: none, one or several.
-pub mod Soles
 -- Loops: the loops of the walk.
 pub mod Loops

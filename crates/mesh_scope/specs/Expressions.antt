@@ -27,12 +27,12 @@ use Rattle.mesh_surface.specs.declared.expressions.Test.{Test}
 use Rattle.mesh_surface.specs.declared.expressions.Unary.{Unary}
 use Rattle.mesh_tokens.specs.Gives.{◌>>=◌}
 use Rattle.mesh_tokens.specs.declared.faults.ReadFault.{ReadFault}
-use Rattle.mesh_scope.specs.InSight.{Sight}
+use Rattle.mesh_sight.specs.InSight.{Sight}
 use Rattle.mesh_types.specs.declared.typed.Typed.{Typed}
 use Rattle.mesh_types.specs.Faults.{unwritten, too_large_number, largest_number}
 use Rattle.mesh_tokens.specs.Walk.{provided, along, all_of, some_of}
 use Rattle.mesh_types.specs.Forms.{Read, leaf, either, both, joined, multiplied, added, negated, denied, null_test, turned, compare_op, compared, between, one_of, cast, called, starred, distinct, cased}
-use Rattle.mesh_scope.specs.Sight.{column, macro_typed}
+use Rattle.mesh_sight.specs.Sight.{column, macro_typed}
 
 -- What each part of the tree stands for. A test or a step is behind its left operand, in a form that begins at this
 -- place; arguments are behind their function.

@@ -1,16 +1,11 @@
-//! What an expression may name, and the walk through an expression. Its contract: `typed_expression` gives exactly the
-//! expression with its columns and types, or the first fault in it, operands from left to right before their operators;
-//! `lone_name` tells an expression that is a single name. It stands on `mesh_types`, whose forms it puts together.
+//! The walk through an expression. Its contract: `typed_expression` gives exactly the expression with its columns and types,
+//! or the first fault in it, operands from left to right before their operators; `lone_name` tells an expression that is a
+//! single name. It stands on `mesh_types`, whose forms it puts together, and on `mesh_sight` for what may be named.
 #![tactic(auto)]
 
-mod index;
 mod lone;
-mod names;
-mod sight;
 mod steps;
 mod walk;
 
 pub use lone::lone_name;
-pub use names::{answers_to, column_typed, qualified};
-pub use sight::{Seen, Sight};
 pub use walk::typed as typed_expression;

@@ -2,14 +2,13 @@
 ghost use Rattle.mesh_tokens.specs.Gives.{Gives};
 ghost use Rattle.mesh_scope.specs.Expressions.{typed, and_typed, not_typed, test_typed, cat_typed, sum_typed, product_typed, unary_typed, value_typed, args_typed, some_typed, all_typed, arms_typed};
 
-use crate::names::{column, macro_typed};
-use crate::sight::Sight;
 use crate::steps::{
     all_cast, among_all, between_both, case_over, cast_value, compared_with, in_turn, literal,
     next_factor, next_part, next_term, number, pushed, text, whole, without_value,
 };
 use mesh_base::Op;
 use mesh_list::{Boxed, Seq};
+use mesh_sight::{Sight, column, macro_typed};
 use mesh_surface::{
     AddExpr, AndExpr, Args, Arm, CatExpr, Function, MulExpr, NotExpr, OrExpr, Primary, Test, Unary,
 };

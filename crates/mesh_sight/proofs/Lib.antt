@@ -1,0 +1,2 @@
+-- Soles: none, one or several.
+pub mod Soles
