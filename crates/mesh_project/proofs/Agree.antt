@@ -29,17 +29,17 @@ use Rattle.mesh_tokens.specs.declared.faults.ReadFault.{ReadFault}
 use Rattle.mesh_types.specs.Faults.{duplicate, mismatch, unknown_relation}
 use Rattle.mesh_types.specs.declared.typed.Typed.{Typed}
 use Rattle.mesh_resolve.specs.declared.drawn.Drawing.{Drawing}
-use Rattle.mesh_parts.specs.declared.parts.Drawn.{Drawn}
+use Rattle.mesh_selects.specs.declared.parts.Drawn.{Drawn}
 use Rattle.mesh_outputs.specs.declared.commons.Common.{Common}
 use Rattle.mesh_resolve.specs.declared.known.Known.{Known}
-use Rattle.mesh_parts.specs.declared.parts.Walked.{Walked}
+use Rattle.mesh_selects.specs.declared.parts.Walked.{Walked}
 use Rattle.mesh_outputs.specs.Keys.{keys}
 use Rattle.mesh_outputs.specs.Outputs.{items}
 use Rattle.mesh_outputs.specs.Commons.{Found, cte_named, is_cte, selects_of}
 use Rattle.mesh_outputs.specs.Sides.{are_sides_alike, with_sides_alike}
 use Rattle.mesh_resolve.specs.Queries.{cte, one_select, resolved, selects}
 use Rattle.mesh_resolve.specs.Relations.{columns_named, condition, conditional, dotted, drawing, drawn_from, found_relation, item_drawn, joined, nothing_drawn, or_unknown, relation, relation_by, seeing_relation, unconditional}
-use Rattle.mesh_parts.specs.Standing.{is_grouped}
+use Rattle.mesh_selects.specs.Standing.{is_grouped}
 use Rattle.mesh_resolve.specs.Selects.{from_item, resolved_as, right_keys, select, some_condition, walked}
 use Rattle.mesh_resolve_laws.proofs.Good.{Good, given, provided_good, refused, then_good}
 use Rattle.mesh_project.specs.Reads.{cte_reads, from_reads, join_reads, of_two_parts, query_reads, rel_reads, select_reads, union_reads}

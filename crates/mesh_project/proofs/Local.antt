@@ -44,7 +44,7 @@ use Rattle.mesh_outputs.specs.Commons.{is_cte, selects_of}
 use Rattle.mesh_outputs.specs.Sides.{with_sides_alike}
 use Rattle.mesh_resolve.specs.Queries.{cte, one_select, resolved, selects}
 use Rattle.mesh_resolve.specs.Relations.{columns_named, condition, conditional, dotted, drawing, drawn_from, found_relation, joined, model_columns, nothing_drawn, or_else, or_unknown, relation, relation_by, seeing_relation, source_columns, unconditional}
-use Rattle.mesh_parts.specs.Standing.{is_grouped}
+use Rattle.mesh_selects.specs.Standing.{is_grouped}
 use Rattle.mesh_resolve.specs.Selects.{resolved_as, right_keys, select, some_condition, walked}
 use Rattle.mesh_project.specs.Reads.{cte_reads, from_reads, join_reads, of_two_parts, query_reads, rel_reads, select_reads, text_reads, union_reads}
 use Rattle.mesh_project.proofs.Agree.{names_agree}

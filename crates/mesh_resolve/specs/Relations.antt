@@ -24,7 +24,7 @@ use Rattle.mesh_tokens.specs.Gives.{◌>>=◌}
 use Rattle.mesh_tokens.specs.declared.faults.ReadFault.{ReadFault}
 use Rattle.mesh_outputs.specs.declared.commons.Common.{Common}
 use Rattle.mesh_outputs.specs.Commons.{Found, cte_named}
-use Rattle.mesh_parts.specs.declared.parts.Drawn.{Drawn}
+use Rattle.mesh_selects.specs.declared.parts.Drawn.{Drawn}
 use Rattle.mesh_resolve.specs.declared.known.Known.{Known}
 use Rattle.mesh_resolve.specs.declared.drawn.Drawing.{Drawing}
 use Rattle.mesh_scope.specs.InSight.{Sight}

@@ -16,9 +16,9 @@ use Rattle.mesh_types.specs.Forms.{expr_of}
 use Rattle.mesh_outputs.specs.declared.commons.Common.{Common}
 use Rattle.mesh_outputs.specs.Outputs.{items, resolved_item}
 use Rattle.mesh_outputs.specs.Keys.{keys, key_exprs}
-use Rattle.mesh_parts.specs.declared.parts.Drawn.{Drawn}
-use Rattle.mesh_parts.specs.declared.parts.Walked.{Walked}
-use Rattle.mesh_parts.specs.Standing.{is_grouped, stands}
+use Rattle.mesh_selects.specs.declared.parts.Drawn.{Drawn}
+use Rattle.mesh_selects.specs.declared.parts.Walked.{Walked}
+use Rattle.mesh_selects.specs.Standing.{is_grouped, stands}
 use Rattle.mesh_resolve.specs.declared.known.Known.{Known}
 use Rattle.mesh_resolve.specs.Relations.{condition, drawn_from}
 

@@ -12,7 +12,7 @@ use crate::selects::select;
 use mesh_base::{Ctes, Query, Selects};
 use mesh_list::{Duplicate, Memory, Seq};
 use mesh_outputs::{Common, Commons, with_sides_alike};
-use mesh_parts::duplicate;
+use mesh_selects::duplicate;
 use mesh_surface::{Surface, SurfaceCte, SurfaceUnion};
 use mesh_tokens::ReadFault;
 use std::alloc::Global;

@@ -33,7 +33,7 @@ use Rattle.mesh_scope.specs.Expressions.{typed}
 use Rattle.mesh_types.specs.declared.typed.Typed.{Typed}
 use Rattle.mesh_scope.specs.declared.sight.Seen.{Seen}
 use Rattle.mesh_scope.specs.declared.sight.Sight.{Sight}
-use Rattle.mesh_parts.specs.declared.parts.Drawn.{Drawn}
+use Rattle.mesh_selects.specs.declared.parts.Drawn.{Drawn}
 use Rattle.mesh_resolve.specs.declared.drawn.Drawing.{Drawing}
 use Rattle.mesh_resolve.specs.declared.known.Known.{Known}
 use Rattle.mesh_outputs.specs.declared.commons.Common.{Common}

@@ -1,6 +1,6 @@
 // What keeps the rules of a SELECT: the rule on groups, and then names that stand twice.
 ghost use Rattle.mesh_tokens.specs.Gives.{Gives};
-ghost use Rattle.mesh_parts.specs.Standing.{stands};
+ghost use Rattle.mesh_selects.specs.Standing.{stands};
 
 use crate::apart::{items_apart, outputs_apart};
 use crate::grouping::keeps_groups;

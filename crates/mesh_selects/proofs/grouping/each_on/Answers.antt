@@ -1,7 +1,7 @@
 use Rattle.std.proofs.lemmas.Result.{err_from_is_err_and}
-use Rattle.mesh_parts.specs.Standing.{on_without_aggregates}
+use Rattle.mesh_selects.specs.Standing.{on_without_aggregates}
 use Rattle.mesh_outputs.proofs.Steps.{stops}
-use Rattle.mesh_parts.proofs.grouping.each_on.Goals as goal
+use Rattle.mesh_selects.proofs.grouping.each_on.Goals as goal
 
 pub returns-in_err-some_without_aggregates : goal.returns-in_err-some_without_aggregates
 returns-in_err-some_without_aggregates c =

@@ -14,9 +14,9 @@ use Rattle.mesh_groups.specs.Grouping.{has_aggregate, misplaced, ungrouped}
 use Rattle.mesh_outputs.specs.declared.keys.Key.{Key}
 use Rattle.mesh_outputs.specs.declared.keys.Key.TheVariants.{Part, Item, Missing}
 use Rattle.mesh_outputs.specs.declared.outputs.Output.{Output}
-use Rattle.mesh_parts.specs.declared.parts.Drawn.{Drawn}
-use Rattle.mesh_parts.specs.declared.parts.Walked.{Walked}
-use Rattle.mesh_parts.specs.Apart.{outputs_apart, items_apart}
+use Rattle.mesh_selects.specs.declared.parts.Drawn.{Drawn}
+use Rattle.mesh_selects.specs.declared.parts.Walked.{Walked}
+use Rattle.mesh_selects.specs.Apart.{outputs_apart, items_apart}
 
 abbrev pub Checked : Type 0
 Checked = Result (Unit {0}) ReadFault

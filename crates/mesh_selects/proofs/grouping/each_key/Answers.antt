@@ -1,7 +1,7 @@
 use Rattle.std.proofs.lemmas.Result.{err_from_is_err_and}
-use Rattle.mesh_parts.specs.Standing.{is_right_key}
+use Rattle.mesh_selects.specs.Standing.{is_right_key}
 use Rattle.mesh_outputs.proofs.Steps.{stops}
-use Rattle.mesh_parts.proofs.grouping.each_key.Goals as goal
+use Rattle.mesh_selects.proofs.grouping.each_key.Goals as goal
 
 pub returns-in_err-is_right_key : goal.returns-in_err-is_right_key
 returns-in_err-is_right_key c =

@@ -2,7 +2,7 @@
 ghost use Rattle.std.specs.Prelude.{◌≡◌};
 ghost use Rattle.std.specs.List.{list_any};
 ghost use Rattle.mesh_tokens.specs.Gives.{Gives};
-ghost use Rattle.mesh_parts.specs.Standing.{each, is_grouped, is_right_key, keeps_groups, none_at, on_without_aggregates, output_has_aggregate, output_well_grouped, some, well_grouped, without_aggregates};
+ghost use Rattle.mesh_selects.specs.Standing.{each, is_grouped, is_right_key, keeps_groups, none_at, on_without_aggregates, output_has_aggregate, output_well_grouped, some, well_grouped, without_aggregates};
 
 use crate::parts::{Drawn, Walked};
 use mesh_base::Expr;

@@ -2,7 +2,7 @@
 ghost use Rattle.mesh_tokens.specs.Gives.{Gives};
 ghost use Rattle.mesh_tokens.specs.Walk.{along};
 ghost use Rattle.mesh_outputs.specs.Leads.{Leads};
-ghost use Rattle.mesh_parts.specs.Apart.{items_apart, names_of, new_item, new_name, new_output, outputs_apart};
+ghost use Rattle.mesh_selects.specs.Apart.{items_apart, names_of, new_item, new_name, new_output, outputs_apart};
 
 use crate::faults::duplicate;
 use crate::parts::Drawn;

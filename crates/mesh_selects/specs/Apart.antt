@@ -7,7 +7,7 @@ use Rattle.mesh_tokens.specs.Gives.{◌>>=◌}
 use Rattle.mesh_tokens.specs.Walk.{provided, along}
 use Rattle.mesh_tokens.specs.declared.faults.ReadFault.{ReadFault}
 use Rattle.mesh_types.specs.Faults.{duplicate}
-use Rattle.mesh_parts.specs.declared.parts.Drawn.{Drawn}
+use Rattle.mesh_selects.specs.declared.parts.Drawn.{Drawn}
 use Rattle.mesh_outputs.specs.declared.outputs.Output.{Output}
 
 -- the names so far, as a test of a name

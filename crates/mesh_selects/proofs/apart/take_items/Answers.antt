@@ -1,7 +1,7 @@
 use Rattle.std.proofs.lemmas.Result.{err_from_is_err_and}
-use Rattle.mesh_parts.specs.Apart.{names_of, new_item}
+use Rattle.mesh_selects.specs.Apart.{names_of, new_item}
 use Rattle.mesh_outputs.proofs.Steps.{stops}
-use Rattle.mesh_parts.proofs.apart.take_items.Goals as goal
+use Rattle.mesh_selects.proofs.apart.take_items.Goals as goal
 
 pub returns-in_err-take_name : goal.returns-in_err-take_name
 returns-in_err-take_name c =

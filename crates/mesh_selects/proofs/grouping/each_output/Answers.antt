@@ -1,7 +1,7 @@
 use Rattle.std.proofs.lemmas.Result.{err_from_is_err_and}
-use Rattle.mesh_parts.specs.Standing.{output_well_grouped}
+use Rattle.mesh_selects.specs.Standing.{output_well_grouped}
 use Rattle.mesh_outputs.proofs.Steps.{stops}
-use Rattle.mesh_parts.proofs.grouping.each_output.Goals as goal
+use Rattle.mesh_selects.proofs.grouping.each_output.Goals as goal
 
 pub returns-in_err-well_grouped : goal.returns-in_err-well_grouped
 returns-in_err-well_grouped c =
