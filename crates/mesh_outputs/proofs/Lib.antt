@@ -1,4 +1,4 @@
 pub mod Places
-pub mod Sides
+pub mod Unlike
 pub mod Steps
 pub mod Room
