@@ -1,12 +1,9 @@
 // The faults of a statement.
-ghost use Rattle.std.specs.Prelude.{◌≡◌, IfErr};
-ghost use Rattle.mesh_tokens.specs.Gives.{Gives, Refuses};
 ghost use Rattle.mesh_statement.specs.Faults.{bad, unknown, outside};
 ghost use Rattle.mesh_statement.specs.Answers.{Refused};
 
-use mesh_list::{Duplicate, Memory};
+use mesh_list::Duplicate;
 use mesh_tokens::{FaultKind, ReadFault};
-use mesh_values::Str;
 use std::alloc::Global;
 
 pub(crate) fn bad(alloc: Global, at: u64, name: &[u8]) -> ReadFault
