@@ -1,5 +1,5 @@
-//! What the programs that run cases share: the files of their `data/` folder, the lines of such a file, texts that are
-//! written with escapes and copies, cells, why a run may end early, and how its report is printed. It stands on
+//! What the suites of cases share: their files in the `data/` folder of `mesh_answers`, the lines of such a file, texts that
+//! are written with escapes and copies, cells, why a suite may end early, and how its report is printed. It stands on
 //! `mesh_list`, `mesh_values` and `mesh_io`.
 #![tactic(auto)]
 
@@ -13,6 +13,6 @@ mod words;
 pub use cells::{cell_of, kind_of, kind_word, put_cell};
 pub use escapes::{shown, unescaped};
 pub use files::{cases_of, file_of, halves};
-pub use report::{printed, put_count, put_number};
+pub use report::{is_printed, put_count, put_number};
 pub use trouble::Trouble;
 pub use words::{filled, front_word, number_of};
