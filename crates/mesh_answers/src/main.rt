@@ -12,6 +12,7 @@ use mesh_cases::{Trouble, is_printed};
 use mesh_io::DirFolder;
 use std::env::{Env, FillError};
 use std::process::ExitCode;
+use std::thread::Threads;
 
 /// The cases of one crate.
 #[derive(Clone, Copy)]
@@ -83,8 +84,13 @@ fn asked(rt: &HostRuntime) -> Result<Option<Vec<Suite>>, Trouble> {
     Ok(Some(suites))
 }
 
-/// Adds what comes of the cases of a suite.
-fn run(rt: &HostRuntime, suite: Suite, report: &mut Vec<u8>) -> Result<(), Trouble> {
+/// Adds what comes of the cases of a suite, some of which are computed by several workers.
+fn run<R: Threads + Sync>(
+    rt: &HostRuntime,
+    workers: &R,
+    suite: Suite,
+    report: &mut Vec<u8>,
+) -> Result<(), Trouble> {
     let alloc = rt.alloc();
     let mut data = DirFolder::new(rt);
     match suite {
@@ -92,32 +98,34 @@ fn run(rt: &HostRuntime, suite: Suite, report: &mut Vec<u8>) -> Result<(), Troub
         Suite::Files => mesh_cases_files::run(rt, &mut data, report),
         Suite::House => mesh_cases_house::run(alloc, &mut data, report),
         Suite::Plans => mesh_cases_plans::run(alloc, &mut data, report),
-        Suite::Queries => mesh_cases_queries::run(rt, alloc, &mut data, report),
+        Suite::Queries => mesh_cases_queries::run(workers, alloc, &mut data, report),
     }
 }
 
-/// Runs suites and prints what comes of each, up to the first that can't be run to its end.
-fn status_of(rt: &HostRuntime, suites: &[Suite]) -> ExitCode {
+/// Runs suites and prints what comes of each, up to the first that can't be run to its end. Whether there is none.
+fn are_run<R: Threads + Sync>(rt: &HostRuntime, workers: &R, suites: &[Suite]) -> bool {
     for suite in suites {
         let mut report = Vec::new(rt.alloc());
-        let done = run(rt, *suite, &mut report);
+        let done = run(rt, workers, *suite, &mut report);
         if !is_printed(rt, report.as_slice(), done) {
-            return ExitCode::from(1);
+            return false;
         }
     }
-    ExitCode::from(0)
+    true
+}
+
+fn status_of<R: Threads + Sync>(rt: &HostRuntime, workers: &R, suites: &[Suite]) -> u8 {
+    let are_run = if suites.is_empty() {
+        are_run(rt, workers, &ALL)
+    } else {
+        are_run(rt, workers, suites)
+    };
+    if are_run { 0 } else { 1 }
 }
 
 fn main(rt: HostRuntime) -> ExitCode {
     match asked(&rt) {
-        Ok(Some(suites)) => status_of(
-            &rt,
-            if suites.is_empty() {
-                &ALL
-            } else {
-                suites.as_slice()
-            },
-        ),
+        Ok(Some(suites)) => ExitCode::from(status_of(&rt, &rt, suites.as_slice())),
         Ok(None) => {
             let _ = eprintln!(rt; "a word names no suite");
             ExitCode::from(2)

@@ -54,14 +54,21 @@ mod line;
 mod owns;
 mod written;
 
-use mesh_cases::{Trouble, file_of};
+use mesh_cases::{Pen, Trouble, file_of};
 use mesh_io::DirFolder;
 use std::alloc::Global;
 
+fn files(alloc: Global, data: &mut DirFolder, pen: &mut Pen) -> Result<(), Trouble> {
+    let changes = file_of(alloc, data, b"house", b"changes.txt")?;
+    house::run(alloc, changes.as_slice(), pen)?;
+    let books = file_of(alloc, data, b"house", b"books.txt")?;
+    books::run(alloc, books.as_slice(), pen)
+}
+
 /// Adds what comes of each step of the folder `house`.
 pub fn run(alloc: Global, data: &mut DirFolder, report: &mut Vec<u8>) -> Result<(), Trouble> {
-    let changes = file_of(alloc, data, b"house", b"changes.txt")?;
-    house::run(alloc, changes.as_slice(), report)?;
-    let books = file_of(alloc, data, b"house", b"books.txt")?;
-    books::run(alloc, books.as_slice(), report)
+    let mut pen = Pen::new(alloc);
+    let done = files(alloc, data, &mut pen);
+    report.extend_from_slice(pen.text())?;
+    done
 }

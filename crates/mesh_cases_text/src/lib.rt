@@ -28,8 +28,8 @@ mod answers;
 mod faults;
 mod notation;
 mod parts;
-mod pen;
 mod query;
+mod refusals;
 mod tokens;
 mod tree;
 
@@ -38,8 +38,7 @@ use crate::answers::{
     put_tree_behind,
 };
 use crate::notation::text_of;
-use crate::pen::Pen;
-use mesh_cases::{Trouble, cases_of, file_of};
+use mesh_cases::{Pen, Trouble, cases_of, file_of};
 use mesh_io::DirFolder;
 use std::alloc::Global;
 
