@@ -174,18 +174,14 @@ impl<'a> Line<'a> {
         reference(self.alloc, self.word(at))
     }
 
-    /// The words from a place on.
-    fn words(&self, from: usize) -> &[&'a [u8]] {
-        self.words.get(from..).unwrap_or(&[])
-    }
-
     /// The references behind a word, up to the next word that is none.
     pub fn refs(&self, word: &[u8]) -> Result<Refs, Trouble> {
         let mut refs = Seq::new(self.alloc);
         let mut behind = false;
-        for other in self.words(0) {
-            behind = *other == word || (behind && other.contains(&b'/'));
-            if behind && *other != word {
+        for at in 0..self.len() {
+            let other = self.word(at);
+            behind = other == word || (behind && other.contains(&b'/'));
+            if behind && other != word {
                 pushed(&mut refs, reference(self.alloc, other))?;
             }
         }
@@ -195,8 +191,8 @@ impl<'a> Line<'a> {
     /// The numbers from a place on.
     pub fn numbers(&self, from: usize) -> Result<Marks, Trouble> {
         let mut numbers = Seq::new(self.alloc);
-        for word in self.words(from) {
-            pushed(&mut numbers, number_of(word))?;
+        for at in from..self.len() {
+            pushed(&mut numbers, number_of(self.word(at)))?;
         }
         Ok(numbers)
     }
@@ -204,8 +200,8 @@ impl<'a> Line<'a> {
     /// A row for each number from a place on, whose day is that number too.
     pub fn rows(&self, from: usize) -> Result<Rows, Trouble> {
         let mut rows = Seq::new(self.alloc);
-        for word in self.words(from) {
-            pushed(&mut rows, row(self.alloc, word))?;
+        for at in from..self.len() {
+            pushed(&mut rows, row(self.alloc, self.word(at)))?;
         }
         Ok(rows)
     }
@@ -213,8 +209,8 @@ impl<'a> Line<'a> {
     /// The pairs `MODEL=OBJECT` from a place on.
     pub fn pairs(&self, from: usize) -> Result<Pairs, Trouble> {
         let mut pairs = Seq::new(self.alloc);
-        for word in self.words(from) {
-            pushed(&mut pairs, pair_of(self.alloc, word))?;
+        for at in from..self.len() {
+            pushed(&mut pairs, pair_of(self.alloc, self.word(at)))?;
         }
         Ok(pairs)
     }
@@ -222,8 +218,8 @@ impl<'a> Line<'a> {
     /// What is to be forgotten, from a place on.
     pub fn forgets(&self, from: usize) -> Result<Forgets, Trouble> {
         let mut forgets = Seq::new(self.alloc);
-        for word in self.words(from) {
-            pushed(&mut forgets, forget_of(self.alloc, word))?;
+        for at in from..self.len() {
+            pushed(&mut forgets, forget_of(self.alloc, self.word(at)))?;
         }
         Ok(forgets)
     }
@@ -231,8 +227,8 @@ impl<'a> Line<'a> {
     /// The renames of a map, from a place on.
     pub fn renames(&self, from: usize) -> Result<Renames, Trouble> {
         let mut renames = Seq::new(self.alloc);
-        for word in self.words(from) {
-            pushed(&mut renames, rename_of(self.alloc, word))?;
+        for at in from..self.len() {
+            pushed(&mut renames, rename_of(self.alloc, self.word(at)))?;
         }
         Ok(renames)
     }
