@@ -103,11 +103,27 @@ impl Stage<'_> {
     }
 }
 
+fn value_lines(
+    alloc: Global,
+    values: &mut Values,
+    file: &[u8],
+    report: &mut Vec<u8>,
+) -> Result<(), Trouble> {
+    for line in &cases_of(alloc, file)? {
+        values.line(line, report)?;
+    }
+    Ok(())
+}
+
 /// Runs the cases of one file of values, and adds what is to be printed.
 fn run_values(alloc: Global, file: &[u8], report: &mut Vec<u8>) -> Result<(), Trouble> {
     let mut values = Values::new(alloc);
-    for line in &cases_of(alloc, file)? {
-        values.line(line, report)?;
+    value_lines(alloc, &mut values, file, report)
+}
+
+fn other_lines(stage: &mut Stage, file: &[u8], report: &mut Vec<u8>) -> Result<(), Trouble> {
+    for line in &cases_of(stage.alloc, file)? {
+        stage.line(line, report)?;
     }
     Ok(())
 }
@@ -121,10 +137,7 @@ fn run_others(rt: &HostRuntime, file: &[u8], report: &mut Vec<u8>) -> Result<(),
         inside: Inside::new(alloc),
         host: Host::new(rt),
     };
-    for line in &cases_of(alloc, file)? {
-        stage.line(line, report)?;
-    }
-    Ok(())
+    other_lines(&mut stage, file, report)
 }
 
 /// Adds what each call of the folder `files` answers. What the host's output is given is printed at once.
