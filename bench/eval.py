@@ -1,17 +1,17 @@
 #!/usr/bin/env python3
-"""Times `mesh_answers` on queries over tables of many rows, and the same queries in SQLite, in memory: a join, a left join
-of which half the rows have no partner, groups, DISTINCT, COUNT(DISTINCT), a filter and a CASE of ten branches, each over
-1,000,000, 100,000 and 50,000 rows. Prints seconds of processor of one evaluation, growth from 50,000 to 100,000 rows, and
-beside them SQLite's seconds for the same rows, all of which it hands over. Last it prints the most memory that a run took,
-and that of the tables alone. The program reads its cases where it runs, so each run gets a folder with a file of its own.
+"""Times the suite `queries` of `mesh_answers` on queries over tables of many rows, and the same queries in SQLite, in memory:
+a join, a left join of which half the rows have no partner, groups, DISTINCT, COUNT(DISTINCT), a filter and a CASE of ten
+branches, each over 1,000,000, 100,000 and 50,000 rows. Prints seconds of processor of one evaluation, growth from 50,000 to
+100,000 rows, and beside them SQLite's seconds for the same rows, all of which it hands over. Last it prints the most memory
+that a run took, and that of the tables alone. The program reads its cases where it runs, so each run gets a folder with a
+file of its own.
 
 Usage: bench/eval.py [PROGRAM], where PROGRAM is crates/mesh_answers/out/mesh_answers if left out (`rt run` makes it)."""
-import os
 import sqlite3
 import sys
 import time
 
-from measured import TOP, ran
+from measured import Suite
 
 SIZES = (1_000_000, 100_000, 50_000)
 BLOCK = 1000
@@ -61,28 +61,28 @@ def table(name, rows, step):
         v = f"(add (col 0 1:n) (int {begin}))"
         k = v if step == 1 else f"(mul {v} (int {step}))"
         said.append(f"(select all plain [(as 1:k int {k}) (as 1:v int {v})] [(item first (rel 1:a 1:b) none)] none [] none)")
-    return f"table 1:{name} | (query [] [{' '.join(said)}])\n"
+    return f"table 1:{name} | (query [] [{' '.join(said)}])"
 
 
 def cases(what, rows, times):
-    """The file of a query that is evaluated so often over two tables of so many rows, which are whole thousands."""
+    """The lines of a query that is evaluated so often over two tables of so many rows, which are whole thousands."""
     numbers = " ".join(f"[(int {n})]" for n in range(BLOCK))
-    block = f"table 1:b | (seed [(column 1:n int)] [{numbers}])\n"
-    tables = table("l", rows, 1) + table("r", rows, 2 if what == "left" else 1)
+    block = f"table 1:b | (seed [(column 1:n int)] [{numbers}])"
+    tables = [table("l", rows, 1), table("r", rows, 2 if what == "left" else 1)]
     query = SELECTS[what].format(half=rows // 2)
-    return block + tables + f"sum {what} | (query [] [{query}])\n" * times
+    return [block, *tables] + [f"sum {what} | (query [] [{query}])"] * times
 
 
-def run(program, what, rows, times, runs=1):
+def run(suite, what, rows, times, runs=1):
     """The least seconds of processor of some runs, megabytes at the most, and what was printed."""
-    return ran(program, {"cases.txt": cases(what, rows, times), "resolved.txt": ""}, runs)
+    return suite.taken("cases.txt", cases(what, rows, times), runs)
 
 
-def ours(program, what, rows):
+def ours(suite, what, rows):
     """The least seconds of one evaluation, without those that making the tables takes, and what one prints."""
     times = 1 if rows > 100_000 else 5
-    none, _, _ = run(program, what, rows, 0, 3)
-    least, _, said = run(program, what, rows, times, 3)
+    none, _, _ = run(suite, what, rows, 0, 3)
+    least, _, said = run(suite, what, rows, times, 3)
     return (least - none) / times, " ".join(set(said.splitlines()))
 
 
@@ -105,19 +105,19 @@ def theirs(what, rows):
 
 
 def main():
-    program = os.path.abspath(sys.argv[1]) if len(sys.argv) > 1 else f"{TOP}/crates/mesh_answers/out/mesh_answers"
+    suite = Suite("queries", *sys.argv[1:])
     for what in QUERIES:
         taken = {}
         for rows in SIZES:
-            own, said = ours(program, what, rows)
+            own, said = ours(suite, what, rows)
             other, wanted = theirs(what, rows)
             assert said == wanted, (what, rows, said, wanted)
             taken[rows] = own
             print(f"{what}, {rows:,} rows: {own:.4f} s, SQLite {other:.4f} s, ratio {own / other:.2f}")
         print(f"{what}: growth {taken[100_000] / taken[50_000]:.2f}")
     for what in ("join", "group", "distinct"):
-        _, tables, _ = run(program, what, 1_000_000, 0)
-        _, most, _ = run(program, what, 1_000_000, 1)
+        _, tables, _ = run(suite, what, 1_000_000, 0)
+        _, most, _ = run(suite, what, 1_000_000, 1)
         print(f"{what}, 1,000,000 rows: {most:.0f} MB at the most, the two tables alone {tables:.0f} MB")
 
 

@@ -1,18 +1,18 @@
 #!/usr/bin/env python3
-"""Times `mesh_cases_house` on a warehouse in memory: one with tables, a view and a version for each, and then 100,000 changes that
-each record an hour of one version after another; for 2,048 tables and for 4,096. Then one change that forgets 200,000
-units of a version, which adjoin or are every second one; and one that gives 10,000 snapshots other fingerprints, which
-are of as many models or of one. Their seconds are those of a file that makes the changes at once and counts what is then
-there, without one that has the same changes and makes none. Last `mesh_rows`: the views of a further environment of many models,
-by `apply` without those of `plan`, and a janitor's sweep of the snapshots and tables of environments that are over. Prints
-seconds of processor and growth.
+"""Times the suite `house` of `mesh_answers` on a warehouse in memory: one with tables, a view and a version for each, and
+then 100,000 changes that each record an hour of one version after another; for 2,048 tables and for 4,096. Then one change
+that forgets 200,000 units of a version, which adjoin or are every second one; and one that gives 10,000 snapshots other
+fingerprints, which are of as many models or of one. Their seconds are those of a file that makes the changes at once and
+counts what is then there, without one that has the same changes and makes none. Last `mesh_rows`: the views of a further
+environment of many models, by `apply` without those of `plan`, and a janitor's sweep of the snapshots and tables of
+environments that are over. Prints seconds of processor and growth.
 
-Usage: bench/house.py [PROGRAM], where PROGRAM is crates/mesh_cases_house/out/mesh_cases_house if left out (`rt run` makes it)."""
+Usage: bench/house.py [PROGRAM], where PROGRAM is crates/mesh_answers/out/mesh_answers if left out (`rt run` makes it)."""
 import random
 import sys
 
 import played
-from measured import Program
+from measured import Suite
 
 CHANGES = 100_000
 UNITS = 200_000
@@ -23,30 +23,30 @@ HOUR = 3_600
 OWN = "own m (own 1:a 1:m (view) 9:0 0 * * * hour none [] (query [] []))"
 
 
-def made(program, front, changes, answer):
+def made(suite, front, changes, answer):
     """The seconds of making these changes at once behind those in front, which leaves so many snapshots and spans."""
     kept = [OWN, *(f"also {change}" for change in front), "count_all", *(f"also {change}" for change in changes)]
-    none, _ = program.ran("changes.txt", kept)
-    all, said = program.ran("changes.txt", [*kept, "count_all"])
+    none, _ = suite.ran("changes.txt", kept)
+    all, said = suite.ran("changes.txt", [*kept, "count_all"])
     assert said.splitlines()[1] == answer, said[-1000:]
     return all - none
 
 
-def recorded(program, tables):
+def recorded(suite, tables):
     front = []
     for n in range(tables):
         front += [f"put_snapshot b.{n:04}/0 m 0 s__b.{n:04} 0", f"make_table s__b.{n:04}", f"point_view b.{n:04} s__b.{n:04}"]
     hours = ((n % tables, n // tables * HOUR) for n in range(CHANGES))
     changes = [f"record_range s__b.{table:04} {start} {start + HOUR}" for table, start in hours]
     # Each version is recorded without a hole.
-    return made(program, front, changes, f"snapshots {tables}, spans {tables}")
+    return made(suite, front, changes, f"snapshots {tables}, spans {tables}")
 
 
-def forgotten(program, units, step):
+def forgotten(suite, units, step):
     front = ["put_snapshot b.m/0 m 0 b.t 0", f"record_range b.t 0 {units * step}"]
     change = " ".join(f"b.t:{n * step}:{n * step + 1}" for n in range(units))
     # Between two units that are forgotten one or none is left.
-    return made(program, front, [f"forget_units {change}"], f"snapshots 1, spans {0 if step == 1 else units}")
+    return made(suite, front, [f"forget_units {change}"], f"snapshots 1, spans {0 if step == 1 else units}")
 
 
 def fingerprints(count):
@@ -63,7 +63,7 @@ def turned(bytes, places):
     return bytes[places:] + bytes[:places]
 
 
-def migrated(program, count, models):
+def migrated(suite, count, models):
     """The seconds of one of some migrations of snapshots, each of which has the two before it as parents and stands in an
     environment."""
     keys = [(f"b.{n % models:06}", first) for n, first in enumerate(fingerprints(count))]
@@ -75,7 +75,7 @@ def migrated(program, count, models):
     for move in range(MOVES):
         old = sorted((name, turned(first, move % 4)) for name, first in keys)
         changes.append(f"migrate {' '.join(f'{name}/{written(bytes)}={written(turned(bytes, 1))}' for name, bytes in old)}")
-    return made(program, front, changes, f"snapshots {count}, spans 0") / MOVES
+    return made(suite, front, changes, f"snapshots {count}, spans 0") / MOVES
 
 
 def promoted(count):
@@ -93,19 +93,19 @@ def swept(count):
 
 
 def main():
-    program = Program("mesh_cases_house", *sys.argv[1:])
-    half = recorded(program, 2048)
-    full = recorded(program, 4096)
+    suite = Suite("house", *sys.argv[1:])
+    half = recorded(suite, 2048)
+    full = recorded(suite, 4096)
     print(f"{CHANGES:,} changes over 2,048 tables: {half:.3f} s")
     print(f"{CHANGES:,} changes over 4,096 tables: {full:.3f} s")
     print(f"growth from half to full: {full / half:.2f}")
     for step, how in ((1, "adjoining"), (2, "every second one")):
-        once = forgotten(program, UNITS, step)
-        twice = forgotten(program, 2 * UNITS, step)
+        once = forgotten(suite, UNITS, step)
+        twice = forgotten(suite, 2 * UNITS, step)
         print(f"{UNITS:,} units forgotten, {how}: {once:.3f} s, growth when doubled {twice / once:.2f}")
     for models, how in ((1_000_000, "of as many models"), (1, "of one model")):
-        once = migrated(program, SNAPSHOTS, models)
-        twice = migrated(program, 2 * SNAPSHOTS, models)
+        once = migrated(suite, SNAPSHOTS, models)
+        twice = migrated(suite, 2 * SNAPSHOTS, models)
         print(f"{SNAPSHOTS:,} snapshots migrated, {how}: {once:.3f} s, growth when doubled {twice / once:.2f}")
     half, full = promoted(2048), promoted(4096)
     print(f"4,096 models promoted: {full:.4f} s, growth {full / half:.2f}")

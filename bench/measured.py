@@ -1,16 +1,18 @@
-"""Seconds of processor that a program takes in a folder with some files, and a program of cases for lines of its files."""
+"""Seconds of processor that a program takes in a folder with some files, and a suite of `mesh_answers` for lines of its files."""
 import os
 import re
 import subprocess
 import tempfile
 
 TOP = os.path.dirname(os.path.dirname(os.path.abspath(__file__)))
+PROGRAM = f"{TOP}/crates/mesh_answers/out/mesh_answers"
 TIMES = 10
 FILES = {
-    "mesh_answers": ("cases.txt", "resolved.txt"),
-    "mesh_cases_files": ("times", "casts", "ranges", "canon", "digests", "seeds", "sources", "outside"),
-    "mesh_cases_house": ("changes.txt", "books.txt"),
-    "mesh_cases_text": ("tokens.txt", "queries.txt", "behind.txt", "limits.txt", "statements.txt", "models.txt", "cuts.txt", "faults.txt"),
+    "text": ("tokens.txt", "queries.txt", "behind.txt", "limits.txt", "statements.txt", "models.txt", "cuts.txt", "faults.txt"),
+    "files": ("times", "casts", "ranges", "canon", "digests", "seeds", "sources", "outside"),
+    "house": ("changes.txt", "books.txt"),
+    "plans": ("cases.txt",),
+    "queries": ("cases.txt", "resolved.txt"),
 }
 
 
@@ -20,9 +22,9 @@ def filled(text):
     return re.sub(r"\{(\d+)[ *]([^}]*)\}", copies, text).replace("\\n", "\n")
 
 
-def ran(program, files, runs):
-    """The least seconds of processor of some runs of a program in a folder with these files, the most memory that one took, in
-    MB, and what the last one printed."""
+def ran(command, files, runs):
+    """The least seconds of processor of some runs of a program with its words in a folder with these files, the most memory that
+    one took, in MB, and what the last one printed."""
     least, most = None, 0
     with tempfile.TemporaryDirectory() as folder:
         for path, text in files.items():
@@ -31,7 +33,7 @@ def ran(program, files, runs):
             with open(place, "w") as file:
                 file.write(text)
         for _ in range(runs):
-            child = subprocess.Popen([program], stdin=subprocess.DEVNULL, stdout=subprocess.PIPE, cwd=folder)
+            child = subprocess.Popen(command, stdin=subprocess.DEVNULL, stdout=subprocess.PIPE, cwd=folder)
             said = child.stdout.read().decode()
             _, status, used = os.wait4(child.pid, 0)
             assert status == 0, (status, said[-1000:])
@@ -41,17 +43,22 @@ def ran(program, files, runs):
     return least, most, said
 
 
-class Program:
-    """A program of cases, by its path, or as `rt run` leaves it in its crate's folder."""
+class Suite:
+    """A suite of `mesh_answers`, which lies at some path, or where `rt run` leaves it."""
 
-    def __init__(self, crate, path=None):
-        self.files = FILES[crate]
-        self.path = os.path.abspath(path) if path else f"{TOP}/crates/{crate}/out/{crate}"
+    def __init__(self, name, path=None):
+        self.name = name
+        self.command = [os.path.abspath(path) if path else PROGRAM, name]
+
+    def taken(self, file, lines, runs, further={}):
+        """The least seconds of some runs over a file with these lines, the suite's others being empty, and with further files;
+        the most memory, and what was printed."""
+        files = dict.fromkeys(FILES[self.name], "") | {file: "".join(f"{line}\n" for line in lines)}
+        return ran(self.command, {f"{self.name}/{name}": text for name, text in files.items()} | further, runs)
 
     def ran(self, file, lines):
-        """The least seconds of five runs over a file with these lines, the others being empty, and what was printed."""
-        files = dict.fromkeys(self.files, "") | {file: "".join(f"{line}\n" for line in lines)}
-        least, _, said = ran(self.path, files, 5)
+        """The least seconds of five such runs, and what was printed."""
+        least, _, said = self.taken(file, lines, 5)
         return least, said
 
     def each(self, file, lines, answer, front=()):

@@ -1,37 +1,38 @@
 #!/usr/bin/env python3
-"""Times `mesh_cases_plans` on projects of many incremental models, each over all of the rank below it, joined and bound to the unit:
-the categories of all, where each gains a column; what all models read; and which aren't steady. Each also with half of the
-ranks. Then `mesh_rows` on plans: of a project that is unchanged, over a book of four times as many snapshots; and of one model
-with many hours, none of which is recorded. A plan's seconds are those of the command without those of one
-at an earlier moment, which loads the project, reads the book and refuses. Prints seconds of processor and growth.
+"""Times the suite `plans` of `mesh_answers` on projects of many incremental models, each over all of the rank below it,
+joined and bound to the unit: the categories of all, where each gains a column; what all models read; and which aren't steady.
+Each also with half of the ranks. Then `mesh_rows` on plans: of a project that is unchanged, over a book of four times as many
+snapshots; and of one model with many hours, none of which is recorded. A plan's seconds are those of the command without
+those of one at an earlier moment, which loads the project, reads the book and refuses. Prints seconds of processor and
+growth.
 
-Usage: bench/plan.py [lattice] [plans] for one of the two parts; the programs are crates/mesh_cases_plans/out/mesh_cases_plans and
+Usage: bench/plan.py [lattice] [plans] for one of the two parts; the programs are crates/mesh_answers/out/mesh_answers and
 crates/mesh_rows/out/mesh_rows (`rt run` makes them)."""
 import sys
 
 import played
-from measured import TOP, ran
+from measured import Suite
 
 TIMES = 20
 REFUSED = 7
 HOURS = {200_000: "2023-10-26T08:00", 100_000: "2012-05-29T16:00"}
 
 
-def seconds(program, lines):
-    return ran(program, {"cases.txt": "\n".join(lines) + "\n"}, 2)[0]
+def seconds(suite, lines):
+    return suite.taken("cases.txt", lines, 2)[0]
 
 
-def asked(program, width, height, words):
+def asked(suite, width, height, words):
     """The seconds of one question of each kind to a project, without those that making the project takes."""
     front = [f"lattice {width} {height}", "project", f"wider {width} {height}"]
-    none = seconds(program, front + [f"{words[0]} 1"])
-    return [(seconds(program, front + [f"{words[0]} 1", f"{word} {TIMES}"]) - none) / TIMES for word in words]
+    none = seconds(suite, front + [f"{words[0]} 1"])
+    return [(seconds(suite, front + [f"{words[0]} 1", f"{word} {TIMES}"]) - none) / TIMES for word in words]
 
 
 def lattices():
-    program = f"{TOP}/crates/mesh_cases_plans/out/mesh_cases_plans"
+    suite = Suite("plans")
     words = ("count", "readings", "unsteady")
-    halves, fulls = asked(program, 64, 32, words), asked(program, 64, 64, words)
+    halves, fulls = asked(suite, 64, 32, words), asked(suite, 64, 64, words)
     for name, half, full in zip(("categorize", "reads", "unsteady"), halves, fulls):
         print(f"{name}: 2,048 models {half:.4f} s, 4,096 models {full:.4f} s, growth {full / max(half, 1e-9):.2f}")
 

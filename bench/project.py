@@ -1,12 +1,11 @@
 #!/usr/bin/env python3
-"""Times `mesh_cases_plans` on loading whole projects from a folder, of models of 300 bytes each: a chain, a star, and 64 layers of 64
-models that read three of the layer before. Prints seconds of processor and growth.
+"""Times the suite `plans` of `mesh_answers` on loading whole projects from a folder, of models of 300 bytes each: a chain, a
+star, and 64 layers of 64 models that read three of the layer before. Prints seconds of processor and growth.
 
-Usage: bench/project.py [PROGRAM], where PROGRAM is crates/mesh_cases_plans/out/mesh_cases_plans if left out (`rt run` makes it)."""
-import os
+Usage: bench/project.py [PROGRAM], where PROGRAM is crates/mesh_answers/out/mesh_answers if left out (`rt run` makes it)."""
 import sys
 
-from measured import TOP, ran
+from measured import Suite
 
 BYTES = 300
 
@@ -34,19 +33,19 @@ def layers(width, height):
     return made
 
 
-def seconds(program, models):
+def seconds(suite, models):
     files = {f"project/models/m{number:04}.sql": model for number, model in enumerate(models)}
-    least, _, said = ran(program, {**files, "cases.txt": "read project\n"}, 3)
+    least, _, said = suite.taken("cases.txt", ["read project"], 3, files)
     assert said == f"read project {len(models)}\n", said
     return least
 
 
 def main():
-    program = os.path.abspath(sys.argv[1]) if len(sys.argv) > 1 else f"{TOP}/crates/mesh_cases_plans/out/mesh_cases_plans"
+    suite = Suite("plans", *sys.argv[1:])
     for name, made in (("chain", chain), ("star", star)):
-        few, half, full = seconds(program, made(1000)), seconds(program, made(2048)), seconds(program, made(4096))
+        few, half, full = seconds(suite, made(1000)), seconds(suite, made(2048)), seconds(suite, made(4096))
         print(f"{name}: 1,000 models {few:.3f} s, 2,048 models {half:.3f} s, 4,096 models {full:.3f} s, growth {full / max(half, 1e-9):.2f}")
-    half, full = seconds(program, layers(64, 32)), seconds(program, layers(64, 64))
+    half, full = seconds(suite, layers(64, 32)), seconds(suite, layers(64, 64))
     print(f"layers: 2,048 models {half:.3f} s, 4,096 models {full:.3f} s, growth {full / max(half, 1e-9):.2f}")
 
 

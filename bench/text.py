@@ -1,18 +1,17 @@
 #!/usr/bin/env python3
-"""Times programs of cases on texts: `mesh_cases_text` on a query of nearly 1 MB with many CTEs and items, some nested 60 deep,
-which is scanned into tokens, and its tokens are read; `mesh_answers` on the names and types of a query of many CTEs, each with
-joins and groups, that are joined; and `mesh_cases_files` on a seed of nearly 4 MB, without declared columns and with them. Each
-also at half the size. Prints seconds of processor for one text, megabytes of text a second, and growth.
+"""Times suites of `mesh_answers` on texts: `text` on a query of nearly 1 MB with many CTEs and items, some nested 60 deep,
+which is scanned into tokens, and its tokens are read; `queries` on the names and types of a query of many CTEs, each with
+joins and groups, that are joined; and `files` on a seed of nearly 4 MB, without declared columns and with them. Each also at
+half the size. Prints seconds of processor for one text, megabytes of text a second, and growth.
 
 A text's seconds are those of its line without those of one with as long a text that is refused sooner: tokens at their first
 byte; a tree at its first token; names and types at the first name of a query that is refused at the last name. A seed's are
 those without a line that takes as long a text for a day.
 
-Usage: bench/text.py [TEXT ANSWERS FILES], the paths of the three programs, where they lie in crates/NAME/out/NAME if left out
-(`rt run` makes them)."""
+Usage: bench/text.py [PROGRAM], where PROGRAM is crates/mesh_answers/out/mesh_answers if left out (`rt run` makes it)."""
 import sys
 
-from measured import Program, filled, report
+from measured import Suite, filled, report
 
 CTE = "c AS (SELECT a, count(*) AS n FROM s.t WHERE a > 1 GROUP BY a), "
 ITEM = "t.amount * 2 + 10 AS total_amount, "
@@ -36,16 +35,16 @@ def query(size):
     return f"WITH {ctes}d AS (SELECT 1 AS a) SELECT {items}{deep}1 AS z FROM s.t"
 
 
-def tokens(programs, size):
+def tokens(suites, size):
     text = query(size)
-    scanned = programs[0].each("limits.txt", [f") {text}"], REFUSED)
-    return scanned - programs[0].each("tokens.txt", [f"? {text}"], REFUSED), len(filled(text))
+    scanned = suites[0].each("limits.txt", [f") {text}"], REFUSED)
+    return scanned - suites[0].each("tokens.txt", [f"? {text}"], REFUSED), len(filled(text))
 
 
-def tree(programs, size):
+def tree(suites, size):
     text = query(size)
-    read = programs[0].each("limits.txt", [text], " read")
-    return read - programs[0].each("limits.txt", [f") {text}"], REFUSED), len(filled(text))
+    read = suites[0].each("limits.txt", [text], " read")
+    return read - suites[0].each("limits.txt", [f") {text}"], REFUSED), len(filled(text))
 
 
 def grouped(size, first, last):
@@ -56,24 +55,22 @@ def grouped(size, first, last):
     return f"WITH y AS (SELECT {first} FROM s.t), {{{count} {GROUPS}}}z AS (SELECT 1 AS k) SELECT {items}{last} FROM s.u AS y{joins}"
 
 
-def names(programs, size):
+def names(suites, size):
     # The same bytes, but that the column that isn't there stands in the other place.
     soon, late = grouped(size, "w", "w"), grouped(size, "k", "t")
-    resolved = programs[1].each("resolved.txt", [f"read | {late}"], "M7 unknown column t", MODELS)
-    return resolved - programs[1].each("resolved.txt", [f"read | {soon}"], "M7 unknown column w", MODELS), len(filled(late))
+    resolved = suites[1].each("resolved.txt", [f"read | {late}"], "M7 unknown column t", MODELS)
+    return resolved - suites[1].each("resolved.txt", [f"read | {soon}"], "M7 unknown column w", MODELS), len(filled(late))
 
 
-def seed(programs, rows, columns):
+def seed(suites, rows, columns):
     """A seed of rows of a number, a day and a text, about 34 bytes each."""
     text = f"id,day,name\\n{{{rows} 1234567,2024-02-29,a longer text\\n}}"
-    read = programs[2].each("seeds", [f"seed-size {text}"], f"columns 3, rows {rows}", [f"columns {columns}"])
-    return read - programs[2].each("times", [f"day {text}"], "none"), len(filled(text))
+    read = suites[2].each("seeds", [f"seed-size {text}"], f"columns 3, rows {rows}", [f"columns {columns}"])
+    return read - suites[2].each("times", [f"day {text}"], "none"), len(filled(text))
 
 
 def main():
-    crates = ("mesh_cases_text", "mesh_answers", "mesh_cases_files")
-    paths = sys.argv[1:] or [None] * 3
-    programs = [Program(crate, path) for crate, path in zip(crates, paths, strict=True)]
+    suites = [Suite(name, *sys.argv[1:]) for name in ("text", "queries", "files")]
     measures = (
         ("tokens", tokens, 1_000_000),
         ("parse", tree, 1_000_000),
@@ -82,8 +79,8 @@ def main():
         ("read_seed of declared columns", lambda all, rows: seed(all, rows, "id int day date name text"), 120_000),
     )
     for name, measure, size in measures:
-        half, _ = measure(programs, size // 2)
-        full, length = measure(programs, size)
+        half, _ = measure(suites, size // 2)
+        full, length = measure(suites, size)
         report(name, length, half, full)
 
 

@@ -1,112 +1,138 @@
-//! Queries as data: what they mean, and their rows. Each line of a file of `data/` is a case, but for empty lines and those
-//! that begin with `#`; what must be printed stands in the crate's `stdout`, and was worked out by hand.
+//! The cases of the libraries, as data: the suites of the crates `mesh_cases_text`, `mesh_cases_files`, `mesh_cases_house`,
+//! `mesh_cases_plans` and `mesh_cases_queries`, one after another. A suite's files lie in the folder of its name in `data/`,
+//! and its crate's head says what their lines are. What is printed is compared with `stdout`, whose values were worked out
+//! by hand.
 //!
-//! In `resolved.txt` a case is the text of a query, and what it means is printed below it, as the canonical text of its CTEs
-//! and SELECTs (`mesh_canon_text/specs/Text.antt`), or the line of its first fault. `{N TEXT}` stands for a text N times, in
-//! which `#` is the number of the copy. A line may have a head:
-//! - `model | FILE` makes a model known by the text of its file, with the columns that this names;
-//! - `sources | FILE` makes the sources known that a file declares;
-//! - `expr | E` shows the type and the expression of `SELECT E AS x FROM a.t`;
-//! - `macros | QUERY` is a query of an incremental model;
-//! - `read | QUERY` shows alone whether a query means something, or memory ran out;
-//! - `own | FILE`, and `timed | FILE` for an incremental model, show the definition that a model's file means; a seed has
-//!   no rows.
-//!
-//! In `cases.txt` a case is a query, a seed or an expression, of which the rows are shown on one line, over the tables of the
-//! lines before, in the second day of 1970. A query is written as text, all else in canonical text; in it `$` and two
-//! letters stand for the text of a word:
-//! - `$NN | TEXT` makes the word NN of two letters;
-//! - `table NAME | TEXT` makes the table `a.NAME` of a seed's rows, or of a query's; the name is written as in canonical text;
-//! - `(..` is an expression, which is evaluated without a row;
-//! - `sum .. | TEXT` shows how many rows a query has, and the sum of their numbers;
-//! - `distinct .. | TEXT` shows one of each of a seed's rows, as `distinct_rows` of `mesh_index` keeps them;
-//! - `places .. | TEXT` shows, for each of a seed's rows, its places among the rows of the last table, and the first of them,
-//!   as an `Index` of `mesh_index` finds them;
-//! - `.. | TEXT` shows the rows of a query;
-//! - `waves` computes jobs by several workers (`mesh_wave`): none, two of which one waits for the other at a gate, and 256, and
-//!   shows how many lists of rows there are, and whether each stands at the place of its job.
-//!
-//! `bench/eval.py` and `bench/text.py` run the program where their own cases lie.
+//! The words of the command line name the suites that are run, in their order: `text`, `files`, `house`, `plans` and
+//! `queries`; with no word all of them are, in this order. A word that names none ends with status 2. A suite that can't be
+//! run to its end is the last one, and the status is 1.
 #![tactic(auto)]
 
-mod asked;
-mod cut;
-mod gates;
-mod jobs;
-mod shown;
-mod stage;
-mod waves;
-mod words;
-
-use crate::asked::Asked;
-use crate::stage::Stage;
-use crate::waves::put_waves;
-use mesh_base::Inputs;
-use mesh_cases::{Trouble, cases_of, file_of, filled, halves, printed};
+use mesh_cases::{Trouble, is_printed};
 use mesh_io::DirFolder;
-use std::alloc::Global;
+use std::env::{Env, FillError};
 use std::process::ExitCode;
 use std::thread::Threads;
 
-/// Runs a line of the file of queries that are resolved.
-fn ask(alloc: Global, asked: &mut Asked, report: &mut Vec<u8>, line: &[u8]) -> Result<(), Trouble> {
-    let (head, text) = halves(line).unwrap_or((b"".as_slice(), line));
-    let text = filled(alloc, text)?;
-    if asked.takes(alloc, head, text.as_slice())? {
-        return Ok(());
-    }
-    report.extend_from_slice(line)?;
-    report.extend_from_slice(b"\n    ")?;
-    asked.put(alloc, report, head, text.as_slice())?;
-    report.push(b'\n')?;
-    Ok(())
+/// The cases of one crate.
+#[derive(Clone, Copy)]
+enum Suite {
+    Text,
+    Files,
+    House,
+    Plans,
+    Queries,
 }
 
-/// Runs the queries that are resolved.
-fn resolved(alloc: Global, data: &mut DirFolder, report: &mut Vec<u8>) -> Result<(), Trouble> {
-    let file = file_of(alloc, data, b"resolved.txt")?;
-    let mut asked = Asked::new(alloc);
-    for line in cases_of(alloc, file.as_slice())? {
-        ask(alloc, &mut asked, report, line)?;
-    }
-    Ok(())
+const ALL: [Suite; 5] = [
+    Suite::Text,
+    Suite::Files,
+    Suite::House,
+    Suite::Plans,
+    Suite::Queries,
+];
+
+/// The most words that are read.
+const MOST_WORDS: usize = 1 << 10;
+
+/// What stands at a place of the command line.
+#[derive(Clone, Copy)]
+enum Word {
+    Known(Suite),
+    Unknown,
+    Nothing,
 }
 
-/// Runs a line of the file of cases that have rows.
-fn case<R: Threads + Sync>(
-    rt: &R,
-    alloc: Global,
-    stage: &mut Stage,
-    line: &[u8],
-) -> Result<(), Trouble> {
-    if line == b"waves".as_slice() {
-        stage.report.extend_from_slice(b"waves\n")?;
-        return put_waves(rt, alloc, &mut stage.report);
+fn name_of(suite: Suite) -> &'static [u8] {
+    match suite {
+        Suite::Text => b"text",
+        Suite::Files => b"files",
+        Suite::House => b"house",
+        Suite::Plans => b"plans",
+        Suite::Queries => b"queries",
     }
-    stage.run(alloc, line)
 }
 
-/// Runs the cases that have rows.
+fn named(word: &[u8]) -> Word {
+    for suite in ALL {
+        if word == name_of(suite) {
+            return Word::Known(suite);
+        }
+    }
+    Word::Unknown
+}
+
+fn word_at(rt: &HostRuntime, at: usize) -> Word {
+    let mut buffer = [0u8; 16];
+    match rt.arg(at, &mut buffer) {
+        Ok(length) => named(buffer.get(..length).unwrap_or(&[])),
+        Err(FillError::NotPresent) => Word::Nothing,
+        Err(FillError::TooLong) => Word::Unknown,
+    }
+}
+
+/// The suites that the words name, or none where one of the words names no suite.
+fn asked(rt: &HostRuntime) -> Result<Option<Vec<Suite>>, Trouble> {
+    let mut suites = Vec::new(rt.alloc());
+    for at in 1..MOST_WORDS {
+        match word_at(rt, at) {
+            Word::Known(suite) => suites.push(suite)?,
+            Word::Unknown => return Ok(None),
+            Word::Nothing => break,
+        }
+    }
+    Ok(Some(suites))
+}
+
+/// Adds what comes of the cases of a suite, some of which are computed by several workers.
 fn run<R: Threads + Sync>(
-    rt: &R,
-    alloc: Global,
-    data: &mut DirFolder,
-    stage: &mut Stage,
+    rt: &HostRuntime,
+    workers: &R,
+    suite: Suite,
+    report: &mut Vec<u8>,
 ) -> Result<(), Trouble> {
-    let file = file_of(alloc, data, b"cases.txt")?;
-    for line in cases_of(alloc, file.as_slice())? {
-        case(rt, alloc, stage, line)?;
+    let alloc = rt.alloc();
+    let mut data = DirFolder::new(rt);
+    match suite {
+        Suite::Text => mesh_cases_text::run(alloc, &mut data, report),
+        Suite::Files => mesh_cases_files::run(rt, &mut data, report),
+        Suite::House => mesh_cases_house::run(alloc, &mut data, report),
+        Suite::Plans => mesh_cases_plans::run(alloc, &mut data, report),
+        Suite::Queries => mesh_cases_queries::run(workers, alloc, &mut data, report),
     }
-    resolved(alloc, data, &mut stage.report)
+}
+
+/// Runs suites and prints what comes of each, up to the first that can't be run to its end. Whether there is none.
+fn are_run<R: Threads + Sync>(rt: &HostRuntime, workers: &R, suites: &[Suite]) -> bool {
+    for suite in suites {
+        let mut report = Vec::new(rt.alloc());
+        let done = run(rt, workers, *suite, &mut report);
+        if !is_printed(rt, report.as_slice(), done) {
+            return false;
+        }
+    }
+    true
+}
+
+fn status_of<R: Threads + Sync>(rt: &HostRuntime, workers: &R, suites: &[Suite]) -> u8 {
+    let are_run = if suites.is_empty() {
+        are_run(rt, workers, &ALL)
+    } else {
+        are_run(rt, workers, suites)
+    };
+    if are_run { 0 } else { 1 }
 }
 
 fn main(rt: HostRuntime) -> ExitCode {
-    let mut stage = Stage {
-        words: Vec::new(rt.alloc()),
-        tables: Inputs::new(rt.alloc()),
-        report: Vec::new(rt.alloc()),
-    };
-    let mut data = DirFolder::new(&rt);
-    let done = run(&rt, rt.alloc(), &mut data, &mut stage);
-    printed(&rt, stage.report.as_slice(), done)
+    match asked(&rt) {
+        Ok(Some(suites)) => ExitCode::from(status_of(&rt, &rt, suites.as_slice())),
+        Ok(None) => {
+            let _ = eprintln!(rt; "a word names no suite");
+            ExitCode::from(2)
+        }
+        Err(trouble) => {
+            let _ = eprintln!(rt; "{trouble:?}");
+            ExitCode::from(1)
+        }
+    }
 }

@@ -1,16 +1,29 @@
-// The files of a program's `data/` folder, which lies where it runs.
+// The files of a suite, which lie in a folder of its own where the program runs.
 use crate::trouble::Trouble;
 use mesh_io::{DirFolder, Folder};
-use mesh_list::Duplicate;
+use mesh_list::Seq;
 use mesh_values::Str;
 use std::alloc::Global;
 
 /// The bytes of the largest file of cases.
 const MOST_BYTES: u64 = 1 << 23;
 
-/// The bytes of a file of the `data/` folder, by its path there.
-pub fn file_of(alloc: Global, data: &mut DirFolder, path: &[u8]) -> Result<Str, Trouble> {
-    let path = u8::copy_items(alloc, path)?;
+/// The path of a file in a folder.
+fn path_of(alloc: Global, folder: &[u8], name: &[u8]) -> Result<Str, Trouble> {
+    let mut path = Vec::from_slice(alloc, folder)?;
+    path.push(b'/')?;
+    path.extend_from_slice(name)?;
+    Ok(Seq::from_vec(path))
+}
+
+/// The bytes of a file of a suite, by the suite's folder and the file's name.
+pub fn file_of(
+    alloc: Global,
+    data: &mut DirFolder,
+    folder: &[u8],
+    name: &[u8],
+) -> Result<Str, Trouble> {
+    let path = path_of(alloc, folder, name)?;
     data.read(alloc, &path, MOST_BYTES)?.ok_or(Trouble::Case)
 }
 

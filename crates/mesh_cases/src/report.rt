@@ -1,8 +1,7 @@
-// What a program has to say of its cases.
+// What a suite has to say of its cases.
 use crate::trouble::Trouble;
 use mesh_io::{Sink, StdSink};
 use std::alloc::Global;
-use std::process::ExitCode;
 
 /// Adds a number in decimal digits.
 pub fn put_number(alloc: Global, report: &mut Vec<u8>, number: i64) -> Result<(), Trouble> {
@@ -18,16 +17,15 @@ pub fn put_count(alloc: Global, report: &mut Vec<u8>, count: u64) -> Result<(), 
     Ok(())
 }
 
-/// Prints the report of a run, and what it ended with where that is trouble.
-pub fn printed(rt: &HostRuntime, report: &[u8], done: Result<(), Trouble>) -> ExitCode {
+/// Prints the report of a suite, and what it ended with where that is trouble. Whether it ran to its end and is printed.
+pub fn is_printed(rt: &HostRuntime, report: &[u8], done: Result<(), Trouble>) -> bool {
     let mut out = StdSink::output(rt);
-    let put = out.put(report);
-    match (done, put) {
-        (Ok(()), Ok(())) => ExitCode::from(0),
-        (Err(trouble), _) => {
+    let is_put = out.put(report).is_ok();
+    match done {
+        Ok(()) => is_put,
+        Err(trouble) => {
             let _ = eprintln!(rt; "{trouble:?}");
-            ExitCode::from(1)
+            false
         }
-        _ => ExitCode::from(1),
     }
 }

@@ -5,7 +5,7 @@ use crate::trouble::Trouble;
 use std::alloc::Global;
 
 /// What stands in front of the first such byte of a line, and what behind it. Where there is none, the line and nothing.
-fn parted(line: &[u8], byte: u8) -> (&[u8], &[u8]) {
+pub fn parted(line: &[u8], byte: u8) -> (&[u8], &[u8]) {
     for (at, other) in line.iter().enumerate() {
         if *other == byte {
             let front = line.get(..at).unwrap_or(line);

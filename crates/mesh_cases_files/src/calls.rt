@@ -50,10 +50,11 @@ pub fn list<F: Folder>(
     report: &mut Vec<u8>,
 ) -> Result<(), Trouble> {
     let dir = u8::copy_items(alloc, dir)?;
-    match folder.list(alloc, &dir) {
-        Ok(paths) => put_paths(report, paths.as_slice())?,
-        Err(fail) => put_fail(report, fail)?,
-    }
+    let put = match folder.list(alloc, &dir) {
+        Ok(paths) => put_paths(report, paths.as_slice()),
+        Err(fail) => put_fail(report, fail),
+    };
+    put?;
     put_faults(alloc, report, folder.faults())
 }
 
@@ -73,11 +74,13 @@ pub fn read<F: Folder>(
     report: &mut Vec<u8>,
 ) -> Result<(), Trouble> {
     let (most, path) = front_word(text);
+    let most = count_of(most)?;
     let path = u8::copy_items(alloc, path)?;
-    match folder.read(alloc, &path, count_of(most)?) {
-        Ok(found) => put_found(report, &found)?,
-        Err(fail) => put_fail(report, fail)?,
-    }
+    let put = match folder.read(alloc, &path, most) {
+        Ok(found) => put_found(report, &found),
+        Err(fail) => put_fail(report, fail),
+    };
+    put?;
     put_faults(alloc, report, folder.faults())
 }
 

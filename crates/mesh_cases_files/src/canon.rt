@@ -1,12 +1,12 @@
 // Canonical texts: definitions, lists and nodes.
 use crate::near::are_told_apart;
-use mesh_base::{Ref, Refs};
+use mesh_base::{Own, Ref, Refs};
 use mesh_canon::{
     CanonFault, list_text, node_text, own_text, own_text_old, read_list, read_own, read_own_old,
 };
 use mesh_cases::{Trouble, front_word, halves, put_number, shown};
-use mesh_list::{Duplicate, Seq};
-use mesh_values::Name;
+use mesh_list::{Duplicate, Memory, Seq, together};
+use mesh_values::{Name, Str};
 use std::alloc::Global;
 
 /// What came of reading a text, and of writing again what was read.
@@ -44,18 +44,34 @@ pub fn compared(text: &[u8], again: &[u8]) -> Answer {
     }
 }
 
+/// Whether the text that was written again is the first.
+fn told(text: &[u8], again: Result<Str, Memory>) -> Result<Answer, Trouble> {
+    match again {
+        Ok(again) => Ok(compared(text, again.as_slice())),
+        Err(Memory) => Err(Trouble::Memory),
+    }
+}
+
 /// Reads a definition and writes it again.
 pub fn own_again(alloc: Global, text: &[u8]) -> Result<Answer, Trouble> {
     match read_own(alloc, text) {
-        Ok(own) => Ok(compared(text, own_text(alloc, &own)?.as_slice())),
+        Ok(own) => told(text, own_text(alloc, &own)),
         Err(fault) => Ok(refusal(fault)),
+    }
+}
+
+/// The text of a copy.
+fn copied_text(alloc: Global, own: &Own) -> Result<Str, Memory> {
+    match own.copy() {
+        Ok(copied) => own_text(alloc, &copied),
+        Err(memory) => Err(memory),
     }
 }
 
 /// Reads a definition and writes a copy of it.
 fn copy_again(alloc: Global, text: &[u8]) -> Result<Answer, Trouble> {
     match read_own(alloc, text) {
-        Ok(own) => Ok(compared(text, own_text(alloc, &own.copy()?)?.as_slice())),
+        Ok(own) => told(text, copied_text(alloc, &own)),
         Err(fault) => Ok(refusal(fault)),
     }
 }
@@ -63,7 +79,7 @@ fn copy_again(alloc: Global, text: &[u8]) -> Result<Answer, Trouble> {
 /// Reads a definition by its former text and writes it so again.
 fn former_again(alloc: Global, text: &[u8]) -> Result<Answer, Trouble> {
     match read_own_old(alloc, text) {
-        Ok(own) => Ok(compared(text, own_text_old(alloc, &own)?.as_slice())),
+        Ok(own) => told(text, own_text_old(alloc, &own)),
         Err(fault) => Ok(refusal(fault)),
     }
 }
@@ -71,8 +87,36 @@ fn former_again(alloc: Global, text: &[u8]) -> Result<Answer, Trouble> {
 /// Reads a list and writes it again.
 fn list_again(alloc: Global, text: &[u8]) -> Result<Answer, Trouble> {
     match read_list(alloc, text) {
-        Ok(parts) => Ok(compared(text, list_text(alloc, &parts)?.as_slice())),
+        Ok(parts) => told(text, list_text(alloc, &parts)),
         Err(fault) => Ok(refusal(fault)),
+    }
+}
+
+fn made(text: Result<Str, Memory>) -> Result<Str, Trouble> {
+    Ok(text?)
+}
+
+/// The text that a definition has now, by its former one.
+fn renewed_text(alloc: Global, text: &[u8]) -> Result<Str, Trouble> {
+    match read_own_old(alloc, text) {
+        Ok(own) => made(own_text(alloc, &own)),
+        Err(_) => Err(Trouble::Case),
+    }
+}
+
+/// The text of a definition with its parents.
+fn whole_node(alloc: Global, text: &[u8], parents: &Refs) -> Result<Str, Trouble> {
+    match read_own(alloc, text) {
+        Ok(own) => made(node_text(alloc, &own, parents)),
+        Err(_) => Err(Trouble::Case),
+    }
+}
+
+/// What comes of reading a definition.
+fn reading_word(alloc: Global, text: &[u8]) -> &'static [u8] {
+    match read_own(alloc, text) {
+        Ok(_own) => b"read",
+        Err(fault) => word_of(refusal(fault)),
     }
 }
 
@@ -121,13 +165,10 @@ fn fingerprint_of(bytes: &[u8]) -> Result<[u8; 32], Trouble> {
 fn parent_of(alloc: Global, text: &[u8]) -> Result<Ref, Trouble> {
     let (schema, rest) = front_word(text);
     let (model, fingerprint) = front_word(rest);
-    Ok(Ref {
-        name: Name {
-            schema: u8::copy_items(alloc, schema)?,
-            model: u8::copy_items(alloc, model)?,
-        },
-        fingerprint: fingerprint_of(fingerprint)?,
-    })
+    let fingerprint = fingerprint_of(fingerprint)?;
+    let (schema, model) = together(u8::copy_items(alloc, schema), u8::copy_items(alloc, model))?;
+    let name = Name { schema, model };
+    Ok(Ref { name, fingerprint })
 }
 
 impl Frame {
@@ -174,11 +215,8 @@ impl Frame {
 
     /// Reads a definition, and writes nothing of it.
     fn read(&self, text: &[u8], report: &mut Vec<u8>) -> Result<(), Trouble> {
-        let word = match read_own(self.alloc, self.whole(text)?.as_slice()) {
-            Ok(_) => b"read",
-            Err(fault) => word_of(refusal(fault)),
-        };
-        report.extend_from_slice(word)?;
+        let whole = self.whole(text)?;
+        report.extend_from_slice(reading_word(self.alloc, whole.as_slice()))?;
         Ok(())
     }
 
@@ -190,17 +228,14 @@ impl Frame {
 
     /// The text that a definition has now, by its former one.
     fn renewed(&self, text: &[u8], report: &mut Vec<u8>) -> Result<(), Trouble> {
-        let Ok(own) = read_own_old(self.alloc, self.whole(text)?.as_slice()) else {
-            return Err(Trouble::Case);
-        };
-        shown(report, own_text(self.alloc, &own)?.as_slice())
+        let whole = self.whole(text)?;
+        let renewed = renewed_text(self.alloc, whole.as_slice())?;
+        shown(report, renewed.as_slice())
     }
 
     fn node(&self, text: &[u8], report: &mut Vec<u8>) -> Result<(), Trouble> {
-        let Ok(own) = read_own(self.alloc, self.whole(text)?.as_slice()) else {
-            return Err(Trouble::Case);
-        };
-        let node = node_text(self.alloc, &own, &self.parents)?;
+        let whole = self.whole(text)?;
+        let node = whole_node(self.alloc, whole.as_slice(), &self.parents)?;
         shown(report, node.as_slice())
     }
 

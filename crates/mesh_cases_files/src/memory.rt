@@ -2,7 +2,7 @@
 use crate::calls::{count_of, list, now, put, put_written, read, take, take_first};
 use mesh_cases::{Trouble, front_word, number_of, put_number};
 use mesh_io::{File, Files, MemClock, MemFolder, MemSink, MemSource, Numbers, are_distinct};
-use mesh_list::{Duplicate, Same, Seq};
+use mesh_list::{Duplicate, Memory, Same, Seq, together};
 use std::alloc::Global;
 use std::mem;
 
@@ -29,12 +29,22 @@ fn numbers_of(alloc: Global, text: &[u8]) -> Result<Numbers, Trouble> {
     Ok(numbers)
 }
 
-fn file_in(alloc: Global, text: &[u8]) -> Result<File, Trouble> {
+fn file_in(alloc: Global, text: &[u8]) -> Result<File, Memory> {
     let (path, bytes) = front_word(text);
-    Ok(File {
-        path: u8::copy_items(alloc, path)?,
-        bytes: u8::copy_items(alloc, bytes)?,
-    })
+    let (path, bytes) = together(u8::copy_items(alloc, path), u8::copy_items(alloc, bytes))?;
+    Ok(File { path, bytes })
+}
+
+/// A copy of the file, and whether it is the same.
+fn copied_in(alloc: Global, text: &[u8]) -> Result<(File, bool), Memory> {
+    let file = file_in(alloc, text)?;
+    match file.copy() {
+        Ok(copy) => {
+            let same = copy.same(&file);
+            Ok((copy, same))
+        }
+        Err(memory) => Err(memory),
+    }
 }
 
 fn empty_folder(alloc: Global) -> MemFolder {
@@ -62,26 +72,22 @@ impl Inside {
 
     /// A copy of the file belongs to the next folder.
     fn file(&mut self, text: &[u8], report: &mut Vec<u8>) -> Result<(), Trouble> {
-        let file = file_in(self.alloc, text)?;
-        let copy = file.copy()?;
-        let same: &[u8] = if copy.same(&file) {
-            b"copied"
-        } else {
-            b"changed"
-        };
-        report.extend_from_slice(same)?;
+        let (copy, same) = copied_in(self.alloc, text)?;
         self.files.push(copy)?;
+        report.extend_from_slice(if same { b"copied" } else { b"changed" })?;
         Ok(())
     }
 
     fn folder(&mut self, report: &mut Vec<u8>) -> Result<(), Trouble> {
         let files = mem::replace(&mut self.files, Seq::new(self.alloc));
-        if are_distinct(files.as_slice()) {
+        let made: &[u8] = if are_distinct(files.as_slice()) {
             self.folder = MemFolder::new(files, self.next_fails());
-            report.extend_from_slice(b"made")?;
+            b"made"
         } else {
-            report.extend_from_slice(b"two files of one path")?;
-        }
+            drop(files);
+            b"two files of one path"
+        };
+        report.extend_from_slice(made)?;
         Ok(())
     }
 

@@ -4,8 +4,8 @@ use crate::sources::{put_sources, put_sources_size};
 use mesh_cases::{Trouble, front_word, kind_of, put_cell};
 use mesh_csv::read_seed;
 use mesh_external::read_external;
-use mesh_list::{Duplicate, Seq};
-use mesh_values::{Column, Columns, Row, Seed, Str};
+use mesh_list::{Duplicate, Memory, Seq, push_made};
+use mesh_values::{ColType, Column, Columns, Row, Seed, Str};
 use std::alloc::Global;
 
 /// The columns that are declared, and what stands in front of each file.
@@ -14,6 +14,11 @@ pub struct Files {
     alloc: Global,
     columns: Columns,
     front: Vec<u8>,
+}
+
+fn column_of(alloc: Global, name: &[u8], kind: ColType) -> Result<Column, Memory> {
+    let name = u8::copy_items(alloc, name)?;
+    Ok(Column { name, kind })
 }
 
 fn columns_of(alloc: Global, text: &[u8]) -> Result<Columns, Trouble> {
@@ -25,10 +30,8 @@ fn columns_of(alloc: Global, text: &[u8]) -> Result<Columns, Trouble> {
         }
         let (name, behind) = front_word(rest);
         let (kind, behind) = front_word(behind);
-        columns.push(Column {
-            name: u8::copy_items(alloc, name)?,
-            kind: kind_of(kind)?,
-        })?;
+        let kind = kind_of(kind)?;
+        push_made(&mut columns, column_of(alloc, name, kind))?;
         rest = behind;
     }
     Ok(columns)

@@ -1,11 +1,11 @@
 // Books by their lines, and the breaches of a well-formed one.
 use crate::changes::snapshot;
-use crate::line::{Line, Named, Owns, parted};
+use crate::line::{Line, Named, Owns, pair, pushed};
 use crate::owns::{add_own, put_columns_of, put_sorted};
 use mesh_base::{Env, Snapshot};
 use mesh_book::{BOOK_VERSION, Book, Version, book_fault};
-use mesh_cases::{Trouble, cases_of};
-use mesh_list::{Duplicate, Register, Same};
+use mesh_cases::{Pen, Trouble, cases_of, front_word};
+use mesh_list::{Duplicate, Memory, Register, Same, Seq};
 use mesh_time::Ranges;
 use std::alloc::Global;
 
@@ -14,9 +14,9 @@ use std::alloc::Global;
 struct Parts {
     version: u32,
     moment: i64,
-    snapshots: Vec<Snapshot>,
-    versions: Vec<Version>,
-    environments: Vec<Env>,
+    snapshots: Seq<Snapshot>,
+    versions: Seq<Version>,
+    environments: Seq<Env>,
 }
 
 fn version(line: &Line) -> Result<Version, Trouble> {
@@ -29,16 +29,30 @@ fn version(line: &Line) -> Result<Version, Trouble> {
 }
 
 fn environment(line: &Line) -> Result<Env, Trouble> {
+    let (name, (list, previous)) = pair(
+        line.text(1),
+        pair(line.refs(b"list"), line.refs(b"previous")),
+    )?;
     Ok(Env {
-        name: line.text(1)?,
+        name,
         pending: false,
-        list: line.refs(b"list")?,
-        previous: line.refs(b"previous")?,
+        list,
+        previous,
         expires: None,
     })
 }
 
 impl Parts {
+    fn new(alloc: Global) -> Parts {
+        Parts {
+            version: BOOK_VERSION,
+            moment: 0,
+            snapshots: Seq::new(alloc),
+            versions: Seq::new(alloc),
+            environments: Seq::new(alloc),
+        }
+    }
+
     fn set_moment(&mut self, line: &Line) -> Result<(), Trouble> {
         self.moment = line.number(1)?;
         if line.len() > 2 {
@@ -49,31 +63,27 @@ impl Parts {
 
     fn add(&mut self, line: &Line, owns: &[Named]) -> Result<(), Trouble> {
         if line.is(0, b"moment") {
-            self.set_moment(line)?;
+            self.set_moment(line)
         } else if line.is(0, b"snapshot") {
-            self.snapshots.push(snapshot(line, owns)?)?;
+            pushed(&mut self.snapshots, snapshot(line, owns))
         } else if line.is(0, b"version") {
-            self.versions.push(version(line)?)?;
+            pushed(&mut self.versions, version(line))
         } else if line.is(0, b"environment") {
-            self.environments.push(environment(line)?)?;
+            pushed(&mut self.environments, environment(line))
         } else {
-            return Err(Trouble::Case);
+            Err(Trouble::Case)
+        }
+    }
+
+    fn add_all(&mut self, alloc: Global, lines: &[&[u8]], owns: &[Named]) -> Result<(), Trouble> {
+        for text in lines {
+            self.add(&Line::of(alloc, text)?, owns)?;
         }
         Ok(())
     }
 }
 
-fn book(alloc: Global, lines: &[&[u8]], owns: &[Named]) -> Result<Book, Trouble> {
-    let mut parts = Parts {
-        version: BOOK_VERSION,
-        moment: 0,
-        snapshots: Vec::new(alloc),
-        versions: Vec::new(alloc),
-        environments: Vec::new(alloc),
-    };
-    for text in lines {
-        parts.add(&Line::of(alloc, text)?, owns)?;
-    }
+fn book_of(parts: Parts) -> Book {
     let Parts {
         version,
         moment,
@@ -81,35 +91,62 @@ fn book(alloc: Global, lines: &[&[u8]], owns: &[Named]) -> Result<Book, Trouble>
         versions,
         environments,
     } = parts;
-    Ok(Book {
+    Book {
         version,
         moment,
-        snapshots: Register::from_vec(snapshots),
-        versions: Register::from_vec(versions),
-        environments: Register::from_vec(environments),
-    })
+        snapshots: Register::from_vec(snapshots.into_vec()),
+        versions: Register::from_vec(versions.into_vec()),
+        environments: Register::from_vec(environments.into_vec()),
+    }
 }
 
-fn put_fault(alloc: Global, report: &mut Vec<u8>, book: &Book) -> Result<(), Trouble> {
+fn book(alloc: Global, lines: &[&[u8]], owns: &[Named]) -> Result<Book, Trouble> {
+    let mut parts = Parts::new(alloc);
+    match parts.add_all(alloc, lines, owns) {
+        Ok(()) => Ok(book_of(parts)),
+        Err(trouble) => {
+            drop(parts);
+            Err(trouble)
+        }
+    }
+}
+
+fn is_copied(book: &Book) -> Result<bool, Memory> {
+    match book.copy() {
+        Ok(copied) => Ok(copied.same(book)),
+        Err(memory) => Err(memory),
+    }
+}
+
+fn put_copied(pen: &mut Pen, book: &Book) {
+    match is_copied(book) {
+        Ok(copied) => pen.put_if(!copied, b", unlike its copy"),
+        Err(Memory) => pen.lose(),
+    }
+}
+
+fn put_fault(pen: &mut Pen, book: &Book) {
     match book_fault(book) {
         Some(fault) => {
-            let text = format!(in alloc; "part {} place {}", fault.part, fault.place)?;
-            report.extend_from_slice(text.as_bytes())?;
+            pen.put(b"part ");
+            pen.count(u64::from(fault.part));
+            pen.put(b" place ");
+            pen.count(fault.place);
         }
-        None => report.extend_from_slice(b"well formed")?,
+        None => pen.put(b"well formed"),
     }
-    put_unless(report, is_copied(book)?)
 }
 
-fn is_copied(book: &Book) -> Result<bool, Trouble> {
-    Ok(book.copy()?.same(book))
-}
-
-fn put_unless(report: &mut Vec<u8>, copied: bool) -> Result<(), Trouble> {
-    if !copied {
-        report.extend_from_slice(b", unlike its copy")?;
+/// Adds the first breach of the book that these lines are of.
+fn put_book(alloc: Global, pen: &mut Pen, lines: &[&[u8]], owns: &[Named]) -> Result<(), Trouble> {
+    match book(alloc, lines, owns) {
+        Ok(book) => {
+            put_fault(pen, &book);
+            put_copied(pen, &book);
+            Ok(())
+        }
+        Err(trouble) => Err(trouble),
     }
-    Ok(())
 }
 
 /// The lines of a good book, and the same with those that are changed.
@@ -117,12 +154,11 @@ fn put_unless(report: &mut Vec<u8>, copied: bool) -> Result<(), Trouble> {
 struct Stage<'a> {
     good: Vec<&'a [u8]>,
     now: Vec<&'a [u8]>,
-    report: Vec<u8>,
 }
 
 impl<'a> Stage<'a> {
     fn with(&mut self, alloc: Global, rest: &'a [u8]) -> Result<(), Trouble> {
-        let (place, text) = parted(rest, b' ');
+        let (place, text) = front_word(rest);
         let at = Line::of(alloc, place)?.rank(0)?;
         match self.now.get_mut((at as usize).wrapping_sub(1)) {
             Some(line) => {
@@ -133,70 +169,85 @@ impl<'a> Stage<'a> {
         }
     }
 
-    fn fault(&mut self, alloc: Global, owns: &[Named]) -> Result<(), Trouble> {
-        self.put_now(alloc, owns)?;
+    fn fault(&mut self, alloc: Global, pen: &mut Pen, owns: &[Named]) -> Result<(), Trouble> {
+        put_book(alloc, pen, self.now.as_slice(), owns)?;
         self.now = Vec::from_slice(alloc, self.good.as_slice())?;
         Ok(())
     }
 
-    fn put_now(&mut self, alloc: Global, owns: &[Named]) -> Result<(), Trouble> {
-        let book = book(alloc, self.now.as_slice(), owns)?;
-        put_fault(alloc, &mut self.report, &book)
-    }
-
     /// A step that prints a line.
-    fn shown(&mut self, line: &Line, owns: &[Named]) -> Result<(), Trouble> {
+    fn shown(&mut self, pen: &mut Pen, line: &Line, owns: &[Named]) -> Result<(), Trouble> {
         if line.is(0, b"fault") {
-            self.fault(line.alloc(), owns)
+            self.fault(line.alloc(), pen, owns)
         } else if line.is(0, b"columns_of") {
-            put_columns_of(line.alloc(), &mut self.report, line.own(owns, 1)?)
+            put_columns_of(pen, line.own(owns, 1)?);
+            Ok(())
         } else if line.is(0, b"sort_rows") {
-            put_sorted(line.alloc(), &mut self.report, line.own(owns, 1)?)
+            put_sorted(pen, line.own(owns, 1)?)
         } else {
             Err(Trouble::Case)
         }
     }
 
-    fn told(&mut self, alloc: Global, owns: &[Named], text: &[u8]) -> Result<(), Trouble> {
-        self.report.extend_from_slice(text)?;
-        self.report.extend_from_slice(b": ")?;
-        self.shown(&Line::of(alloc, text)?, owns)?;
-        self.report.push(b'\n')?;
+    fn told(
+        &mut self,
+        alloc: Global,
+        pen: &mut Pen,
+        owns: &[Named],
+        text: &[u8],
+    ) -> Result<(), Trouble> {
+        pen.put(text);
+        pen.put(b": ");
+        self.shown(pen, &Line::of(alloc, text)?, owns)?;
+        pen.put(b"\n");
         Ok(())
     }
 
-    fn step(&mut self, alloc: Global, owns: &mut Owns, text: &'a [u8]) -> Result<(), Trouble> {
-        let (word, rest) = parted(text, b' ');
+    fn line(&mut self, text: &'a [u8]) -> Result<(), Trouble> {
+        self.good.push(text)?;
+        Ok(self.now.push(text)?)
+    }
+
+    fn step(
+        &mut self,
+        alloc: Global,
+        owns: &mut Owns,
+        pen: &mut Pen,
+        text: &'a [u8],
+    ) -> Result<(), Trouble> {
+        let (word, rest) = front_word(text);
         if word == b"own".as_slice() {
             add_own(alloc, owns, rest)
         } else if word == b"line".as_slice() {
-            self.good.push(rest)?;
-            Ok(self.now.push(rest)?)
+            self.line(rest)
         } else if word == b"with".as_slice() {
             self.with(alloc, rest)
         } else {
-            self.told(alloc, owns, text)
+            self.told(alloc, pen, owns, text)
         }
     }
 }
 
-fn steps<'a>(alloc: Global, stage: &mut Stage<'a>, file: &'a [u8]) -> Result<(), Trouble> {
-    let mut owns = Vec::new(alloc);
+fn steps<'a>(
+    alloc: Global,
+    stage: &mut Stage<'a>,
+    owns: &mut Owns,
+    pen: &mut Pen,
+    file: &'a [u8],
+) -> Result<(), Trouble> {
     for text in &cases_of(alloc, file)? {
-        stage.step(alloc, &mut owns, text)?;
+        stage.step(alloc, owns, pen, text)?;
     }
-    Ok(())
+    pen.done()
 }
 
 /// Adds what comes of each step of a file.
-pub fn run(alloc: Global, file: &[u8], report: &mut Vec<u8>) -> Result<(), Trouble> {
+pub fn run(alloc: Global, file: &[u8], pen: &mut Pen) -> Result<(), Trouble> {
+    pen.put(b"== well-formed books, and the rules that they stand on\n");
+    let mut owns = Vec::new(alloc);
     let mut stage = Stage {
         good: Vec::new(alloc),
         now: Vec::new(alloc),
-        report: Vec::new(alloc),
     };
-    let done = steps(alloc, &mut stage, file);
-    report.extend_from_slice(b"== well-formed books, and the rules that they stand on\n")?;
-    report.extend_from_slice(stage.report.as_slice())?;
-    done
+    steps(alloc, &mut stage, &mut owns, pen, file)
 }

@@ -3,7 +3,7 @@ use crate::line::{Line, Named, columns, pair};
 use mesh_base::{Own, Ref, Snapshot};
 use mesh_cases::Trouble;
 use mesh_house::Change;
-use mesh_list::{Duplicate, Seq};
+use mesh_list::Duplicate;
 
 fn own_at(line: &Line, owns: &[Named], at: usize) -> Result<Own, Trouble> {
     Ok(line.own(owns, at)?.copy()?)
@@ -12,8 +12,10 @@ fn own_at(line: &Line, owns: &[Named], at: usize) -> Result<Own, Trouble> {
 /// The snapshot that a line says from its second word on.
 pub fn snapshot(line: &Line, owns: &[Named]) -> Result<Snapshot, Trouble> {
     let (rank, expires) = pair(line.rank(3), line.number(5))?;
-    let (key, object) = pair(line.reference(1), line.name(4))?;
-    let (parents, own) = pair(line.refs(b"parents"), own_at(line, owns, 2))?;
+    let ((key, object), (parents, own)) = pair(
+        pair(line.reference(1), line.name(4)),
+        pair(line.refs(b"parents"), own_at(line, owns, 2)),
+    )?;
     let Ref { name, fingerprint } = key;
     Ok(Snapshot {
         name,
@@ -27,8 +29,7 @@ pub fn snapshot(line: &Line, owns: &[Named]) -> Result<Snapshot, Trouble> {
 }
 
 fn load(line: &Line) -> Result<Change, Trouble> {
-    let name = line.name(1)?;
-    let (columns, rows) = pair(columns(line.alloc()), line.rows(3))?;
+    let (name, (columns, rows)) = pair(line.name(1), pair(columns(line.alloc()), line.rows(3)))?;
     Ok(Change::Load {
         name,
         columns,
@@ -38,8 +39,10 @@ fn load(line: &Line) -> Result<Change, Trouble> {
 }
 
 fn make_view(line: &Line, owns: &[Named]) -> Result<Change, Trouble> {
-    let (object, columns) = pair(line.name(1), columns(line.alloc()))?;
-    let (own, targets) = pair(own_at(line, owns, 2), line.pairs(3))?;
+    let ((object, columns), (own, targets)) = pair(
+        pair(line.name(1), columns(line.alloc())),
+        pair(own_at(line, owns, 2), line.pairs(3)),
+    )?;
     Ok(Change::MakeView {
         object,
         columns,
@@ -50,8 +53,7 @@ fn make_view(line: &Line, owns: &[Named]) -> Result<Change, Trouble> {
 
 fn write_range(line: &Line) -> Result<Change, Trouble> {
     let (start, end) = pair(line.number(3), line.number(4))?;
-    let (object, time) = pair(line.name(1), line.text(2))?;
-    let rows = line.rows(5)?;
+    let (object, (time, rows)) = pair(line.name(1), pair(line.text(2), line.rows(5)))?;
     Ok(Change::WriteRange {
         object,
         time,
@@ -62,47 +64,35 @@ fn write_range(line: &Line) -> Result<Change, Trouble> {
 }
 
 fn record_range(line: &Line) -> Result<Change, Trouble> {
-    Ok(Change::RecordRange {
-        object: line.name(1)?,
-        start: line.number(2)?,
-        end: line.number(3)?,
-    })
+    let (start, end) = pair(line.number(2), line.number(3))?;
+    let object = line.name(1)?;
+    Ok(Change::RecordRange { object, start, end })
 }
 
 fn set_pending(line: &Line) -> Result<Change, Trouble> {
-    Ok(Change::SetPending {
-        env: line.text(1)?,
-        expires: line.expiry(2)?,
-        list: line.refs(b"list")?,
-    })
+    let expires = line.expiry(2)?;
+    let (env, list) = pair(line.text(1), line.refs(b"list"))?;
+    Ok(Change::SetPending { env, expires, list })
 }
 
 fn make_table(line: &Line) -> Result<Change, Trouble> {
-    Ok(Change::MakeTable {
-        object: line.name(1)?,
-        columns: columns(line.alloc())?,
-    })
+    let (object, columns) = pair(line.name(1), columns(line.alloc()))?;
+    Ok(Change::MakeTable { object, columns })
 }
 
 fn replace_rows(line: &Line) -> Result<Change, Trouble> {
-    Ok(Change::ReplaceRows {
-        object: line.name(1)?,
-        rows: line.rows(2)?,
-    })
+    let (object, rows) = pair(line.name(1), line.rows(2))?;
+    Ok(Change::ReplaceRows { object, rows })
 }
 
 fn record_marks(line: &Line) -> Result<Change, Trouble> {
-    Ok(Change::RecordMarks {
-        object: line.name(1)?,
-        marks: Seq::from_vec(line.numbers(2)?),
-    })
+    let (object, marks) = pair(line.name(1), line.numbers(2))?;
+    Ok(Change::RecordMarks { object, marks })
 }
 
 fn point_view(line: &Line) -> Result<Change, Trouble> {
-    Ok(Change::PointView {
-        view: line.name(1)?,
-        target: line.name(2)?,
-    })
+    let (view, target) = pair(line.name(1), line.name(2))?;
+    Ok(Change::PointView { view, target })
 }
 
 fn delete_snapshot(line: &Line) -> Result<Change, Trouble> {

@@ -1,33 +1,34 @@
 // Changes that are made in a house in memory, and what it answers.
 use crate::changes::change;
-use crate::line::{Line, Named, Owns, parted};
+use crate::line::{Line, Named, Owns};
 use crate::owns::add_own;
 use crate::written::{
-    put, put_body, put_book, put_columns, put_counts, put_fingerprints, put_name, put_world,
+    put_body, put_book, put_columns, put_counts, put_fingerprints, put_name, put_world,
 };
 use mesh_book::Book;
-use mesh_cases::{Trouble, cases_of, put_number};
+use mesh_cases::{Pen, Trouble, cases_of, front_word};
 use mesh_house::{Change, Changes, Fail, MemHouse, Warehouse, WhFail, World, make, make_all};
-use mesh_list::{Duplicate, Same, Seq};
+use mesh_list::{Duplicate, Memory, Same, Seq};
 use std::alloc::Global;
+use std::mem::replace;
 
-/// A house, the changes that are to be made together, and what is to be printed.
+/// A house, and the changes that are to be made together.
 #[derive(Drop)]
 struct Stage {
     house: MemHouse,
     list: Changes,
-    report: Vec<u8>,
 }
 
 /// A copy of the world, after a change.
-fn stepped(alloc: Global, world: &World, change: &Change) -> Result<World, Trouble> {
+fn stepped(alloc: Global, world: &World, change: &Change) -> Result<World, Memory> {
     let mut twin = world.copy()?;
-    twin.step(alloc, change)?;
-    Ok(twin)
-}
-
-fn is_same(twin: World, world: &World) -> bool {
-    twin.same(world)
+    match twin.step(alloc, change) {
+        Ok(()) => Ok(twin),
+        Err(memory) => {
+            drop(twin);
+            Err(memory)
+        }
+    }
 }
 
 /// Whether both forget the same, or go by the same map.
@@ -59,230 +60,299 @@ fn are_alike(list: &[Change]) -> bool {
     }
 }
 
+fn put_fail(pen: &mut Pen, fail: WhFail) {
+    match fail {
+        WhFail::Failed => pen.word(b"failed"),
+        WhFail::Memory => pen.lose(),
+    }
+}
+
+/// Adds the world behind what a change was answered.
+fn put_after(pen: &mut Pen, answer: Result<(), WhFail>, world: &World) {
+    match answer {
+        Ok(()) => {}
+        Err(WhFail::Failed) => pen.put(b"failed: "),
+        Err(WhFail::Memory) => pen.lose(),
+    }
+    put_world(pen, world);
+}
+
+/// Adds what is wrong, where something is.
+fn put_unless(pen: &mut Pen, right: bool, wrong: &[u8]) {
+    if !right {
+        pen.word(wrong);
+    }
+}
+
+/// Makes a change in the house, whose world is then to be this one.
+fn make_beside(alloc: Global, house: &mut MemHouse, pen: &mut Pen, change: &Change, twin: &World) {
+    let answer = make(house, alloc, change);
+    let same = answer.is_err() || twin.same(house.world());
+    put_after(pen, answer, house.world());
+    put_unless(pen, same, b"unlike its step");
+}
+
+/// Makes a change in the house, and by its step in a copy of the world that it keeps.
+fn make_change(alloc: Global, house: &mut MemHouse, pen: &mut Pen, change: &Change) {
+    match stepped(alloc, house.world(), change) {
+        Ok(twin) => make_beside(alloc, house, pen, change, &twin),
+        Err(Memory) => pen.lose(),
+    }
+}
+
+fn make_line(
+    house: &mut MemHouse,
+    pen: &mut Pen,
+    line: &Line,
+    owns: &[Named],
+) -> Result<(), Trouble> {
+    match change(line, owns) {
+        Ok(change) => {
+            make_change(line.alloc(), house, pen, &change);
+            Ok(())
+        }
+        Err(trouble) => Err(trouble),
+    }
+}
+
+/// Makes copies of changes.
+fn make_copies(alloc: Global, house: &mut MemHouse, pen: &mut Pen, list: &Changes) {
+    match list.copy() {
+        Ok(copied) => {
+            let answer = make_all(house, alloc, copied.as_slice());
+            put_after(pen, answer, house.world());
+        }
+        Err(Memory) => pen.lose(),
+    }
+}
+
+/// Makes changes themselves, and tells only what the book has then.
+fn make_counted(
+    alloc: Global,
+    house: &mut MemHouse,
+    pen: &mut Pen,
+    list: &[Change],
+) -> Result<(), Trouble> {
+    match make_all(house, alloc, list) {
+        Ok(()) => {
+            put_counts(pen, &house.world().book);
+            Ok(())
+        }
+        Err(_) => Err(Trouble::Case),
+    }
+}
+
+fn put_head(house: &mut MemHouse, pen: &mut Pen, line: &Line) -> Result<(), Trouble> {
+    let name = line.name(1)?;
+    match house.head(line.alloc(), &name) {
+        Ok(Some(columns)) => put_columns(pen, &columns),
+        Ok(None) => pen.word(b"none"),
+        Err(fail) => put_fail(pen, fail),
+    }
+    Ok(())
+}
+
+fn put_body_of(house: &mut MemHouse, pen: &mut Pen, line: &Line) -> Result<(), Trouble> {
+    let name = line.name(1)?;
+    match house.body(line.alloc(), &name) {
+        Ok(Some(body)) => put_body(pen, &body),
+        Ok(None) => pen.word(b"none"),
+        Err(fail) => put_fail(pen, fail),
+    }
+    Ok(())
+}
+
+fn put_view(house: &mut MemHouse, pen: &mut Pen, line: &Line) -> Result<(), Trouble> {
+    let name = line.name(1)?;
+    match house.view(line.alloc(), &name) {
+        Ok(Some(target)) => put_name(pen, &target),
+        Ok(None) => pen.word(b"none"),
+        Err(fail) => put_fail(pen, fail),
+    }
+    Ok(())
+}
+
+/// Adds a book that was read beside the world's.
+fn put_found(pen: &mut Pen, found: &Book, kept: &Book) {
+    pen.put(b" ");
+    pen.number(found.moment);
+    put_book(pen, found);
+    put_unless(pen, found.same(kept), b"unlike the world's");
+}
+
+fn put_book_of(alloc: Global, house: &mut MemHouse, pen: &mut Pen) {
+    match house.book(alloc) {
+        Ok(book) => put_found(pen, &book, &house.world().book),
+        Err(fail) => put_fail(pen, fail),
+    }
+}
+
+fn put_calls(house: &MemHouse, pen: &mut Pen) {
+    pen.put(b" ");
+    pen.count(house.calls());
+    pen.put(b" ");
+    pen.count(house.faults());
+}
+
+/// Adds what the house answers to a line that asks it. Whether it is such a line.
+fn asks(house: &mut MemHouse, pen: &mut Pen, line: &Line) -> Result<bool, Trouble> {
+    let word = line.word(0);
+    if word == b"head".as_slice() {
+        pen.put(word);
+        put_head(house, pen, line)?;
+    } else if word == b"body".as_slice() {
+        pen.put(word);
+        put_body_of(house, pen, line)?;
+    } else if word == b"view".as_slice() {
+        pen.put(word);
+        put_view(house, pen, line)?;
+    } else {
+        return Ok(counts(house, pen, line));
+    }
+    Ok(true)
+}
+
+/// The same for a line that asks for the book or for counts.
+fn counts(house: &mut MemHouse, pen: &mut Pen, line: &Line) -> bool {
+    let word = line.word(0);
+    if word == b"book".as_slice() {
+        pen.put(word);
+        put_book_of(line.alloc(), house, pen);
+    } else if word == b"counts".as_slice() {
+        pen.put(word);
+        put_calls(house, pen);
+    } else if word == b"fingerprints".as_slice() {
+        pen.put(b"version");
+        put_fingerprints(pen, &house.world().book);
+    } else {
+        return false;
+    }
+    true
+}
+
 impl Stage {
-    fn put_house(&mut self, alloc: Global, answer: Result<(), WhFail>) -> Result<(), Trouble> {
-        match answer {
-            Ok(()) => {}
-            Err(WhFail::Failed) => self.report.extend_from_slice(b"failed: ")?,
-            Err(WhFail::Memory) => return Err(Trouble::Memory),
+    /// The changes that are kept, of which none is kept any more.
+    fn taken(&mut self, alloc: Global) -> Changes {
+        replace(&mut self.list, Seq::new(alloc))
+    }
+
+    /// Makes the changes that are kept, or tells of them, where a line says so. Whether it does.
+    fn together(&mut self, pen: &mut Pen, line: &Line) -> Result<bool, Trouble> {
+        if line.is(0, b"make_all") {
+            let list = self.taken(line.alloc());
+            make_copies(line.alloc(), &mut self.house, pen, &list);
+        } else if line.is(0, b"count_all") {
+            let list = self.taken(line.alloc());
+            make_counted(line.alloc(), &mut self.house, pen, list.as_slice())?;
+        } else if line.is(0, b"alike") {
+            let list = self.taken(line.alloc());
+            pen.put(if are_alike(list.as_slice()) {
+                b"alike"
+            } else {
+                b"other"
+            });
+        } else {
+            return Ok(false);
         }
-        put_world(alloc, &mut self.report, self.house.world())
+        Ok(true)
     }
 
-    /// Adds what is wrong, where something is.
-    fn put_unless(&mut self, right: bool, wrong: &[u8]) -> Result<(), Trouble> {
-        if right {
-            return Ok(());
+    /// A step that prints a line.
+    fn shown(&mut self, pen: &mut Pen, line: &Line, owns: &[Named]) -> Result<(), Trouble> {
+        if !self.together(pen, line)? && !asks(&mut self.house, pen, line)? {
+            make_line(&mut self.house, pen, line, owns)?;
         }
-        put(&mut self.report, wrong)
-    }
-
-    /// Makes a change in the house, and by its step in a copy of the world that it keeps.
-    fn change(&mut self, alloc: Global, change: &Change) -> Result<(), Trouble> {
-        let twin = stepped(alloc, self.house.world(), change)?;
-        let answer = make(&mut self.house, alloc, change);
-        let same = answer.is_err() || is_same(twin, self.house.world());
-        self.put_house(alloc, answer)?;
-        self.put_unless(same, b"unlike its step")
-    }
-
-    fn change_all(&mut self, alloc: Global) -> Result<(), Trouble> {
-        let copied = self.list.copy()?;
-        let answer = make_all(&mut self.house, alloc, copied.as_slice());
-        self.list = Seq::new(alloc);
-        self.put_house(alloc, answer)
-    }
-
-    /// Makes the changes that are kept themselves, and tells only what the book has then.
-    fn count_all(&mut self, alloc: Global) -> Result<(), Trouble> {
-        let answer = make_all(&mut self.house, alloc, self.list.as_slice());
-        self.list = Seq::new(alloc);
-        if answer.is_err() {
-            return Err(Trouble::Case);
-        }
-        put_counts(alloc, &mut self.report, &self.house.world().book)
-    }
-
-    /// Tells whether the changes that are kept are all the first.
-    fn alike(&mut self, alloc: Global) -> Result<(), Trouble> {
-        let alike = are_alike(self.list.as_slice());
-        self.list = Seq::new(alloc);
-        Ok(
-            self.report
-                .extend_from_slice(if alike { b"alike" } else { b"other" })?,
-        )
-    }
-
-    /// Goes on with a book of this version.
-    fn set_version(&mut self, line: &Line) -> Result<(), Trouble> {
-        let mut world = self.house.world().copy()?;
-        world.book.version = line.rank(1)?;
-        self.house = MemHouse::with(world, Seq::new(line.alloc()));
+        pen.put(b"\n");
         Ok(())
     }
 
-    fn fingerprints(&mut self, alloc: Global) -> Result<(), Trouble> {
-        self.report.extend_from_slice(b"version")?;
-        put_fingerprints(alloc, &mut self.report, &self.house.world().book)
+    /// Goes on with an empty house.
+    fn begin(&mut self, alloc: Global, pen: &mut Pen, title: &[u8]) {
+        drop(replace(&mut self.house, MemHouse::new(alloc)));
+        pen.put(title);
+        pen.put(b"\n");
+    }
+
+    /// Goes on with a book of this version.
+    fn set_version(&mut self, alloc: Global, version: u32) -> Result<(), Memory> {
+        let mut world = self.house.world().copy()?;
+        world.book.version = version;
+        let house = MemHouse::with(world, Seq::new(alloc));
+        drop(replace(&mut self.house, house));
+        Ok(())
     }
 
     fn fail(&mut self, line: &Line) -> Result<(), Trouble> {
+        let call = u64::from(line.rank(2)?);
         let mut fails = Seq::new(line.alloc());
         fails.push(Fail {
             change: line.is(1, b"change"),
-            call: u64::from(line.rank(2)?),
+            call,
             after: line.is(3, b"after"),
         })?;
         self.house.set_fails(fails.copy()?);
         Ok(())
     }
 
-    /// What was read, where it was; otherwise adds why not.
-    fn found<T: Drop>(&mut self, answer: Result<Option<T>, WhFail>) -> Result<Option<T>, Trouble> {
-        match answer {
-            Ok(Some(found)) => return Ok(Some(found)),
-            Ok(None) => put(&mut self.report, b"none")?,
-            Err(WhFail::Failed) => put(&mut self.report, b"failed")?,
-            Err(WhFail::Memory) => return Err(Trouble::Memory),
-        }
-        Ok(None)
-    }
-
-    fn head(&mut self, line: &Line) -> Result<(), Trouble> {
-        let answer = self.house.head(line.alloc(), &line.name(1)?);
-        match self.found(answer)? {
-            Some(columns) => put_columns(&mut self.report, &columns),
-            None => Ok(()),
+    /// Keeps a change.
+    fn keep(&mut self, line: &Line, owns: &[Named]) -> Result<(), Trouble> {
+        match change(line, owns) {
+            Ok(change) => Ok(self.list.push(change)?),
+            Err(trouble) => Err(trouble),
         }
     }
 
-    fn body(&mut self, line: &Line) -> Result<(), Trouble> {
-        let answer = self.house.body(line.alloc(), &line.name(1)?);
-        match self.found(answer)? {
-            Some(body) => put_body(line.alloc(), &mut self.report, &body),
-            None => Ok(()),
-        }
-    }
-
-    fn view(&mut self, line: &Line) -> Result<(), Trouble> {
-        let answer = self.house.view(line.alloc(), &line.name(1)?);
-        match self.found(answer)? {
-            Some(target) => put_name(&mut self.report, &target),
-            None => Ok(()),
-        }
-    }
-
-    fn book(&mut self, alloc: Global) -> Result<(), Trouble> {
-        let answer = self.house.book(alloc);
-        match self.found(answer.map(|book| Some(book)))? {
-            Some(book) => self.put_found(alloc, &book),
-            None => Ok(()),
-        }
-    }
-
-    fn put_found(&mut self, alloc: Global, book: &Book) -> Result<(), Trouble> {
-        let same = book.same(&self.house.world().book);
-        self.report.push(b' ')?;
-        put_number(alloc, &mut self.report, book.moment)?;
-        put_book(alloc, &mut self.report, book)?;
-        self.put_unless(same, b"unlike the world's")
-    }
-
-    fn counts(&mut self, alloc: Global) -> Result<(), Trouble> {
-        let text = format!(in alloc; "{} {}", self.house.calls(), self.house.faults())?;
-        put(&mut self.report, text.as_bytes())
-    }
-
-    /// A read, or the counts.
-    fn read(&mut self, line: &Line) -> Result<(), Trouble> {
-        self.report.extend_from_slice(line.word(0))?;
-        if line.is(0, b"head") {
-            self.head(line)
-        } else if line.is(0, b"body") {
-            self.body(line)
-        } else if line.is(0, b"view") {
-            self.view(line)
-        } else if line.is(0, b"book") {
-            self.book(line.alloc())
+    /// A step that no definition is added by.
+    fn told(&mut self, pen: &mut Pen, line: &Line, owns: &[Named]) -> Result<(), Trouble> {
+        if line.is(0, b"fail") {
+            self.fail(line)
+        } else if line.is(0, b"version") {
+            Ok(self.set_version(line.alloc(), line.rank(1)?)?)
         } else {
-            self.counts(line.alloc())
+            self.shown(pen, line, owns)
         }
     }
 
-    fn is_read(line: &Line) -> bool {
-        line.is(0, b"head")
-            || line.is(0, b"body")
-            || line.is(0, b"view")
-            || line.is(0, b"book")
-            || line.is(0, b"counts")
-    }
-
-    fn changed(&mut self, line: &Line, owns: &[Named]) -> Result<(), Trouble> {
-        let change = change(line, owns)?;
-        self.change(line.alloc(), &change)
-    }
-
-    /// A step that prints a line.
-    fn shown(&mut self, line: &Line, owns: &[Named]) -> Result<(), Trouble> {
-        if line.is(0, b"make_all") {
-            self.change_all(line.alloc())?;
-        } else if line.is(0, b"count_all") {
-            self.count_all(line.alloc())?;
-        } else if line.is(0, b"alike") {
-            self.alike(line.alloc())?;
-        } else if line.is(0, b"fingerprints") {
-            self.fingerprints(line.alloc())?;
-        } else if Stage::is_read(line) {
-            self.read(line)?;
-        } else {
-            self.changed(line, owns)?;
-        }
-        self.report.push(b'\n')?;
-        Ok(())
-    }
-
-    fn begin(&mut self, alloc: Global, title: &[u8]) -> Result<(), Trouble> {
-        self.house = MemHouse::new(alloc);
-        self.report.extend_from_slice(title)?;
-        self.report.push(b'\n')?;
-        Ok(())
-    }
-
-    fn step(&mut self, alloc: Global, owns: &mut Owns, text: &[u8]) -> Result<(), Trouble> {
-        let (word, rest) = parted(text, b' ');
+    fn step(
+        &mut self,
+        alloc: Global,
+        owns: &mut Owns,
+        pen: &mut Pen,
+        text: &[u8],
+    ) -> Result<(), Trouble> {
+        let (word, rest) = front_word(text);
         if word == b"==".as_slice() {
-            self.begin(alloc, text)
+            self.begin(alloc, pen, text);
+            Ok(())
         } else if word == b"own".as_slice() {
             add_own(alloc, owns, rest)
         } else if word == b"also".as_slice() {
-            let change = change(&Line::of(alloc, rest)?, owns)?;
-            Ok(self.list.push(change)?)
-        } else if word == b"fail".as_slice() {
-            self.fail(&Line::of(alloc, text)?)
-        } else if word == b"version".as_slice() {
-            self.set_version(&Line::of(alloc, text)?)
+            self.keep(&Line::of(alloc, rest)?, owns)
         } else {
-            self.shown(&Line::of(alloc, text)?, owns)
+            self.told(pen, &Line::of(alloc, text)?, owns)
         }
     }
 }
 
-fn steps(alloc: Global, stage: &mut Stage, file: &[u8]) -> Result<(), Trouble> {
-    let mut owns = Vec::new(alloc);
+fn steps(
+    alloc: Global,
+    stage: &mut Stage,
+    owns: &mut Owns,
+    pen: &mut Pen,
+    file: &[u8],
+) -> Result<(), Trouble> {
     for text in &cases_of(alloc, file)? {
-        stage.step(alloc, &mut owns, text)?;
+        stage.step(alloc, owns, pen, text)?;
     }
-    Ok(())
+    pen.done()
 }
 
 /// Adds what comes of each step of a file.
-pub fn run(alloc: Global, file: &[u8], report: &mut Vec<u8>) -> Result<(), Trouble> {
+pub fn run(alloc: Global, file: &[u8], pen: &mut Pen) -> Result<(), Trouble> {
+    let mut owns = Vec::new(alloc);
     let mut stage = Stage {
         house: MemHouse::new(alloc),
         list: Seq::new(alloc),
-        report: Vec::new(alloc),
     };
-    let done = steps(alloc, &mut stage, file);
-    report.extend_from_slice(stage.report.as_slice())?;
-    done
+    steps(alloc, &mut stage, &mut owns, pen, file)
 }

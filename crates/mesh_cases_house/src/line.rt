@@ -1,20 +1,9 @@
 // A line of a case, in words, and what its words say.
-use mesh_base::{Forget, Forgets, Own, Ref, Refs, Rename, Renames};
-use mesh_cases::Trouble;
-use mesh_list::{Duplicate, Seq, together};
+use mesh_base::{Forget, Forgets, Marks, Own, Ref, Refs, Rename, Renames};
+use mesh_cases::{Trouble, number_of, parted};
+use mesh_list::{Duplicate, Memory, Seq, push_made, together};
 use mesh_values::{Cell, ColType, Column, Columns, Name, Pair, Pairs, Row, Rows, Str};
 use std::alloc::Global;
-
-/// What stands in front of the first such byte of a text, and what behind it. Where there is none, the text and nothing.
-pub fn parted(text: &[u8], byte: u8) -> (&[u8], &[u8]) {
-    for (at, other) in text.iter().enumerate() {
-        if *other == byte {
-            let front = text.get(..at).unwrap_or(text);
-            return (front, text.get(at.saturating_add(1)..).unwrap_or(&[]));
-        }
-    }
-    (text, &[])
-}
 
 /// Two answers as one.
 pub fn pair<A: Drop, B: Drop>(
@@ -28,9 +17,12 @@ pub fn pair<A: Drop, B: Drop>(
     }
 }
 
-fn number_of(word: &[u8]) -> Result<i64, Trouble> {
-    let digits = std::str::from_utf8(word).map_err(|_| Trouble::Case)?;
-    digits.parse::<i64>().map_err(|_| Trouble::Case)
+/// Puts the value of an answer at the end of a list, where it has one.
+pub fn pushed<T: Drop>(list: &mut Seq<T>, made: Result<T, Trouble>) -> Result<(), Trouble> {
+    match made {
+        Ok(item) => Ok(list.push(item)?),
+        Err(trouble) => Err(trouble),
+    }
 }
 
 fn name_of(alloc: Global, word: &[u8]) -> Result<Name, Trouble> {
@@ -50,50 +42,58 @@ fn fingerprint_of(mark: &[u8]) -> Result<[u8; 32], Trouble> {
 }
 
 fn reference_of(alloc: Global, name: &[u8], mark: &[u8]) -> Result<Ref, Trouble> {
-    Ok(Ref {
-        name: name_of(alloc, name)?,
-        fingerprint: fingerprint_of(mark)?,
-    })
+    let fingerprint = fingerprint_of(mark)?;
+    let name = name_of(alloc, name)?;
+    Ok(Ref { name, fingerprint })
+}
+
+fn reference(alloc: Global, word: &[u8]) -> Result<Ref, Trouble> {
+    let (name, mark) = parted(word, b'/');
+    reference_of(alloc, name, mark)
+}
+
+fn pair_of(alloc: Global, word: &[u8]) -> Result<Pair, Trouble> {
+    let (model, object) = parted(word, b'=');
+    let (first, second) = pair(name_of(alloc, model), name_of(alloc, object))?;
+    Ok(Pair { first, second })
 }
 
 /// The marks of an object, or a range of it behind a colon, whose end stands behind another one.
 fn forget_of(alloc: Global, word: &[u8]) -> Result<Forget, Trouble> {
     let (name, range) = parted(word, b':');
-    let object = name_of(alloc, name)?;
     if range.is_empty() {
+        let object = name_of(alloc, name)?;
         return Ok(Forget::Marks { object });
     }
     let (start, end) = parted(range, b':');
     let (start, end) = pair(number_of(start), number_of(end))?;
+    let object = name_of(alloc, name)?;
     Ok(Forget::Range { object, start, end })
 }
 
 /// A reference, and behind an equals sign the numbers that its fingerprint gets.
 fn rename_of(alloc: Global, word: &[u8]) -> Result<Rename, Trouble> {
     let (old, new) = parted(word, b'=');
-    let (name, mark) = parted(old, b'/');
-    Ok(Rename {
-        old: reference_of(alloc, name, mark)?,
-        new: fingerprint_of(new)?,
-    })
+    let new = fingerprint_of(new)?;
+    let old = reference(alloc, old)?;
+    Ok(Rename { old, new })
 }
 
-fn column(alloc: Global, name: &[u8], kind: ColType) -> Result<Column, Trouble> {
-    Ok(Column {
-        name: u8::copy_items(alloc, name)?,
-        kind,
-    })
+fn column(alloc: Global, name: &[u8], kind: ColType) -> Result<Column, Memory> {
+    let name = u8::copy_items(alloc, name)?;
+    Ok(Column { name, kind })
 }
 
 /// One column of days and one of numbers, which all tables have.
 pub fn columns(alloc: Global) -> Result<Columns, Trouble> {
     let mut columns = Seq::new(alloc);
-    columns.push(column(alloc, b"day", ColType::Date)?)?;
-    columns.push(column(alloc, b"n", ColType::Int)?)?;
+    push_made(&mut columns, column(alloc, b"day", ColType::Date))?;
+    push_made(&mut columns, column(alloc, b"n", ColType::Int))?;
     Ok(columns)
 }
 
-fn row(alloc: Global, number: i64) -> Result<Row, Trouble> {
+fn row(alloc: Global, word: &[u8]) -> Result<Row, Trouble> {
+    let number = number_of(word)?;
     let day = i32::try_from(number).map_err(|_| Trouble::Case)?;
     let mut row = Seq::new(alloc);
     row.push(Cell::Date(day))?;
@@ -171,28 +171,28 @@ impl<'a> Line<'a> {
     }
 
     pub fn reference(&self, at: usize) -> Result<Ref, Trouble> {
-        let (name, mark) = parted(self.word(at), b'/');
-        reference_of(self.alloc, name, mark)
+        reference(self.alloc, self.word(at))
     }
 
     /// The references behind a word, up to the next word that is none.
     pub fn refs(&self, word: &[u8]) -> Result<Refs, Trouble> {
         let mut refs = Seq::new(self.alloc);
         let mut behind = false;
-        for (at, other) in self.words.iter().enumerate() {
-            behind = *other == word || (behind && other.contains(&b'/'));
-            if behind && *other != word {
-                refs.push(self.reference(at)?)?;
+        for at in 0..self.len() {
+            let other = self.word(at);
+            behind = other == word || (behind && other.contains(&b'/'));
+            if behind && other != word {
+                pushed(&mut refs, reference(self.alloc, other))?;
             }
         }
         Ok(refs)
     }
 
     /// The numbers from a place on.
-    pub fn numbers(&self, from: usize) -> Result<Vec<i64>, Trouble> {
-        let mut numbers = Vec::new(self.alloc);
-        for word in self.words.iter().skip(from) {
-            numbers.push(number_of(word)?)?;
+    pub fn numbers(&self, from: usize) -> Result<Marks, Trouble> {
+        let mut numbers = Seq::new(self.alloc);
+        for at in from..self.len() {
+            pushed(&mut numbers, number_of(self.word(at)))?;
         }
         Ok(numbers)
     }
@@ -200,8 +200,8 @@ impl<'a> Line<'a> {
     /// A row for each number from a place on, whose day is that number too.
     pub fn rows(&self, from: usize) -> Result<Rows, Trouble> {
         let mut rows = Seq::new(self.alloc);
-        for number in &self.numbers(from)? {
-            rows.push(row(self.alloc, *number)?)?;
+        for at in from..self.len() {
+            pushed(&mut rows, row(self.alloc, self.word(at)))?;
         }
         Ok(rows)
     }
@@ -209,10 +209,8 @@ impl<'a> Line<'a> {
     /// The pairs `MODEL=OBJECT` from a place on.
     pub fn pairs(&self, from: usize) -> Result<Pairs, Trouble> {
         let mut pairs = Seq::new(self.alloc);
-        for word in self.words.iter().skip(from) {
-            let (model, object) = parted(word, b'=');
-            let (first, second) = pair(name_of(self.alloc, model), name_of(self.alloc, object))?;
-            pairs.push(Pair { first, second })?;
+        for at in from..self.len() {
+            pushed(&mut pairs, pair_of(self.alloc, self.word(at)))?;
         }
         Ok(pairs)
     }
@@ -220,8 +218,8 @@ impl<'a> Line<'a> {
     /// What is to be forgotten, from a place on.
     pub fn forgets(&self, from: usize) -> Result<Forgets, Trouble> {
         let mut forgets = Seq::new(self.alloc);
-        for word in self.words.iter().skip(from) {
-            forgets.push(forget_of(self.alloc, word)?)?;
+        for at in from..self.len() {
+            pushed(&mut forgets, forget_of(self.alloc, self.word(at)))?;
         }
         Ok(forgets)
     }
@@ -229,8 +227,8 @@ impl<'a> Line<'a> {
     /// The renames of a map, from a place on.
     pub fn renames(&self, from: usize) -> Result<Renames, Trouble> {
         let mut renames = Seq::new(self.alloc);
-        for word in self.words.iter().skip(from) {
-            renames.push(rename_of(self.alloc, word)?)?;
+        for at in from..self.len() {
+            pushed(&mut renames, rename_of(self.alloc, self.word(at)))?;
         }
         Ok(renames)
     }

@@ -1,195 +1,208 @@
 // How a world and a book are written: a word or a number for each thing in it.
-use mesh_base::{Env, Ref, Refs};
+use mesh_base::{Env, Input, Ref, Refs, Snapshot};
 use mesh_book::{Book, Version};
-use mesh_cases::{Trouble, put_number};
-use mesh_house::{Body, World};
-use mesh_values::{Cell, Columns, Name, Rows};
-use std::alloc::Global;
+use mesh_cases::Pen;
+use mesh_house::{Body, Object, ViewOf, World};
+use mesh_values::{Cell, Columns, Name, Pair, Row, Rows};
 
-/// Adds a blank and a word.
-pub fn put(line: &mut Vec<u8>, word: &[u8]) -> Result<(), Trouble> {
-    line.push(b' ')?;
-    line.extend_from_slice(word)?;
-    Ok(())
+fn put_next(pen: &mut Pen, number: i64) {
+    pen.put(b" ");
+    pen.number(number);
 }
 
-fn put_next(alloc: Global, line: &mut Vec<u8>, number: i64) -> Result<(), Trouble> {
-    line.push(b' ')?;
-    put_number(alloc, line, number)
+fn begin(pen: &mut Pen, word: &[u8], name: &Name) {
+    pen.put(b";");
+    pen.word(word);
+    put_name(pen, name);
 }
 
-fn begin(line: &mut Vec<u8>, word: &[u8], name: &Name) -> Result<(), Trouble> {
-    line.push(b';')?;
-    put(line, word)?;
-    put_name(line, name)
+pub fn put_name(pen: &mut Pen, name: &Name) {
+    pen.word(name.schema.as_slice());
+    pen.put(b".");
+    pen.put(name.model.as_slice());
 }
 
-pub fn put_name(line: &mut Vec<u8>, name: &Name) -> Result<(), Trouble> {
-    put(line, name.schema.as_slice())?;
-    line.push(b'.')?;
-    line.extend_from_slice(name.model.as_slice())?;
-    Ok(())
-}
-
-pub fn put_columns(line: &mut Vec<u8>, columns: &Columns) -> Result<(), Trouble> {
+pub fn put_columns(pen: &mut Pen, columns: &Columns) {
     for column in columns.as_slice() {
-        put(line, column.name.as_slice())?;
+        pen.word(column.name.as_slice());
     }
-    Ok(())
 }
 
-// The number at the end of each row.
-fn put_rows(alloc: Global, line: &mut Vec<u8>, rows: &Rows) -> Result<(), Trouble> {
+/// The number at the end of a row.
+fn put_row(pen: &mut Pen, row: &Row) {
+    if let Some(Cell::Int(number)) = row.get(1) {
+        put_next(pen, *number);
+    }
+}
+
+fn put_rows(pen: &mut Pen, rows: &Rows) {
     for row in rows.as_slice() {
-        if let Some(Cell::Int(number)) = row.get(1) {
-            put_next(alloc, line, *number)?;
-        }
+        put_row(pen, row);
     }
-    Ok(())
 }
 
-pub fn put_body(alloc: Global, line: &mut Vec<u8>, body: &Body) -> Result<(), Trouble> {
+fn put_targets(pen: &mut Pen, targets: &[Pair]) {
+    for target in targets {
+        put_name(pen, &target.first);
+        put_name(pen, &target.second);
+    }
+}
+
+pub fn put_body(pen: &mut Pen, body: &Body) {
     match body {
-        Body::Rows(rows) => put_rows(alloc, line, rows),
+        Body::Rows(rows) => put_rows(pen, rows),
         Body::Stored { own, targets } => {
-            put(line, b"stores")?;
-            put_name(line, &own.name)?;
-            for target in targets.as_slice() {
-                put_name(line, &target.first)?;
-                put_name(line, &target.second)?;
-            }
-            Ok(())
+            pen.word(b"stores");
+            put_name(pen, &own.name);
+            put_targets(pen, targets.as_slice());
         }
     }
 }
 
-fn put_tables(alloc: Global, line: &mut Vec<u8>, world: &World) -> Result<(), Trouble> {
-    for source in world.sources.as_slice() {
-        begin(line, b"source", &source.name)?;
-        put_columns(line, &source.columns)?;
-        put_rows(alloc, line, &source.rows)?;
+fn put_sources(pen: &mut Pen, sources: &[Input]) {
+    for source in sources {
+        begin(pen, b"source", &source.name);
+        put_columns(pen, &source.columns);
+        put_rows(pen, &source.rows);
     }
-    for object in world.objects.as_slice() {
-        begin(line, b"object", &object.name)?;
-        put_columns(line, &object.columns)?;
-        put_body(alloc, line, &object.body)?;
-    }
-    for view in world.views.as_slice() {
-        begin(line, b"view", &view.view)?;
-        put_name(line, &view.target)?;
-    }
-    Ok(())
 }
 
-fn put_version(alloc: Global, line: &mut Vec<u8>, version: &Version) -> Result<(), Trouble> {
-    begin(line, b"version", &version.object)?;
-    put(line, if version.made { b"made" } else { b"new" })?;
+fn put_objects(pen: &mut Pen, objects: &[Object]) {
+    for object in objects {
+        begin(pen, b"object", &object.name);
+        put_columns(pen, &object.columns);
+        put_body(pen, &object.body);
+    }
+}
+
+fn put_views(pen: &mut Pen, views: &[ViewOf]) {
+    for view in views {
+        begin(pen, b"view", &view.view);
+        put_name(pen, &view.target);
+    }
+}
+
+fn put_numbers(pen: &mut Pen, numbers: &[i64]) {
+    for number in numbers {
+        put_next(pen, *number);
+    }
+}
+
+fn put_version(pen: &mut Pen, version: &Version) {
+    begin(pen, b"version", &version.object);
+    pen.word(if version.made { b"made" } else { b"new" });
     for span in version.ranges.spans().as_slice() {
-        put_next(alloc, line, span.start)?;
-        put_next(alloc, line, span.end)?;
+        put_next(pen, span.start);
+        put_next(pen, span.end);
     }
     if let Some(marks) = &version.marks {
-        put(line, b"marks")?;
-        for mark in marks.as_slice() {
-            put_next(alloc, line, *mark)?;
-        }
+        pen.word(b"marks");
+        put_numbers(pen, marks.as_slice());
     }
-    Ok(())
 }
 
-fn put_refs(line: &mut Vec<u8>, word: &[u8], refs: &Refs) -> Result<(), Trouble> {
-    put(line, word)?;
+fn put_refs(pen: &mut Pen, word: &[u8], refs: &Refs) {
+    pen.word(word);
     for r in refs.as_slice() {
-        put_name(line, &r.name)?;
+        put_name(pen, &r.name);
     }
-    Ok(())
 }
 
-fn put_env(alloc: Global, line: &mut Vec<u8>, env: &Env) -> Result<(), Trouble> {
-    line.extend_from_slice(b"; environment")?;
-    put(line, env.name.as_slice())?;
-    put(line, if env.pending { b"pending" } else { b"final" })?;
-    put_refs(line, b"list", &env.list)?;
-    put_refs(line, b"previous", &env.previous)?;
+fn put_env(pen: &mut Pen, env: &Env) {
+    pen.put(b"; environment");
+    pen.word(env.name.as_slice());
+    pen.word(if env.pending { b"pending" } else { b"final" });
+    put_refs(pen, b"list", &env.list);
+    put_refs(pen, b"previous", &env.previous);
     if let Some(expires) = env.expires {
-        put_next(alloc, line, expires)?;
+        put_next(pen, expires);
     }
-    Ok(())
 }
 
-fn put_reference(
-    alloc: Global,
-    line: &mut Vec<u8>,
-    name: &Name,
-    fingerprint: &[u8; 32],
-) -> Result<(), Trouble> {
-    put_name(line, name)?;
-    line.push(b'/')?;
-    put_number(alloc, line, i64::from(fingerprint[0]))
+fn put_reference(pen: &mut Pen, name: &Name, fingerprint: &[u8; 32]) {
+    put_name(pen, name);
+    pen.put(b"/");
+    pen.number(i64::from(fingerprint[0]));
 }
 
-fn put_references(
-    alloc: Global,
-    line: &mut Vec<u8>,
-    word: &[u8],
-    refs: &[Ref],
-) -> Result<(), Trouble> {
-    put(line, word)?;
+fn put_references(pen: &mut Pen, word: &[u8], refs: &[Ref]) {
+    pen.word(word);
     for r in refs {
-        put_reference(alloc, line, &r.name, &r.fingerprint)?;
+        put_reference(pen, &r.name, &r.fingerprint);
     }
-    Ok(())
+}
+
+fn put_snapshot_references(pen: &mut Pen, snapshots: &[Snapshot]) {
+    for snapshot in snapshots {
+        pen.put(b"; snapshot");
+        put_reference(pen, &snapshot.name, &snapshot.fingerprint);
+        put_references(pen, b"parents", snapshot.parents.as_slice());
+    }
+}
+
+fn put_env_references(pen: &mut Pen, environments: &[Env]) {
+    for env in environments {
+        pen.put(b"; environment");
+        pen.word(env.name.as_slice());
+        put_references(pen, b"list", env.list.as_slice());
+        put_references(pen, b"previous", env.previous.as_slice());
+    }
 }
 
 /// The version of a book, and each reference in it with its fingerprint.
-pub fn put_fingerprints(alloc: Global, line: &mut Vec<u8>, book: &Book) -> Result<(), Trouble> {
-    put_next(alloc, line, i64::from(book.version))?;
-    for snapshot in book.snapshots.as_slice() {
-        line.extend_from_slice(b"; snapshot")?;
-        put_reference(alloc, line, &snapshot.name, &snapshot.fingerprint)?;
-        put_references(alloc, line, b"parents", snapshot.parents.as_slice())?;
+pub fn put_fingerprints(pen: &mut Pen, book: &Book) {
+    put_next(pen, i64::from(book.version));
+    put_snapshot_references(pen, book.snapshots.as_slice());
+    put_env_references(pen, book.environments.as_slice());
+}
+
+fn put_snapshots(pen: &mut Pen, snapshots: &[Snapshot]) {
+    for snapshot in snapshots {
+        begin(pen, b"snapshot", &snapshot.name);
+        put_next(pen, i64::from(snapshot.rank));
     }
-    for env in book.environments.as_slice() {
-        line.extend_from_slice(b"; environment")?;
-        put(line, env.name.as_slice())?;
-        put_references(alloc, line, b"list", env.list.as_slice())?;
-        put_references(alloc, line, b"previous", env.previous.as_slice())?;
+}
+
+fn put_versions(pen: &mut Pen, versions: &[Version]) {
+    for version in versions {
+        put_version(pen, version);
     }
-    Ok(())
+}
+
+fn put_envs(pen: &mut Pen, environments: &[Env]) {
+    for env in environments {
+        put_env(pen, env);
+    }
 }
 
 /// The snapshots, the versions and the environments of a book.
-pub fn put_book(alloc: Global, line: &mut Vec<u8>, book: &Book) -> Result<(), Trouble> {
-    for snapshot in book.snapshots.as_slice() {
-        begin(line, b"snapshot", &snapshot.name)?;
-        put_next(alloc, line, i64::from(snapshot.rank))?;
+pub fn put_book(pen: &mut Pen, book: &Book) {
+    put_snapshots(pen, book.snapshots.as_slice());
+    put_versions(pen, book.versions.as_slice());
+    put_envs(pen, book.environments.as_slice());
+}
+
+fn count_of_spans(versions: &[Version]) -> usize {
+    let mut spans = 0usize;
+    for version in versions {
+        spans = spans.saturating_add(version.ranges.spans().len());
     }
-    for version in book.versions.as_slice() {
-        put_version(alloc, line, version)?;
-    }
-    for env in book.environments.as_slice() {
-        put_env(alloc, line, env)?;
-    }
-    Ok(())
+    spans
 }
 
 /// How many snapshots a book has, and how many spans its versions.
-pub fn put_counts(alloc: Global, line: &mut Vec<u8>, book: &Book) -> Result<(), Trouble> {
-    let mut spans = 0usize;
-    for version in book.versions.as_slice() {
-        spans = spans.saturating_add(version.ranges.spans().len());
-    }
-    let text = format!(in alloc;
-        "snapshots {}, spans {spans}",
-        book.snapshots.as_slice().len()
-    )?;
-    line.extend_from_slice(text.as_bytes())?;
-    Ok(())
+pub fn put_counts(pen: &mut Pen, book: &Book) {
+    pen.put(b"snapshots ");
+    pen.count(book.snapshots.as_slice().len() as u64);
+    pen.put(b", spans ");
+    pen.count(count_of_spans(book.versions.as_slice()) as u64);
 }
 
 /// The moment, and then all that a world has.
-pub fn put_world(alloc: Global, line: &mut Vec<u8>, world: &World) -> Result<(), Trouble> {
-    put_number(alloc, line, world.book.moment)?;
-    put_tables(alloc, line, world)?;
-    put_book(alloc, line, &world.book)
+pub fn put_world(pen: &mut Pen, world: &World) {
+    pen.number(world.book.moment);
+    put_sources(pen, world.sources.as_slice());
+    put_objects(pen, world.objects.as_slice());
+    put_views(pen, world.views.as_slice());
+    put_book(pen, &world.book);
 }

@@ -2,7 +2,7 @@
 use crate::lattice::{model_text, sizes};
 use crate::loads::{loaded, put_loaded};
 use crate::shown::{put_categories, put_changed, put_counts, put_pairs, put_readings};
-use mesh_base::{Categories, Node, Own};
+use mesh_base::{Node, Own};
 use mesh_cases::{Trouble, filled, front_word, number_of, put_count};
 use mesh_category::categorize;
 use mesh_io::{DirFolder, File, MemFolder};
@@ -11,6 +11,7 @@ use mesh_list::{Duplicate, Memory, Seq};
 use mesh_rules::Project;
 use mesh_values::Str;
 use std::alloc::Global;
+use std::mem::replace;
 
 /// The files of a project, how many models are numbered, the project once it was loaded, and the one before it.
 #[derive(Drop)]
@@ -33,6 +34,24 @@ fn empty_folder(alloc: Global) -> MemFolder {
 fn path_of(alloc: Global, number: i64) -> Result<Str, Trouble> {
     let path = format!(in alloc; "models/m{number:06}.sql")?;
     Ok(u8::copy_items(alloc, path.as_bytes())?)
+}
+
+/// A copy of a project, where it loads.
+fn copied(loaded: Result<Project, Trouble>) -> Result<Project, Trouble> {
+    match loaded {
+        Ok(project) => Ok(project.copy()?),
+        Err(trouble) => Err(trouble),
+    }
+}
+
+fn put_unsteady(report: &mut Vec<u8>, project: &Project) -> Result<(), Trouble> {
+    let pairs = unsteady(project)?;
+    put_pairs(report, pairs.as_slice())
+}
+
+fn put_reads(report: &mut Vec<u8>, own: &Own) -> Result<(), Trouble> {
+    let readings = reads(own)?;
+    put_readings(report, readings.as_slice())
 }
 
 /// Adds how many columns all models read.
@@ -160,9 +179,8 @@ impl Stage {
         }
     }
 
-    /// Begins a project that is compared with this one. Its numbered models are gone, other files stay.
-    fn begin(&mut self, alloc: Global) -> Result<(), Trouble> {
-        self.base = Some(self.project(alloc)?.copy()?);
+    /// Takes out the numbered models.
+    fn take_models(&mut self, alloc: Global) -> Result<(), Trouble> {
         for number in 0..self.models {
             let path = path_of(alloc, number)?;
             self.folder.delete(&path);
@@ -171,15 +189,30 @@ impl Stage {
         Ok(())
     }
 
-    fn begin_empty(&mut self, alloc: Global) {
-        self.folder = empty_folder(alloc);
-        self.models = 0;
-        self.made = None;
-        self.base = None;
+    /// Begins a project that is compared with this one. Its numbered models are gone, other files stay.
+    fn begin(&mut self, alloc: Global) -> Result<(), Trouble> {
+        let base = copied(self.project(alloc))?;
+        drop(replace(&mut self.base, Some(base)));
+        self.take_models(alloc)
     }
 
-    fn categories(&self, project: &Project) -> Result<Categories, Trouble> {
-        Ok(categorize(project, self.base.as_ref())?)
+    fn begin_empty(&mut self, alloc: Global) {
+        drop(replace(self, Stage::new(alloc)));
+    }
+
+    fn put_categories(&self, report: &mut Vec<u8>, project: &Project) -> Result<(), Trouble> {
+        let found = categorize(project, self.base.as_ref())?;
+        put_categories(report, project.as_slice(), &found)
+    }
+
+    fn put_counts(
+        &self,
+        alloc: Global,
+        report: &mut Vec<u8>,
+        project: &Project,
+    ) -> Result<(), Trouble> {
+        let found = categorize(project, self.base.as_ref())?;
+        put_counts(alloc, report, &found)
     }
 
     fn put_often(
@@ -204,13 +237,13 @@ impl Stage {
         report: &mut Vec<u8>,
     ) -> Result<(), Trouble> {
         if is(word, b"unsteady") {
-            put_pairs(report, unsteady(project)?.as_slice())
+            put_unsteady(report, project)
         } else if is(word, b"categories") {
-            put_categories(report, project.as_slice(), &self.categories(project)?)
+            self.put_categories(report, project)
         } else if is(word, b"readings") {
             put_read(alloc, report, project.as_slice())
         } else if is(word, b"count") {
-            put_counts(alloc, report, &self.categories(project)?)
+            self.put_counts(alloc, report, project)
         } else if is(word, b"changed") {
             put_changed(report, project.as_slice(), self.base.as_ref())
         } else {
@@ -252,7 +285,7 @@ impl Stage {
         report: &mut Vec<u8>,
     ) -> Result<(), Trouble> {
         if is(word, b"reads") {
-            put_readings(report, reads(&model(project, text)?.own)?.as_slice())
+            put_reads(report, &model(project, text)?.own)
         } else if is(word, b"joinable") {
             put_joinable(report, &model(project, text)?.own)
         } else {
@@ -270,7 +303,7 @@ impl Stage {
     ) -> Result<(), Trouble> {
         let project = self.project(alloc)?;
         let done = self.answer(alloc, word, text, &project, report);
-        self.made = Some(project);
+        drop(replace(&mut self.made, Some(project)));
         done
     }
 

@@ -2,10 +2,10 @@
 use crate::faults::kind_of;
 use crate::notation::number_of;
 use crate::parts::{put_model, put_parts};
-use crate::pen::Pen;
 use crate::query::put_query;
+use crate::refusals::{put_fault, put_fault_of};
 use crate::tokens::put_each;
-use mesh_cases::{Trouble, halves};
+use mesh_cases::{Pen, Trouble, halves};
 use mesh_list::{Duplicate, Same};
 use mesh_query::parse;
 use mesh_statement::read_statement;
@@ -32,7 +32,7 @@ pub fn put_tokens(alloc: Global, pen: &mut Pen, text: &[u8]) -> Result<(), Troub
             put_each(pen, &copied);
             pen.put(b"\n");
         }
-        Err(fault) => pen.fault(&fault),
+        Err(fault) => put_fault(pen, &fault),
     }
     Ok(())
 }
@@ -44,7 +44,7 @@ fn put_tree_from(alloc: Global, pen: &mut Pen, text: &[u8], from: u32) -> Result
             put_query(pen, &query);
             pen.put(b"\n");
         }
-        Err(fault) => pen.fault(&fault),
+        Err(fault) => put_fault(pen, &fault),
     }
     Ok(())
 }
@@ -65,7 +65,7 @@ pub fn put_tree_behind(alloc: Global, pen: &mut Pen, text: &[u8]) -> Result<(), 
 pub fn put_limit(alloc: Global, pen: &mut Pen, text: &[u8]) -> Result<(), Trouble> {
     match parse(&plain(alloc, text)?, 0) {
         Ok(_) => pen.put(b" read\n"),
-        Err(fault) => pen.fault(&fault),
+        Err(fault) => put_fault(pen, &fault),
     }
     Ok(())
 }
@@ -78,7 +78,7 @@ pub fn put_statement(alloc: Global, pen: &mut Pen, text: &[u8]) -> Result<(), Tr
             put_parts(pen, &parts, end, rest.len());
             pen.put(b"\n");
         }
-        Err(fault) => pen.fault(&fault),
+        Err(fault) => put_fault(pen, &fault),
     }
     Ok(())
 }
@@ -94,7 +94,7 @@ pub fn put_model_file(alloc: Global, pen: &mut Pen, text: &[u8]) -> Result<(), T
             put_model(pen, &model.copy()?);
             pen.put(b"\n");
         }
-        Err(fault) => pen.fault(&fault),
+        Err(fault) => put_fault(pen, &fault),
     }
     Ok(())
 }
@@ -104,7 +104,7 @@ fn outcome(alloc: Global, file: &Str, text: &[u8]) -> Pen {
     let mut pen = Pen::new(alloc);
     match read_model(file, text) {
         Ok(_) => pen.put(b" read\n"),
-        Err(fault) => pen.fault(&fault),
+        Err(fault) => put_fault(&mut pen, &fault),
     }
     pen
 }
@@ -129,6 +129,6 @@ pub fn put_cuts(alloc: Global, pen: &mut Pen, text: &[u8]) -> Result<(), Trouble
 
 /// The line of a fault at byte 10 of `models/m.sql`.
 pub fn put_fault_line(alloc: Global, pen: &mut Pen, text: &[u8]) -> Result<(), Trouble> {
-    pen.fault_of(b"models/m.sql", 10, &kind_of(alloc, text)?);
+    put_fault_of(pen, b"models/m.sql", 10, &kind_of(alloc, text)?);
     Ok(())
 }

@@ -1,7 +1,7 @@
 // The properties of statements and of models in print, each behind a blank.
-use crate::pen::Pen;
 use crate::query::put_query;
 use crate::tokens::put_each;
+use mesh_cases::Pen;
 use mesh_model::ModelText;
 use mesh_statement::Parts;
 use mesh_tokens::Tokens;

@@ -1,6 +1,6 @@
 // Queries in print.
-use crate::pen::Pen;
 use crate::tree::{put_expr, put_qualified};
+use mesh_cases::Pen;
 use mesh_surface::{
     OrExpr, Surface, SurfaceFrom, SurfaceItem, SurfaceJoin, SurfaceRel, SurfaceSelect, SurfaceUnion,
 };

@@ -1,5 +1,5 @@
 // Tokens in print, each behind a blank.
-use crate::pen::Pen;
+use mesh_cases::Pen;
 use mesh_tokens::{Token, TokenKind, Tokens};
 
 fn put_what(pen: &mut Pen, letter: &[u8], what: &[u8]) {

@@ -1,6 +1,6 @@
 // Expressions of a query's tree in print: each list of parts in parentheses with its operator first, and `[..]` round what
 // stands in parentheses.
-use crate::pen::Pen;
+use mesh_cases::Pen;
 use mesh_list::Seq;
 use mesh_surface::{
     AddExpr, AddSign, AndExpr, Args, Arm, CatExpr, Cmp, Function, MulExpr, MulSign, NotExpr,

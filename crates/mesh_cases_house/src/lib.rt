@@ -1,6 +1,6 @@
 //! Each kind of change in a house in memory, what that house answers, and each breach of a well-formed book.
-//! What comes of each step is printed, and is compared with the crate's `stdout`, whose values were
-//! worked out by hand.
+//! What comes of each step is reported, and is compared with the `stdout` of `mesh_answers`, whose values were
+//! worked out by hand. The files lie in its `data/house`.
 //!
 //! A step is a line, and a line that has nothing or begins with `#` is none. In both files `own WORD TEXT` has WORD call
 //! the definition with this canonical text. A reference `S.M/N` has the fingerprint of 32 bytes N, and one `S.M/N.N..` that of
@@ -44,8 +44,7 @@
 //! - `columns_of OWN` prints a definition with its columns in place of its query, and `sort_rows OWN` a seed with its rows
 //!   sorted.
 //!
-//! `bench/house.py` runs the program where its own cases lie. It stands on `mesh_base`, `mesh_time`, `mesh_book`, `mesh_house`,
-//! `mesh_canon`, `mesh_io` and `mesh_cases`.
+//! `bench/house.py` has the program run cases of its own.
 #![tactic(auto)]
 
 mod books;
@@ -55,21 +54,21 @@ mod line;
 mod owns;
 mod written;
 
-use mesh_cases::{Trouble, file_of, printed};
+use mesh_cases::{Pen, Trouble, file_of};
 use mesh_io::DirFolder;
 use std::alloc::Global;
-use std::process::ExitCode;
 
-fn run(alloc: Global, data: &mut DirFolder, report: &mut Vec<u8>) -> Result<(), Trouble> {
-    let changes = file_of(alloc, data, b"changes.txt")?;
-    house::run(alloc, changes.as_slice(), report)?;
-    let books = file_of(alloc, data, b"books.txt")?;
-    books::run(alloc, books.as_slice(), report)
+fn files(alloc: Global, data: &mut DirFolder, pen: &mut Pen) -> Result<(), Trouble> {
+    let changes = file_of(alloc, data, b"house", b"changes.txt")?;
+    house::run(alloc, changes.as_slice(), pen)?;
+    let books = file_of(alloc, data, b"house", b"books.txt")?;
+    books::run(alloc, books.as_slice(), pen)
 }
 
-fn main(rt: HostRuntime) -> ExitCode {
-    let mut report = Vec::new(rt.alloc());
-    let mut data = DirFolder::new(&rt);
-    let done = run(rt.alloc(), &mut data, &mut report);
-    printed(&rt, report.as_slice(), done)
+/// Adds what comes of each step of the folder `house`.
+pub fn run(alloc: Global, data: &mut DirFolder, report: &mut Vec<u8>) -> Result<(), Trouble> {
+    let mut pen = Pen::new(alloc);
+    let done = files(alloc, data, &mut pen);
+    report.extend_from_slice(pen.text())?;
+    done
 }

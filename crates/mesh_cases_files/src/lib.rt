@@ -1,5 +1,5 @@
-//! Values and files, and what lies outside, as data. Each line of a file of `data/` is one call, and is
-//! printed with what the call answered; the crate's `stdout` has the answers, which were worked out by hand. A line is a
+//! Values and files, and what lies outside, as data. Each line of a file of `data/files` of `mesh_answers` is one call, and is
+//! reported with what the call answered; the program's `stdout` has the answers, which were worked out by hand. A line is a
 //! word and what the word takes, where `\n`, `\r`, `\t`, `\\` and `\xHH` are escapes, and `{N TEXT}` is TEXT N times, a `#`
 //! in it the number of the copy.
 //!
@@ -34,10 +34,10 @@
 //!   that are to fail from then on;
 //! - `list DIR`, `read MOST PATH`, `now`, `take MOST`, `put BYTES` and `written` ask the objects in memory. The answer has
 //!   how many faults the object has counted;
-//! - `host-list DIR`, `host-read MOST PATH`, `host-take MOST` and `host-put BYTES` ask the folder of the host that this
-//!   runs in, its input and its output; `host-now` is whether its clock is within the years that a moment has.
+//! - `host-list DIR`, `host-read MOST PATH`, `host-take MOST` and `host-put BYTES` ask the folder of the host that the
+//!   program runs in, its input and its output; `host-now` is whether its clock is within the years that a moment has.
 //!
-//! `bench/time.py`, `bench/canon.py` and `bench/text.py` run the program where their own cases lie.
+//! `bench/time.py`, `bench/canon.py` and `bench/text.py` have the program run cases of their own.
 #![tactic(auto)]
 
 mod answers;
@@ -60,10 +60,9 @@ use crate::host::Host;
 use crate::memory::Inside;
 use crate::seeds::Files;
 use crate::values::Values;
-use mesh_cases::{Trouble, cases_of, file_of, filled, front_word, printed};
+use mesh_cases::{Trouble, cases_of, file_of, filled, front_word};
 use mesh_io::DirFolder;
 use std::alloc::Global;
-use std::process::ExitCode;
 
 /// The files of cases of values.
 const VALUES: [&[u8]; 5] = [b"times", b"casts", b"ranges", b"canon", b"digests"];
@@ -104,17 +103,33 @@ impl Stage<'_> {
     }
 }
 
-/// Runs the cases of one file of values, and adds what is to be printed.
-fn run_values(alloc: Global, file: &[u8], report: &mut Vec<u8>) -> Result<(), Trouble> {
-    let mut values = Values::new(alloc);
+fn value_lines(
+    alloc: Global,
+    values: &mut Values,
+    file: &[u8],
+    report: &mut Vec<u8>,
+) -> Result<(), Trouble> {
     for line in &cases_of(alloc, file)? {
         values.line(line, report)?;
     }
     Ok(())
 }
 
+/// Runs the cases of one file of values, and adds what is to be printed.
+fn run_values(alloc: Global, file: &[u8], report: &mut Vec<u8>) -> Result<(), Trouble> {
+    let mut values = Values::new(alloc);
+    value_lines(alloc, &mut values, file, report)
+}
+
+fn other_lines(stage: &mut Stage, file: &[u8], report: &mut Vec<u8>) -> Result<(), Trouble> {
+    for line in &cases_of(stage.alloc, file)? {
+        stage.line(line, report)?;
+    }
+    Ok(())
+}
+
 /// Runs the cases of one other file, and adds what is to be printed.
-fn run(rt: &HostRuntime, file: &[u8], report: &mut Vec<u8>) -> Result<(), Trouble> {
+fn run_others(rt: &HostRuntime, file: &[u8], report: &mut Vec<u8>) -> Result<(), Trouble> {
     let alloc = rt.alloc();
     let mut stage = Stage {
         alloc,
@@ -122,27 +137,18 @@ fn run(rt: &HostRuntime, file: &[u8], report: &mut Vec<u8>) -> Result<(), Troubl
         inside: Inside::new(alloc),
         host: Host::new(rt),
     };
-    for line in &cases_of(alloc, file)? {
-        stage.line(line, report)?;
-    }
-    Ok(())
+    other_lines(&mut stage, file, report)
 }
 
-fn all_files(rt: &HostRuntime, report: &mut Vec<u8>) -> Result<(), Trouble> {
-    let mut data = DirFolder::new(rt);
+/// Adds what each call of the folder `files` answers. What the host's output is given is printed at once.
+pub fn run(rt: &HostRuntime, data: &mut DirFolder, report: &mut Vec<u8>) -> Result<(), Trouble> {
     for name in VALUES {
-        let file = file_of(rt.alloc(), &mut data, name)?;
+        let file = file_of(rt.alloc(), data, b"files", name)?;
         run_values(rt.alloc(), file.as_slice(), report)?;
     }
     for name in FILES {
-        let file = file_of(rt.alloc(), &mut data, name)?;
-        run(rt, file.as_slice(), report)?;
+        let file = file_of(rt.alloc(), data, b"files", name)?;
+        run_others(rt, file.as_slice(), report)?;
     }
     Ok(())
-}
-
-fn main(rt: HostRuntime) -> ExitCode {
-    let mut report = Vec::new(rt.alloc());
-    let done = all_files(&rt, &mut report);
-    printed(&rt, report.as_slice(), done)
 }

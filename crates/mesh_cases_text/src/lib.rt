@@ -1,7 +1,7 @@
 //! The cases of what is read from texts: of `mesh_tokens`, `mesh_query`, `mesh_statement`, `mesh_text` and
-//! `mesh_fault_text`. Each line of a file of `data/` is a case, but for empty lines and those that begin with `#`. It is
-//! printed as it stands, and below it what the libraries answer, in the notation of that file. The crate's `stdout` has what
-//! must be printed; its values were worked out by hand.
+//! `mesh_fault_text`. Each line of a file of `data/text` of `mesh_answers` is a case, but for empty lines and those that begin
+//! with `#`. It is reported as it stands, and below it what the libraries answer, in the notation of that file. The program's
+//! `stdout` has what must be printed; its values were worked out by hand.
 //!
 //! A line writes a text: `\n`, `\r`, `\t`, `\\` and `\xHH` stand for one byte each, and `{N*TEXT}` for a text N times, in
 //! which `#` is how often it stood before. Where a text has a fault, the fault's line is printed, with `-` for the file.
@@ -21,15 +21,15 @@
 //!   parts (5, 17, and 21 for the other fault M17), names with blanks between them (12) or two numbers with ` | ` between
 //!   them (16, 19: of two fingerprints each byte).
 //!
-//! `bench/text.py` runs the program where its own cases lie.
+//! `bench/text.py` has the program run cases of its own.
 #![tactic(auto)]
 
 mod answers;
 mod faults;
 mod notation;
 mod parts;
-mod pen;
 mod query;
+mod refusals;
 mod tokens;
 mod tree;
 
@@ -38,11 +38,9 @@ use crate::answers::{
     put_tree_behind,
 };
 use crate::notation::text_of;
-use crate::pen::Pen;
-use mesh_cases::{Trouble, cases_of, file_of, printed};
+use mesh_cases::{Pen, Trouble, cases_of, file_of};
 use mesh_io::DirFolder;
 use std::alloc::Global;
-use std::process::ExitCode;
 
 /// What is asked of the texts of a file.
 #[derive(Clone, Copy)]
@@ -95,15 +93,16 @@ fn files(alloc: Global, data: &mut DirFolder, pen: &mut Pen) -> Result<(), Troub
         pen.put(b"== ");
         pen.put(name);
         pen.put(b"\n");
-        let file = file_of(alloc, data, name)?;
+        let file = file_of(alloc, data, b"text", name)?;
         cases(alloc, pen, asked, file.as_slice())?;
     }
     Ok(())
 }
 
-fn main(rt: HostRuntime) -> ExitCode {
-    let mut pen = Pen::new(rt.alloc());
-    let mut data = DirFolder::new(&rt);
-    let done = files(rt.alloc(), &mut data, &mut pen);
-    printed(&rt, pen.text(), done)
+/// Adds what the libraries answer to each case of the folder `text`.
+pub fn run(alloc: Global, data: &mut DirFolder, report: &mut Vec<u8>) -> Result<(), Trouble> {
+    let mut pen = Pen::new(alloc);
+    let done = files(alloc, data, &mut pen);
+    report.extend_from_slice(pen.text())?;
+    done
 }

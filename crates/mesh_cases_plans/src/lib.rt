@@ -1,7 +1,7 @@
 //! Projects as data: whether they load, what their models read, which aren't steady, which may be evaluated for several units
-//! at once, and how they stand to the models of another project. Each line of `data/cases.txt` is a call, but for empty lines and those that
-//! begin with `#`; what must be printed stands in the crate's `stdout`, and was worked out by hand. In a line `\n` is a line
-//! feed and `{N TEXT}` a text N times, in which `#` is the number of the copy.
+//! at once, and how they stand to the models of another project. Each line of `data/plans/cases.txt` of `mesh_answers` is a
+//! call, but for empty lines and those that begin with `#`; what must be printed stands in the program's `stdout`, and was
+//! worked out by hand. In a line `\n` is a line feed and `{N TEXT}` a text N times, in which `#` is the number of the copy.
 //! - `file PATH | TEXT` puts a file into the folder, and `gone PATH` takes one out; `empty` begins with no file;
 //! - `sources | FILE` puts the file there that declares the sources;
 //! - `model | FILE` puts a further model there, by the text of its file;
@@ -16,9 +16,9 @@
 //! - `count` shows how many models of each category there are, and `readings` how many columns all models read.
 //!
 //! A number behind one of the last four makes it be asked so often, of one project. `read DIR` is `load DIR` of a folder that
-//! lies beside the cases.
+//! lies where the program runs.
 //!
-//! `bench/plan.py` and `bench/project.py` run the program where their own cases lie.
+//! `bench/plan.py` and `bench/project.py` have the program run cases of their own.
 #![tactic(auto)]
 
 mod lattice;
@@ -27,28 +27,25 @@ mod shown;
 mod stage;
 
 use crate::stage::Stage;
-use mesh_cases::{Trouble, cases_of, file_of, printed};
+use mesh_cases::{Trouble, cases_of, file_of};
 use mesh_io::DirFolder;
 use std::alloc::Global;
-use std::process::ExitCode;
 
-fn run(
+fn cases(
     alloc: Global,
     data: &mut DirFolder,
     stage: &mut Stage,
     report: &mut Vec<u8>,
 ) -> Result<(), Trouble> {
-    let file = file_of(alloc, data, b"cases.txt")?;
+    let file = file_of(alloc, data, b"plans", b"cases.txt")?;
     for line in cases_of(alloc, file.as_slice())? {
         stage.line(alloc, data, line, report)?;
     }
     Ok(())
 }
 
-fn main(rt: HostRuntime) -> ExitCode {
-    let mut report = Vec::new(rt.alloc());
-    let mut stage = Stage::new(rt.alloc());
-    let mut data = DirFolder::new(&rt);
-    let done = run(rt.alloc(), &mut data, &mut stage, &mut report);
-    printed(&rt, report.as_slice(), done)
+/// Adds what each call of the folder `plans` answers.
+pub fn run(alloc: Global, data: &mut DirFolder, report: &mut Vec<u8>) -> Result<(), Trouble> {
+    let mut stage = Stage::new(alloc);
+    cases(alloc, data, &mut stage, report)
 }

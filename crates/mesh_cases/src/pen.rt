@@ -1,7 +1,7 @@
-// What is printed. Whoever writes needn't ask each time whether memory was there: it is told at the end.
-use mesh_cases::{Trouble, put_count, put_number, shown};
-use mesh_fault_text::fault_line;
-use mesh_tokens::{FaultKind, ReadFault};
+// What is written. Whoever writes needn't ask each time whether memory was there: it is told at the end.
+use crate::escapes::shown;
+use crate::report::{put_count, put_number};
+use crate::trouble::Trouble;
 use std::alloc::Global;
 
 /// What was written so far, and whether some of it is lost because memory was out.
@@ -13,6 +13,7 @@ pub struct Pen {
 }
 
 impl Pen {
+    /// Nothing is written.
     pub fn new(alloc: Global) -> Pen {
         Pen {
             alloc,
@@ -21,10 +22,17 @@ impl Pen {
         }
     }
 
+    /// The allocator of what is written.
+    pub fn alloc(&self) -> Global {
+        self.alloc
+    }
+
+    /// What was written.
     pub fn text(&self) -> &[u8] {
         self.text.as_slice()
     }
 
+    /// Whether nothing is lost.
     pub fn done(&self) -> Result<(), Trouble> {
         if self.lost {
             Err(Trouble::Memory)
@@ -33,58 +41,49 @@ impl Pen {
         }
     }
 
+    /// Something that was to be written is lost.
+    pub fn lose(&mut self) {
+        self.lost = true;
+    }
+
+    /// Adds bytes.
     pub fn put(&mut self, bytes: &[u8]) {
         if self.text.extend_from_slice(bytes).is_err() {
             self.lost = true;
         }
     }
 
-    /// These bytes where that holds.
+    /// Adds these bytes where that holds.
     pub fn put_if(&mut self, holds: bool, bytes: &[u8]) {
         if holds {
             self.put(bytes);
         }
     }
 
-    /// A word behind a blank.
+    /// Adds a word behind a blank.
     pub fn word(&mut self, word: &[u8]) {
         self.put(b" ");
         self.put(word);
     }
 
-    /// A text with escapes for what isn't printable.
+    /// Adds a text with escapes for what isn't printable.
     pub fn shown(&mut self, text: &[u8]) {
         if shown(&mut self.text, text).is_err() {
             self.lost = true;
         }
     }
 
+    /// Adds a number in decimal digits.
     pub fn number(&mut self, number: i64) {
         if put_number(self.alloc, &mut self.text, number).is_err() {
             self.lost = true;
         }
     }
 
-    /// A place or a count.
+    /// Adds a place or a count.
     pub fn count(&mut self, count: u64) {
         if put_count(self.alloc, &mut self.text, count).is_err() {
             self.lost = true;
-        }
-    }
-
-    /// The line of a fault, which begins with a blank.
-    pub fn fault_of(&mut self, file: &[u8], at: u64, kind: &FaultKind) {
-        match fault_line(self.alloc, file, at, kind) {
-            Ok(line) => self.word(line.as_slice()),
-            Err(_) => self.lost = true,
-        }
-    }
-
-    /// The line of what was refused in some text.
-    pub fn fault(&mut self, fault: &ReadFault) {
-        match fault {
-            ReadFault::Fault { at, kind } => self.fault_of(b"-", *at, kind),
-            ReadFault::Memory => self.lost = true,
         }
     }
 }
