@@ -1,6 +1,6 @@
 #!/usr/bin/env python3
 """Compares `docs/GUIDE.md` with the worked examples that run its command lines: the lines `./mesh ..` with the text below each are the
-commands of the sections `== guide_..` of `crates/mesh_rows/stdout` with what they print, all of them and each section's in its order;
+commands of the sections `== guide_..` of `crates/mesh_answers/stdout` with what they print, all of them and each section's in its order;
 each file that the page shows is one of these examples; and their projects are those of `examples/`.
 
 Given a program, it also runs these examples with it as a user would, each in an empty folder and over warehouses in files, but for the
@@ -17,7 +17,7 @@ import tempfile
 
 from measured import TOP
 
-ROWS = f"{TOP}/crates/mesh_rows/data/rows"
+ROWS = f"{TOP}/crates/mesh_answers/data/rows"
 # What begins a line that isn't printed by the one before it.
 SHELL = ("./mesh ", "sqlite3 ", "mkdir ", "cp ", "tail ")
 MIRRORS = [("starter", "guide_starter"), ("shop", "guide_shop"), ("shop", "guide_stopped")]
@@ -66,7 +66,7 @@ def files(page):
 def examples():
     """The commands of each example of the guide, with what they print."""
     found = {}
-    for section in read(f"{TOP}/crates/mesh_rows/stdout").split("== ")[1:]:
+    for section in read(f"{TOP}/crates/mesh_answers/stdout").split("== ")[1:]:
         name, _, text = section.partition("\n")
         if name.startswith("guide_"):
             found[name] = []

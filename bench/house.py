@@ -3,7 +3,7 @@
 then 100,000 changes that each record an hour of one version after another; for 2,048 tables and for 4,096. Then one change
 that forgets 200,000 units of a version, which adjoin or are every second one; and one that gives 10,000 snapshots other
 fingerprints, which are of as many models or of one. Their seconds are those of a file that makes the changes at once and
-counts what is then there, without one that has the same changes and makes none. Last `mesh_rows`: the views of a further
+counts what is then there, without one that has the same changes and makes none. Last the suite `rows`: the views of a further
 environment of many models, by `apply` without those of `plan`, and a janitor's sweep of the snapshots and tables of
 environments that are over. Prints seconds of processor and growth.
 

@@ -1,13 +1,13 @@
 #!/usr/bin/env python3
 """Times the suite `plans` of `mesh_answers` on projects of many incremental models, each over all of the rank below it,
 joined and bound to the unit: the categories of all, where each gains a column; what all models read; and which aren't steady.
-Each also with half of the ranks. Then `mesh_rows` on plans: of a project that is unchanged, over a book of four times as many
+Each also with half of the ranks. Then its suite `rows` on plans: of a project that is unchanged, over a book of four times as many
 snapshots; and of one model with many hours, none of which is recorded. A plan's seconds are those of the command without
 those of one at an earlier moment, which loads the project, reads the book and refuses. Prints seconds of processor and
 growth.
 
-Usage: bench/plan.py [lattice] [plans] for one of the two parts; the programs are crates/mesh_answers/out/mesh_answers and
-crates/mesh_rows/out/mesh_rows (`rt run` makes them)."""
+Usage: bench/plan.py [lattice] [plans] for one of the two parts; the program is crates/mesh_answers/out/mesh_answers (`rt run`
+makes it)."""
 import sys
 
 import played

@@ -1,10 +1,10 @@
 //! The cases of the libraries, as data: the suites of the crates `mesh_cases_text`, `mesh_cases_files`, `mesh_cases_house`,
-//! `mesh_cases_plans` and `mesh_cases_queries`, one after another. A suite's files lie in the folder of its name in `data/`,
-//! and its crate's head says what their lines are. What is printed is compared with `stdout`, whose values were worked out
-//! by hand.
+//! `mesh_cases_plans`, `mesh_cases_queries` and `mesh_cases_rows`, one after another. A suite's files lie in the folder of
+//! its name in `data/`, and its crate's head says what their lines are. What is printed is compared with `stdout`, whose
+//! values were worked out by hand.
 //!
-//! The words of the command line name the suites that are run, in their order: `text`, `files`, `house`, `plans` and
-//! `queries`; with no word all of them are, in this order. A word that names none ends with status 2. A suite that can't be
+//! The words of the command line name the suites that are run, in their order: `text`, `files`, `house`, `plans`, `queries`
+//! and `rows`; with no word all of them are, in this order. A word that names none ends with status 2. A suite that can't be
 //! run to its end is the last one, and the status is 1.
 #![tactic(auto)]
 
@@ -22,14 +22,16 @@ enum Suite {
     House,
     Plans,
     Queries,
+    Rows,
 }
 
-const ALL: [Suite; 5] = [
+const ALL: [Suite; 6] = [
     Suite::Text,
     Suite::Files,
     Suite::House,
     Suite::Plans,
     Suite::Queries,
+    Suite::Rows,
 ];
 
 /// The most words that are read.
@@ -50,6 +52,7 @@ fn name_of(suite: Suite) -> &'static [u8] {
         Suite::House => b"house",
         Suite::Plans => b"plans",
         Suite::Queries => b"queries",
+        Suite::Rows => b"rows",
     }
 }
 
@@ -99,6 +102,7 @@ fn run<R: Threads + Sync>(
         Suite::House => mesh_cases_house::run(alloc, &mut data, report),
         Suite::Plans => mesh_cases_plans::run(alloc, &mut data, report),
         Suite::Queries => mesh_cases_queries::run(workers, alloc, &mut data, report),
+        Suite::Rows => mesh_cases_rows::run(workers, alloc, &mut data, report),
     }
 }
 

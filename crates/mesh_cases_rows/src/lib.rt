@@ -1,6 +1,6 @@
 //! Worked examples as data. Each folder `rows/NAME` has a project in `project/` and a `script` of steps, which are run
 //! through the top call of `mesh_cli` over a folder and a warehouse in memory. What each command answers is printed, and
-//! is compared with the crate's `stdout`, whose values were worked out by hand.
+//! is compared with the program's `stdout`, whose values were worked out by hand.
 //!
 //! A script has one step a line, split as the lines of a batch are; empty lines and lines that begin with `#` are no steps:
 //! - `mesh WORD..` runs a command, and prints its status, its number of changes, and what it wrote on `out` and `err`;
@@ -41,12 +41,11 @@ use crate::report::{put, put_counts, put_outcome, put_targets, put_views};
 use crate::stage::Stage;
 use crate::trouble::Trouble;
 use crate::turns::{cuts, stops};
-use mesh_io::{DirFolder, Folder, Sink, StdSink};
+use mesh_io::{DirFolder, Folder};
 use mesh_list::{Duplicate, Seq};
 use mesh_scripts::{is_skipped, line_words};
 use mesh_values::Str;
 use std::alloc::Global;
-use std::process::ExitCode;
 use std::thread::Threads;
 
 /// The bytes of the largest file of an example.
@@ -59,7 +58,7 @@ fn read(alloc: Global, data: &mut DirFolder, path: &[u8]) -> Result<Str, Trouble
     data.read(alloc, &whole, MOST_BYTES)?.ok_or(Trouble::Script)
 }
 
-fn run<R: Threads + Sync>(
+fn command<R: Threads + Sync>(
     rt: &R,
     stage: &mut Stage,
     words: &[Str],
@@ -85,7 +84,7 @@ fn perform<R: Threads + Sync>(
         return Err(Trouble::Script);
     };
     match rest {
-        _ if is(first, b"mesh") => run(rt, stage, rest, report),
+        _ if is(first, b"mesh") => command(rt, stage, rest, report),
         [] if is(first, b"show") => put_world(stage, report),
         [] if is(first, b"targets") => put_targets(report, stage.house.world()),
         [path, command @ ..] if is(first, b"cuts") => cuts(rt, stage, path, command, report),
@@ -195,18 +194,15 @@ fn examples<R: Threads + Sync>(
     Ok(())
 }
 
-fn main(rt: HostRuntime) -> ExitCode {
-    let mut report = Vec::new(rt.alloc());
-    let mut data = DirFolder::new(&rt);
-    let done = examples(&rt, rt.alloc(), &mut data, &mut report);
-    let mut out = StdSink::output(&rt);
-    let printed = out.put(report.as_slice());
-    match (done, printed) {
-        (Ok(()), Ok(())) => ExitCode::from(0),
-        (Err(trouble), _) => {
-            let _ = eprintln!(rt; "{trouble:?}");
-            ExitCode::from(1)
-        }
-        _ => ExitCode::from(1),
+/// Plays all examples, in the order of their names, and adds what is to be printed. Commands compute by the threads of `rt`.
+pub fn run<R: Threads + Sync>(
+    rt: &R,
+    alloc: Global,
+    data: &mut DirFolder,
+    report: &mut Vec<u8>,
+) -> Result<(), mesh_cases::Trouble> {
+    match examples(rt, alloc, data, report) {
+        Ok(()) => Ok(()),
+        Err(trouble) => Err(trouble.of_cases()),
     }
 }

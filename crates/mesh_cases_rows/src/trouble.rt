@@ -5,7 +5,7 @@ use mesh_list::Memory;
 use std::alloc::{AllocError, AllocFailed};
 
 /// Memory ran out, the examples' own files couldn't be read, a script has a step that isn't one, or a view dangles.
-#[derive(Clone, Copy, Debug)]
+#[derive(Clone, Copy)]
 pub enum Trouble {
     Memory,
     Outside,
@@ -46,6 +46,18 @@ impl From<ShowFault> for Trouble {
             ShowFault::Dangling { .. } => Trouble::Dangling,
             ShowFault::Warehouse => Trouble::Outside,
             ShowFault::Memory => Trouble::Memory,
+        }
+    }
+}
+
+impl Trouble {
+    /// The same for any suite: a script or a view that isn't as it has to be is no case.
+    pub fn of_cases(self) -> mesh_cases::Trouble {
+        match self {
+            Trouble::Memory => mesh_cases::Trouble::Memory,
+            Trouble::Outside => mesh_cases::Trouble::Outside,
+            Trouble::Script => mesh_cases::Trouble::Case,
+            Trouble::Dangling => mesh_cases::Trouble::Case,
         }
     }
 }
