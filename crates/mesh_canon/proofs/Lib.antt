@@ -1,14 +1,1 @@
-pub mod Below
-pub mod Crons
-pub mod Definitions
-pub mod Exact
-pub mod Exprs
-pub mod Forms
-pub mod Lists
-pub mod Lone
-pub mod Loop
-pub mod Nodes
-pub mod Numbers
-pub mod Queries
-pub mod Steps
-pub mod Values
+pub mod Either

@@ -4,7 +4,7 @@ ghost use Rattle.mesh_values.specs.Kinds.{lookback_of};
 ghost use Rattle.mesh_values.specs.declared.values.Cell.{Cell};
 ghost use Rattle.mesh_values.specs.declared.values.ColType.{ColType};
 ghost use Rattle.mesh_base.specs.declared.definitions.Own.{Own};
-ghost use Rattle.mesh_canon.specs.Fits.{are_texts, cell_fits, is_own};
+ghost use Rattle.mesh_canon_reading.specs.Fits.{are_texts, cell_fits, is_own};
 ghost use Rattle.mesh_canon_text.specs.Text.{cell_text, list_text, own_text, own_text_old, type_word};
 
 /// Two definitions of one text are equal, and so are two lists of texts, two cells and two types.

@@ -3,18 +3,18 @@ ghost use Rattle.std.specs.Prelude.{◌≡◌, true, IfOk};
 ghost use Rattle.mesh_values.specs.declared.values.Cell.{Cell};
 ghost use Rattle.mesh_values.specs.declared.values.ColType.{ColType};
 ghost use Rattle.mesh_canon_text.specs.Text.{cell_text, type_word};
-ghost use Rattle.mesh_canon.specs.Fits.{cell_fits};
+ghost use Rattle.mesh_canon_reading.specs.Fits.{cell_fits};
 ghost use Rattle.mesh_canon_words.specs.Words.{Gives};
-ghost use Rattle.mesh_canon.specs.Reading.{cell_in, type_in};
+ghost use Rattle.mesh_canon_reading.specs.Reading.{cell_in, type_in};
 
-use crate::read::Readable;
 use crate::same::is_same;
+use mesh_canon_reading::Readable;
 use mesh_canon_text::cell_text;
 use mesh_canon_words::{CanonFault, column_type};
 use mesh_values::{Cell, ColType};
 use std::alloc::Global;
 
-#[tactic(auto, unfolding(crate::specs::Reading::cell_in))]
+#[tactic(auto, unfolding(mesh_canon_reading::specs::Reading::cell_in))]
 fn whole_cell(alloc: Global, bytes: &[u8]) -> Result<Cell, CanonFault>
     ensures { Gives (λ cell. cell) result (cell_in bytes.now) }
 {
@@ -41,7 +41,7 @@ pub fn read_cell(alloc: Global, text: &[u8]) -> Result<Cell, CanonFault>
     }
 }
 
-#[tactic(auto, unfolding(crate::specs::Reading::type_in))]
+#[tactic(auto, unfolding(mesh_canon_reading::specs::Reading::type_in))]
 fn whole_type(bytes: &[u8]) -> Option<ColType>
     ensures { result ≡ type_in bytes.now }
 {

@@ -7,6 +7,8 @@ use mesh_list::Seq;
 use mesh_values::Str;
 use std::alloc::Global;
 
+const MOST_DAY: u64 = 0x7fff_ffff;
+
 /// What stands behind a word.
 pub fn after<'a>(bytes: &'a [u8], word: &[u8]) -> Option<&'a [u8]>
     ensures { MatchOption result (after word.now bytes.now ≡ None) (λ rest. after word.now bytes.now ≡ Some rest.now) }
@@ -95,6 +97,14 @@ fn opposite(number: u64) -> i64
     ensures { result ≡ negsuc (number - 1) }
 {
     -1 - (number - 1) as i64
+}
+
+/// A day, or another number of 32 bits with a sign.
+pub fn day(bytes: &[u8]) -> Result<(i32, &[u8]), CanonFault>
+    ensures { Gives (λ x. (x.0, x.1.now)) result (signed_at (2 ^ 31 - 1) bytes.now) }
+{
+    let (number, rest) = signed(bytes, MOST_DAY)?;
+    Ok((number as i32, rest))
 }
 
 /// A text with its length.

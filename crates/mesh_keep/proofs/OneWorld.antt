@@ -11,8 +11,8 @@ use Rattle.mesh_moves.proofs.Sorting.{one_list}
 use Rattle.mesh_house.specs.declared.world.World.{World}
 use Rattle.mesh_house.specs.Objects.{object_name}
 use Rattle.mesh_house.specs.World.{view_name}
-use Rattle.mesh_canon.specs.Fits.{text_fits}
-use Rattle.mesh_canon.proofs.Exact.{some_is}
+use Rattle.mesh_canon_reading.specs.Fits.{text_fits}
+use Rattle.mesh_canon_reading.proofs.Exact.{some_is}
 use Rattle.mesh_record_text.specs.declared.book_records.BookHead.{BookHead}
 use Rattle.mesh_record_text.specs.Keys.{env_key, head_key, snapshot_key, thing_key}
 use Rattle.mesh_record_text.proofs.Things.{env_tells, head_tells, object_tells, snapshot_tells, source_tells, version_tells, view_tells}

@@ -18,7 +18,7 @@ use Rattle.mesh_house.specs.declared.world.ViewOf.{ViewOf}
 use Rattle.mesh_house.specs.declared.world.World.{World}
 use Rattle.mesh_house.specs.Objects.{object_name}
 use Rattle.mesh_house.specs.World.{view_name}
-use Rattle.mesh_canon.specs.Fits.{text_fits}
+use Rattle.mesh_canon_reading.specs.Fits.{text_fits}
 use Rattle.mesh_record_text.specs.declared.book_records.BookHead.{BookHead}
 use Rattle.mesh_record_text.specs.Keys.{env_key, head_key, snapshot_key, thing_key}
 use Rattle.mesh_record_text.specs.Records.{IsObjectText, IsSnapshotText, env_fits, env_text, head_fits, head_text, object_fits, snapshot_fits, source_fits, source_text, version_fits, version_text, view_text}

@@ -4,9 +4,9 @@ use Rattle.std.specs.Prelude.{ℤ}
 use Rattle.std.specs.Fmt.{decimal, signed_decimal}
 use Rattle.std.proofs.lemmas.Bool.{ltb-true}
 use Rattle.std.proofs.lemmas.List.{append-nil}
-use Rattle.mesh_canon.specs.Fits.{signed_fits}
-use Rattle.mesh_canon.specs.Reading.{whole}
-use Rattle.mesh_canon.proofs.Numbers.{number_again, signed_again}
+use Rattle.mesh_canon_reading.specs.Fits.{signed_fits}
+use Rattle.mesh_canon_reading.specs.Reading.{whole}
+use Rattle.mesh_canon_reading.proofs.Numbers.{number_again, signed_again}
 use Rattle.mesh_canon_words.specs.Words.{number_at, signed_at}
 use Rattle.mesh_record_text.specs.Parts.{is_count, number_in, signed_in}
 

@@ -8,8 +8,9 @@ use Rattle.mesh_values.specs.declared.values.Pair.{Pair}
 use Rattle.mesh_base.specs.declared.definitions.Own.{Own}
 use Rattle.mesh_house.specs.declared.objects.Body.{Body}
 use Rattle.mesh_house.specs.declared.objects.Body.TheVariants.{Rows, Stored}
-use Rattle.mesh_canon.specs.Fits.{is_own}
-use Rattle.mesh_record_text.specs.Records.{AreBodyParts, AreRowParts, AreStoredParts, IsOwnText, all_fit, body_fits, each_text, pair_fits, pair_list, rows_fit, rows_list}
+use Rattle.mesh_canon_reading.specs.Fits.{is_own}
+use Rattle.mesh_canon.specs.Forms.{IsOwnText}
+use Rattle.mesh_record_text.specs.Records.{AreBodyParts, AreRowParts, AreStoredParts, all_fit, body_fits, each_text, pair_fits, pair_list, rows_fit, rows_list}
 use Rattle.mesh_record_text.proofs.Words.{cons_is}
 
 pub rows_are : (parts : List (List ℕ)) (b : Body) → body_fits b ≡ true → AreRowParts parts b → (rows : List (List Cell)) × (b ≡ Rows rows) × (all_fit (rows_fit rows ∷ []) ≡ true) × (parts ≡ rows_list rows ∷ [])

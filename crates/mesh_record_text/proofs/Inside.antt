@@ -4,8 +4,8 @@ use Rattle.std.specs.Fmt.{decimal}
 use Rattle.std.proofs.lemmas.Bool.{and_from, lt-ltb}
 use Rattle.std.proofs.lemmas.List.{length-append}
 use Rattle.mesh_canon_text.specs.Text.{list_text, spaced, text_of}
-use Rattle.mesh_canon.specs.Fits.{are_texts, text_fits}
-use Rattle.mesh_canon.proofs.Lists.{list_long, spaced_one}
+use Rattle.mesh_canon_reading.specs.Fits.{are_texts, text_fits}
+use Rattle.mesh_canon_reading.proofs.Lists.{list_long, spaced_one}
 
 text_long : (t : List ℕ) → length t ≤ length (text_of t)
 unfolding text_of

@@ -4,7 +4,6 @@ pub mod Each
 pub mod Again
 pub mod Digits
 pub mod Seconds
-pub mod Either
 pub mod Heads
 pub mod Tells
 pub mod Things

@@ -15,14 +15,15 @@ use Rattle.mesh_base.specs.declared.definitions.Own.{Own}
 use Rattle.mesh_base.specs.declared.snapshots.Ref.{Ref}
 use Rattle.mesh_canon_text.specs.declared.form.Form.TheVariants.{Current, Former}
 use Rattle.mesh_canon_text.specs.Text.{cell_text, list_text, own_text, own_text_old, type_word}
-use Rattle.mesh_canon.specs.Fits.{are_texts, cell_fits, column_fits, is_own, text_fits}
-use Rattle.mesh_canon.specs.Reading.{cell_in, list_in, own_in, type_in}
-use Rattle.mesh_canon.proofs.Definitions.{list_is_read, own_is_read}
-use Rattle.mesh_canon.proofs.Exact.{one_value}
-use Rattle.mesh_canon.proofs.Forms.{forms_agree}
-use Rattle.mesh_canon.proofs.Lone.{cell_is_read, type_is_read}
+use Rattle.mesh_canon_reading.specs.Fits.{are_texts, cell_fits, column_fits, is_own, text_fits}
+use Rattle.mesh_canon_reading.specs.Reading.{cell_in, list_in, own_in, type_in}
+use Rattle.mesh_canon_reading.proofs.Definitions.{list_is_read, own_is_read}
+use Rattle.mesh_canon_reading.proofs.Exact.{one_value}
+use Rattle.mesh_canon_reading.proofs.Forms.{forms_agree}
+use Rattle.mesh_canon_reading.proofs.Lone.{cell_is_read, type_is_read}
 use Rattle.mesh_record_text.specs.Parts.{bool_word, digits_in, is_count, is_digest, number_in, option_fits, option_parts, signed_in}
-use Rattle.mesh_record_text.specs.Records.{IsOwnText, all_fit, bounds_fits, bounds_list, column_list, each_text, moment_fits, name_list, option_list, pair_fits, pair_list, ref_fits, ref_list, rows_fit, rows_list}
+use Rattle.mesh_canon.specs.Forms.{IsOwnText}
+use Rattle.mesh_record_text.specs.Records.{all_fit, bounds_fits, bounds_list, column_list, each_text, moment_fits, name_list, option_list, pair_fits, pair_list, ref_fits, ref_list, rows_fit, rows_list}
 use Rattle.mesh_record_text.proofs.Digits.{digits_are_read}
 use Rattle.mesh_record_text.proofs.Inside.{parts_fit}
 use Rattle.mesh_record_text.proofs.Again.{number_is_read, signed_is_read}

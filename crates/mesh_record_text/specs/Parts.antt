@@ -3,7 +3,7 @@ use Rattle.std.specs.Prelude.{ℕ, ℤ, ◌-◌, ◌^◌, ◌==◌, ◌&&◌, na
 use Rattle.std.specs.declared.option.Option.{Option}
 use Rattle.std.specs.List.{list_all}
 use Rattle.hex.specs.Hex.{decode_sized}
-use Rattle.mesh_canon.specs.Reading.{whole}
+use Rattle.mesh_canon_reading.specs.Reading.{whole}
 use Rattle.mesh_canon_words.specs.Words.{number_at, signed_at}
 
 -- no part, or that of the value

@@ -10,7 +10,6 @@ use Rattle.mesh_values.specs.declared.values.Column.{Column}
 use Rattle.mesh_values.specs.declared.values.Name.{Name}
 use Rattle.mesh_values.specs.declared.values.Pair.{Pair}
 use Rattle.mesh_values.specs.declared.times.Bounds.{Bounds}
-use Rattle.mesh_values.specs.Kinds.{lookback_of}
 use Rattle.mesh_time.specs.Ranges.{is_apart}
 use Rattle.mesh_base.specs.declared.definitions.Own.{Own}
 use Rattle.mesh_base.specs.declared.jobs.Input.{Input}
@@ -22,9 +21,9 @@ use Rattle.mesh_house.specs.declared.objects.Body.{Body}
 use Rattle.mesh_house.specs.declared.objects.Body.TheVariants.{Rows, Stored}
 use Rattle.mesh_house.specs.declared.objects.Object.{Object}
 use Rattle.mesh_house.specs.declared.world.ViewOf.{ViewOf}
-use Rattle.mesh_canon_text.specs.declared.form.Form.{Form}
-use Rattle.mesh_canon_text.specs.Text.{cell_text, list_text, own_by, own_text, type_word}
-use Rattle.mesh_canon.specs.Fits.{Said, cell_fits, column_fits, is_own, name_fits, signed_fits}
+use Rattle.mesh_canon_text.specs.Text.{cell_text, list_text, own_text, type_word}
+use Rattle.mesh_canon_reading.specs.Fits.{cell_fits, column_fits, is_own, name_fits, signed_fits}
+use Rattle.mesh_canon.specs.Forms.{IsOwnText}
 use Rattle.mesh_record_text.specs.declared.book_records.BookHead.{BookHead}
 use Rattle.mesh_record_text.specs.Parts.{bool_word, is_count, is_digest, option_fits, option_parts}
 
@@ -93,10 +92,6 @@ rows_fit rows = list_all (list_all cell_fits) rows
 -- spans that a program can hold as ranges
 abbrev pub ranges_fit : List Bounds → Bool
 ranges_fit spans = is_apart spans && list_all bounds_fits spans
-
--- the text of a definition: its canonical one, or its former one where it has no lookback
-abbrev pub IsOwnText : List ℕ → Own → Type 0
-IsOwnText text m = (form : Form) × Said form (lookback_of m.kind) × (text ≡ own_by form m)
 
 -- the moment and the version
 abbrev pub newer_parts : BookHead → List (List ℕ)

@@ -3,18 +3,16 @@ ghost use Rattle.std.specs.Prelude.{◌≡◌, ◌==◌, true, false, IfOk, Some
 ghost use Rattle.mesh_base.specs.declared.snapshots.Env.{Env};
 ghost use Rattle.mesh_base.specs.declared.snapshots.Snapshot.{Snapshot};
 ghost use Rattle.mesh_book.specs.declared.versions.Version.{Version};
-ghost use Rattle.mesh_canon_text.specs.Text.{own_text};
 ghost use Rattle.mesh_canon_words.specs.Words.{Gives};
 ghost use Rattle.mesh_record_text.specs.declared.book_records.BookHead.{BookHead};
-ghost use Rattle.mesh_record_text.specs.Records.{IsSnapshotText, env_fits, env_text, head_fits, head_parts, head_text, newer_parts, snapshot_fits, snapshot_text, version_fits, version_text};
+ghost use Rattle.mesh_record_text.specs.Records.{IsSnapshotText, env_fits, env_text, head_fits, head_parts, head_text, newer_parts, snapshot_fits, version_fits, version_text};
 
-use crate::definitions::read_definition;
-use crate::part::{Listed, Part, add, add_both, read_as_list, write_as_list};
+use crate::part::{Listed, Part, add, add_both, read_as_list};
 use mesh_base::{Env, Marks, Refs, Snapshot};
 use mesh_book::{OLD_VERSION, Version};
-use mesh_canon::{list_text, own_text};
+use mesh_canon::read_definition;
 use mesh_canon_words::CanonFault;
-use mesh_list::{Memory, Seq};
+use mesh_list::Memory;
 use mesh_time::Ranges;
 use mesh_values::{Name, Str, Strs};
 use std::alloc::Global;
@@ -73,32 +71,12 @@ fn newer_head(alloc: Global, texts: &[Str]) -> Result<BookHead, CanonFault>
     Ok(BookHead { version, moment })
 }
 
-/// The body of the record of what a book has besides its lists.
-pub fn head_body(alloc: Global, head: &BookHead) -> Result<Str, Memory>
-    ensures { IfOk result (λ text. text ≡ head_text head.now) }
-{
-    write_as_list(alloc, head)
-}
-
 /// What a book has besides its lists, by the body of its record.
 pub fn read_head(alloc: Global, text: &[u8]) -> Result<BookHead, CanonFault>
     ensures found { IfOk result (λ h. text.now ≡ head_text h) }
     ensures only { (h : BookHead) → head_fits h ≡ true → text.now ≡ head_text h → Gives (λ x. x) result (Some h) }
 {
     read_as_list(alloc, text)
-}
-
-/// The body of a snapshot's record, with the canonical text of its definition.
-pub fn snapshot_body(alloc: Global, snapshot: &Snapshot) -> Result<Str, Memory>
-    ensures { IfOk result (λ text. text ≡ snapshot_text (own_text snapshot.now.own) snapshot.now) }
-{
-    let own = own_text(alloc, &snapshot.own)?;
-    let mut parts = Seq::new(alloc);
-    add_both(&mut parts, &snapshot.name, &snapshot.fingerprint)?;
-    add_both(&mut parts, &own, &snapshot.parents)?;
-    add_both(&mut parts, &snapshot.rank, &snapshot.object)?;
-    add(&mut parts, &snapshot.expires)?;
-    list_text(alloc, &parts)
 }
 
 /// The snapshot that has this body.
@@ -120,16 +98,6 @@ pub fn read_snapshot(alloc: Global, text: &[u8]) -> Result<Snapshot, CanonFault>
     })
 }
 
-/// The body of a version's record.
-pub fn version_body(alloc: Global, version: &Version) -> Result<Str, Memory>
-    ensures { IfOk result (λ text. text ≡ version_text version.now) }
-{
-    let mut parts = Seq::new(alloc);
-    add_both(&mut parts, &version.object, &version.made)?;
-    add_both(&mut parts, &version.ranges, &version.marks)?;
-    list_text(alloc, &parts)
-}
-
 /// The version that has this body.
 pub fn read_version(alloc: Global, text: &[u8]) -> Result<Version, CanonFault>
     ensures found { IfOk result (λ v. text.now ≡ version_text v) }
@@ -142,17 +110,6 @@ pub fn read_version(alloc: Global, text: &[u8]) -> Result<Version, CanonFault>
         ranges,
         marks,
     })
-}
-
-/// The body of an environment's record.
-pub fn env_body(alloc: Global, env: &Env) -> Result<Str, Memory>
-    ensures { IfOk result (λ text. text ≡ env_text env.now) }
-{
-    let mut parts = Seq::new(alloc);
-    add_both(&mut parts, &env.name, &env.pending)?;
-    add_both(&mut parts, &env.list, &env.previous)?;
-    add(&mut parts, &env.expires)?;
-    list_text(alloc, &parts)
 }
 
 /// The environment that has this body.

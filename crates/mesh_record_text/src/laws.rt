@@ -6,7 +6,7 @@ ghost use Rattle.mesh_base.specs.declared.snapshots.Snapshot.{Snapshot};
 ghost use Rattle.mesh_book.specs.declared.versions.Version.{Version};
 ghost use Rattle.mesh_house.specs.declared.objects.Object.{Object};
 ghost use Rattle.mesh_house.specs.declared.world.ViewOf.{ViewOf};
-ghost use Rattle.mesh_canon.specs.Fits.{text_fits};
+ghost use Rattle.mesh_canon_reading.specs.Fits.{text_fits};
 ghost use Rattle.mesh_record_text.specs.declared.book_records.BookHead.{BookHead};
 ghost use Rattle.mesh_record_text.specs.Records.{IsObjectText, IsSnapshotText, env_fits, env_text, head_fits, head_text, object_fits, snapshot_fits, source_fits, source_text, version_fits, version_text, view_text};
 

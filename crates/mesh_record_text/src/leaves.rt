@@ -3,7 +3,7 @@ ghost use Rattle.std.specs.Prelude.{true};
 ghost use Rattle.std.specs.Fmt.{decimal, signed_decimal};
 ghost use Rattle.hex.specs.Hex.{encode_lower};
 ghost use Rattle.mesh_canon_text.specs.Text.{cell_text, type_word};
-ghost use Rattle.mesh_canon.specs.Fits.{cell_fits};
+ghost use Rattle.mesh_canon_reading.specs.Fits.{cell_fits};
 ghost use Rattle.mesh_record_text.specs.Parts.{bool_word, is_count, is_digest};
 ghost use Rattle.mesh_record_text.specs.Records.{moment_fits};
 

@@ -2,7 +2,7 @@
 ghost use Rattle.std.specs.Prelude.{◌≡◌, ◌↔◌, ◌-◌, ◌^◌, IsTrue, true, ℕ, ℤ, List, IfOk, Some};
 ghost use Rattle.std.specs.Fmt.{decimal, signed_decimal};
 ghost use Rattle.hex.specs.Hex.{encode_lower};
-ghost use Rattle.mesh_canon.specs.Fits.{signed_fits};
+ghost use Rattle.mesh_canon_reading.specs.Fits.{signed_fits};
 ghost use Rattle.mesh_canon_words.specs.Words.{Gives};
 ghost use Rattle.mesh_record_text.specs.Parts.{digits_in, is_count, is_digest, number_in, signed_in};
 
@@ -25,7 +25,7 @@ pub(crate) fn is_same(left: &[u8], right: &[u8]) -> bool
 }
 
 /// These bytes as a text.
-pub(crate) fn bytes_text(alloc: Global, bytes: &[u8]) -> Result<Str, Memory>
+pub fn bytes_text(alloc: Global, bytes: &[u8]) -> Result<Str, Memory>
     ensures { IfOk result (λ made. made ≡ bytes.now) }
 {
     match Vec::from_slice(alloc, bytes) {

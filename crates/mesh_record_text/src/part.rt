@@ -10,7 +10,7 @@ use mesh_values::{Str, Strs};
 use std::alloc::Global;
 
 /// A value that has a text as one part of a list. What fits is a value that a program can hold.
-pub(crate) trait Part: Drop {
+pub trait Part: Drop {
     ghost text: { Self → List ℕ };
 
     ghost fits: { Self → Bool };
@@ -26,7 +26,7 @@ pub(crate) trait Part: Drop {
 }
 
 /// A value that has parts.
-pub(crate) trait Listed: Drop {
+pub trait Listed: Drop {
     ghost parts: { Self → List (List ℕ) };
 
     ghost fit: { Self → Bool };
@@ -67,7 +67,7 @@ pub(crate) fn read_as_list<L: Listed>(alloc: Global, bytes: &[u8]) -> Result<L, 
 }
 
 /// The list of a value's parts.
-pub(crate) fn write_as_list<L: Listed>(alloc: Global, value: &L) -> Result<Str, Memory>
+pub fn write_as_list<L: Listed>(alloc: Global, value: &L) -> Result<Str, Memory>
     ensures { IfOk result (λ made. made ≡ list_text (L.parts value.now)) }
 {
     let mut parts = Seq::new(alloc);
@@ -76,7 +76,7 @@ pub(crate) fn write_as_list<L: Listed>(alloc: Global, value: &L) -> Result<Str, 
 }
 
 /// Puts the text of a value behind other parts.
-pub(crate) fn add<A: Part>(out: &mut Strs, value: &A) -> Result<(), Memory>
+pub fn add<A: Part>(out: &mut Strs, value: &A) -> Result<(), Memory>
     ensures { OnOk result (out.new ≡ out.old ++ A.text value.now ∷ []) }
 {
     let made = value.write(out.alloc())?;
@@ -84,7 +84,7 @@ pub(crate) fn add<A: Part>(out: &mut Strs, value: &A) -> Result<(), Memory>
 }
 
 /// Puts the texts of two values behind other parts.
-pub(crate) fn add_both<A: Part, B: Part>(out: &mut Strs, a: &A, b: &B) -> Result<(), Memory>
+pub fn add_both<A: Part, B: Part>(out: &mut Strs, a: &A, b: &B) -> Result<(), Memory>
     ensures { OnOk result (out.new ≡ out.old ++ A.text a.now ∷ B.text b.now ∷ []) }
 {
     add(out, a)?;

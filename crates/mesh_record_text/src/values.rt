@@ -1,6 +1,6 @@
 // Names, columns, pairs, spans and references, whose parts are their fields.
 ghost use Rattle.std.specs.Prelude.{true};
-ghost use Rattle.mesh_canon.specs.Fits.{column_fits};
+ghost use Rattle.mesh_canon_reading.specs.Fits.{column_fits};
 ghost use Rattle.mesh_record_text.specs.Records.{bounds_fits, bounds_list, bounds_parts, column_list, column_parts, name_list, name_parts, pair_fits, pair_list, pair_parts, ref_fits, ref_list, ref_parts};
 
 use crate::part::{Listed, Part, add_both, read_as_list, write_as_list};

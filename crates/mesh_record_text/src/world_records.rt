@@ -4,18 +4,15 @@ ghost use Rattle.mesh_base.specs.declared.jobs.Input.{Input};
 ghost use Rattle.mesh_house.specs.declared.objects.Body.{Body};
 ghost use Rattle.mesh_house.specs.declared.objects.Object.{Object};
 ghost use Rattle.mesh_house.specs.declared.world.ViewOf.{ViewOf};
-ghost use Rattle.mesh_canon_text.specs.Text.{list_text};
 ghost use Rattle.mesh_canon_words.specs.Words.{Gives};
-ghost use Rattle.mesh_record_text.specs.Records.{AreBodyParts, AreRowParts, AreStoredParts, IsBodyText, IsObjectText, body_fits, body_parts, object_fits, object_text, source_fits, source_text, stored_text, view_text};
+ghost use Rattle.mesh_record_text.specs.Records.{AreBodyParts, AreRowParts, AreStoredParts, IsBodyText, IsObjectText, body_fits, object_fits, source_fits, source_text, view_text};
 
-use crate::definitions::read_definition;
-use crate::numbers::{bytes_text, is_same};
-use crate::part::{Listed, add, add_both, parts_of, read_as_list};
+use crate::numbers::is_same;
+use crate::part::{Listed, parts_of, read_as_list};
 use mesh_base::Input;
-use mesh_canon::{list_text, own_text};
+use mesh_canon::read_definition;
 use mesh_canon_words::CanonFault;
 use mesh_house::{Body, Object, ViewOf};
-use mesh_list::{Memory, Seq};
 use mesh_values::{Columns, Name, Pairs, Rows, Str};
 use std::alloc::Global;
 
@@ -26,15 +23,6 @@ type ObjectFields = (Name, (Columns, (Str, ())));
 
 type SourceFields = (Name, (Columns, (Rows, ())));
 
-/// The body of a view's record.
-pub fn view_body(alloc: Global, view: &ViewOf) -> Result<Str, Memory>
-    ensures { IfOk result (λ text. text ≡ view_text view.now) }
-{
-    let mut parts = Seq::new(alloc);
-    add_both(&mut parts, &view.view, &view.target)?;
-    list_text(alloc, &parts)
-}
-
 /// The view that has this body.
 pub fn read_view(alloc: Global, text: &[u8]) -> Result<ViewOf, CanonFault>
     ensures found { IfOk result (λ v. text.now ≡ view_text v) }
@@ -42,26 +30,6 @@ pub fn read_view(alloc: Global, text: &[u8]) -> Result<ViewOf, CanonFault>
 {
     let (view, (target, ())) = read_as_list::<ViewFields>(alloc, text)?;
     Ok(ViewOf { view, target })
-}
-
-// What an object keeps.
-fn kept_text(alloc: Global, body: &Body) -> Result<Str, Memory>
-    ensures { IfOk result (λ text. text ≡ list_text (body_parts (stored_text body.now) body.now)) }
-{
-    let mut parts = Seq::new(alloc);
-    match body {
-        Body::Rows(rows) => {
-            let word = bytes_text(alloc, b"rows")?;
-            add_both(&mut parts, &word, rows)?;
-        }
-        Body::Stored { own, targets } => {
-            let word = bytes_text(alloc, b"stored")?;
-            let own = own_text(alloc, own)?;
-            add_both(&mut parts, &word, &own)?;
-            add(&mut parts, targets)?;
-        }
-    }
-    list_text(alloc, &parts)
 }
 
 // Rows, by the parts behind their word.
@@ -117,17 +85,6 @@ fn read_kept(alloc: Global, text: &[u8]) -> Result<Body, CanonFault>
     take_body(alloc, parts.as_slice())
 }
 
-/// The body of an object's record, with the canonical text of its definition where it stores one.
-pub fn object_body(alloc: Global, object: &Object) -> Result<Str, Memory>
-    ensures { IfOk result (λ text. text ≡ object_text (stored_text object.now.body) object.now) }
-{
-    let kept = kept_text(alloc, &object.body)?;
-    let mut parts = Seq::new(alloc);
-    add_both(&mut parts, &object.name, &object.columns)?;
-    add(&mut parts, &kept)?;
-    list_text(alloc, &parts)
-}
-
 /// The object that has this body.
 pub fn read_object(alloc: Global, text: &[u8]) -> Result<Object, CanonFault>
     ensures found { IfOk result (λ o. IsObjectText text.now o) }
@@ -140,16 +97,6 @@ pub fn read_object(alloc: Global, text: &[u8]) -> Result<Object, CanonFault>
         columns,
         body,
     })
-}
-
-/// The body of a source's record.
-pub fn source_body(alloc: Global, source: &Input) -> Result<Str, Memory>
-    ensures { IfOk result (λ text. text ≡ source_text source.now) }
-{
-    let mut parts = Seq::new(alloc);
-    add_both(&mut parts, &source.name, &source.columns)?;
-    add(&mut parts, &source.rows)?;
-    list_text(alloc, &parts)
 }
 
 /// The source that has this body.

@@ -4,10 +4,10 @@ use mesh_book::Book;
 use mesh_house::World;
 use mesh_keep::{Write, Writes};
 use mesh_list::{Duplicate, Memory, together};
-use mesh_record_text::{
-    BookHead, env_body, env_key, head_body, head_key, object_body, snapshot_body, snapshot_key,
-    source_body, thing_key, version_body, view_body,
+use mesh_record_bodies::{
+    env_body, head_body, object_body, snapshot_body, source_body, version_body, view_body,
 };
+use mesh_record_text::{BookHead, env_key, head_key, snapshot_key, thing_key};
 use mesh_values::{Name, Str};
 use std::alloc::Global;
 

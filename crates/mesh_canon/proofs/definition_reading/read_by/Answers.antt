@@ -1,10 +1,10 @@
 use Rattle.std.proofs.Common.{sym, ap, ◌∙◌}
 use Rattle.std.proofs.lemmas.Result.{err_from_is_err_and}
 use Rattle.mesh_canon_text.specs.Text.{own_by}
-use Rattle.mesh_canon.specs.Reading.{own_in}
-use Rattle.mesh_canon.proofs.Definitions.{own_is_read}
-use Rattle.mesh_canon.proofs.Exact.{differs, refused}
-use Rattle.mesh_canon.proofs.Forms.{own_said}
+use Rattle.mesh_canon_reading.specs.Reading.{own_in}
+use Rattle.mesh_canon_reading.proofs.Definitions.{own_is_read}
+use Rattle.mesh_canon_reading.proofs.Exact.{differs, refused}
+use Rattle.mesh_canon_reading.proofs.Forms.{own_said}
 use Rattle.mesh_canon.proofs.definition_reading.read_by.Goals as goal
 
 pub returns-in_err-made-clause-only : goal.returns-in_err-made-clause-only

@@ -1,9 +1,9 @@
 use Rattle.std.proofs.Common.{sym, ap, ◌∙◌}
 use Rattle.std.proofs.lemmas.Result.{err_from_is_err_and}
 use Rattle.mesh_canon_text.specs.Text.{list_text}
-use Rattle.mesh_canon.specs.Reading.{list_in}
-use Rattle.mesh_canon.proofs.Definitions.{list_is_read}
-use Rattle.mesh_canon.proofs.Exact.{differs, refused}
+use Rattle.mesh_canon_reading.specs.Reading.{list_in}
+use Rattle.mesh_canon_reading.proofs.Definitions.{list_is_read}
+use Rattle.mesh_canon_reading.proofs.Exact.{differs, refused}
 use Rattle.mesh_canon.proofs.definition_reading.read_list.Goals as goal
 
 pub returns-in_err-made-clause-only : goal.returns-in_err-made-clause-only

@@ -1,10 +1,10 @@
 use Rattle.mesh_canon_text.specs.Text.{cell_text, list_text, own_text, own_text_old, type_word}
 use Rattle.mesh_canon_text.specs.declared.form.Form.TheVariants.{Current, Former}
-use Rattle.mesh_canon.specs.Reading.{cell_in, list_in, own_in, type_in}
-use Rattle.mesh_canon.proofs.Definitions.{list_is_read, own_is_read}
-use Rattle.mesh_canon.proofs.Exact.{one_value}
-use Rattle.mesh_canon.proofs.Forms.{forms_agree}
-use Rattle.mesh_canon.proofs.Lone.{cell_is_read, type_is_read}
+use Rattle.mesh_canon_reading.specs.Reading.{cell_in, list_in, own_in, type_in}
+use Rattle.mesh_canon_reading.proofs.Definitions.{list_is_read, own_is_read}
+use Rattle.mesh_canon_reading.proofs.Exact.{one_value}
+use Rattle.mesh_canon_reading.proofs.Forms.{forms_agree}
+use Rattle.mesh_canon_reading.proofs.Lone.{cell_is_read, type_is_read}
 use Rattle.mesh_canon.proofs.laws.one_text_one_value.Goals as goal
 
 pub returns-clause-definitions : goal.returns-clause-definitions

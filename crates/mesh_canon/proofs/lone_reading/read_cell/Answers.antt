@@ -1,9 +1,9 @@
 use Rattle.std.proofs.Common.{sym, ap, ◌∙◌}
 use Rattle.std.proofs.lemmas.Result.{err_from_is_err_and}
 use Rattle.mesh_canon_text.specs.Text.{cell_text}
-use Rattle.mesh_canon.specs.Reading.{cell_in}
-use Rattle.mesh_canon.proofs.Lone.{cell_is_read}
-use Rattle.mesh_canon.proofs.Exact.{differs, refused}
+use Rattle.mesh_canon_reading.specs.Reading.{cell_in}
+use Rattle.mesh_canon_reading.proofs.Lone.{cell_is_read}
+use Rattle.mesh_canon_reading.proofs.Exact.{differs, refused}
 use Rattle.mesh_canon.proofs.lone_reading.read_cell.Goals as goal
 
 pub returns-in_err-made-clause-only : goal.returns-in_err-made-clause-only

@@ -1,7 +1,7 @@
 use Rattle.std.proofs.Common.{Ok, sym, ap, ◌∙◌}
-use Rattle.mesh_canon.specs.Reading.{type_in}
-use Rattle.mesh_canon.proofs.Exact.{none_is_not, some_is}
-use Rattle.mesh_canon.proofs.Lone.{type_has_text, type_is_read}
+use Rattle.mesh_canon_reading.specs.Reading.{type_in}
+use Rattle.mesh_canon_reading.proofs.Exact.{none_is_not, some_is}
+use Rattle.mesh_canon_reading.proofs.Lone.{type_has_text, type_is_read}
 use Rattle.mesh_canon.proofs.lone_reading.read_type.Goals as goal
 
 pub returns-in-Some-clause-found : goal.returns-in-Some-clause-found

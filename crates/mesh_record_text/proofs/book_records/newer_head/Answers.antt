@@ -2,7 +2,7 @@ use Rattle.std.proofs.Common.{ℕ, ap, ◌∙◌, arith}
 use Rattle.std.specs.Prelude.{ℤ}
 use Rattle.std.proofs.lemmas.Result.{err_from_is_err_and}
 use Rattle.std.proofs.lemmas.Int.{to_z-of_z}
-use Rattle.mesh_canon.proofs.Exact.{some_is}
+use Rattle.mesh_canon_reading.proofs.Exact.{some_is}
 use Rattle.mesh_record_text.specs.declared.book_records.BookHead.{BookHead}
 use Rattle.mesh_record_text.proofs.Heads.{not_one}
 use Rattle.mesh_record_text.proofs.Refused.{mapped, still_refused}

@@ -7,8 +7,9 @@ use Rattle.mesh_values.specs.declared.values.Name.{Name}
 use Rattle.mesh_base.specs.declared.definitions.Own.{Own}
 use Rattle.mesh_base.specs.declared.snapshots.Ref.{Ref}
 use Rattle.mesh_base.specs.declared.snapshots.Snapshot.{Snapshot}
-use Rattle.mesh_canon.proofs.Exact.{some_is}
-use Rattle.mesh_record_text.specs.Records.{IsOwnText, snapshot_text}
+use Rattle.mesh_canon_reading.proofs.Exact.{some_is}
+use Rattle.mesh_canon.specs.Forms.{IsOwnText}
+use Rattle.mesh_record_text.specs.Records.{snapshot_text}
 use Rattle.mesh_record_text.proofs.Refused.{still_refused}
 use Rattle.mesh_record_text.proofs.book_records.read_snapshot.Goals as goal
 

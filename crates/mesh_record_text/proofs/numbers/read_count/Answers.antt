@@ -1,7 +1,7 @@
 use Rattle.std.proofs.Common.{sym, ap, ◌∙◌}
 use Rattle.std.specs.Fmt.{decimal}
 use Rattle.std.proofs.lemmas.Result.{err_from_is_err_and}
-use Rattle.mesh_canon.proofs.Exact.{differs, refused}
+use Rattle.mesh_canon_reading.proofs.Exact.{differs, refused}
 use Rattle.mesh_record_text.specs.Parts.{number_in}
 use Rattle.mesh_record_text.proofs.Again.{number_is_read}
 use Rattle.mesh_record_text.proofs.numbers.read_count.Goals as goal

@@ -1,7 +1,7 @@
 use Rattle.std.proofs.Common.{sym, ap, ◌∙◌}
 use Rattle.hex.specs.Hex.{encode_lower}
 use Rattle.std.proofs.lemmas.Result.{err_from_is_err_and}
-use Rattle.mesh_canon.proofs.Exact.{differs, refused}
+use Rattle.mesh_canon_reading.proofs.Exact.{differs, refused}
 use Rattle.mesh_record_text.specs.Parts.{digits_in}
 use Rattle.mesh_record_text.proofs.Digits.{digits_are_read}
 use Rattle.mesh_record_text.proofs.numbers.read_digits.Goals as goal

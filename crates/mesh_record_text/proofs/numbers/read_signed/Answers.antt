@@ -2,7 +2,7 @@ use Rattle.std.proofs.Common.{◌≡◌, sym, ap, ◌∙◌, arith}
 use Rattle.std.specs.Fmt.{signed_decimal}
 use Rattle.std.proofs.lemmas.Int.{to_z-of_z}
 use Rattle.std.proofs.lemmas.Result.{err_from_is_err_and}
-use Rattle.mesh_canon.proofs.Exact.{differs, refused}
+use Rattle.mesh_canon_reading.proofs.Exact.{differs, refused}
 use Rattle.mesh_record_text.specs.Parts.{signed_in}
 use Rattle.mesh_record_text.proofs.Again.{signed_is_read}
 use Rattle.mesh_record_text.proofs.numbers.read_signed.Goals as goal

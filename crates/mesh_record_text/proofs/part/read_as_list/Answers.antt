@@ -1,6 +1,6 @@
 use Rattle.std.proofs.Common.{sym, ◌∙◌}
 use Rattle.std.proofs.lemmas.Result.{err_from_is_err_and}
-use Rattle.mesh_canon.proofs.Exact.{some_is}
+use Rattle.mesh_canon_reading.proofs.Exact.{some_is}
 use Rattle.mesh_record_text.proofs.Refused.{still_refused}
 use Rattle.mesh_record_text.proofs.part.read_as_list.Goals as goal
 

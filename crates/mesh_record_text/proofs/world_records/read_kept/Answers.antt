@@ -2,7 +2,7 @@ use Rattle.std.proofs.Common.{sym, ap, ◌∙◌}
 use Rattle.std.proofs.lemmas.Result.{err_from_is_err_and}
 use Rattle.std.proofs.lemmas.Result.{IfOk-weaker}
 use Rattle.mesh_canon_text.specs.Text.{list_text}
-use Rattle.mesh_canon.proofs.Exact.{some_is}
+use Rattle.mesh_canon_reading.proofs.Exact.{some_is}
 use Rattle.mesh_record_text.specs.Records.{body_parts}
 use Rattle.mesh_record_text.proofs.Refused.{still_refused}
 use Rattle.mesh_record_text.proofs.world_records.read_kept.Goals as goal

@@ -6,7 +6,7 @@ use Rattle.mesh_values.specs.declared.values.Name.{Name}
 use Rattle.mesh_house.specs.declared.objects.Body.{Body}
 use Rattle.mesh_house.specs.declared.objects.Object.{Object}
 use Rattle.mesh_canon_text.specs.Text.{list_text}
-use Rattle.mesh_canon.proofs.Exact.{some_is}
+use Rattle.mesh_canon_reading.proofs.Exact.{some_is}
 use Rattle.mesh_record_text.specs.Records.{body_parts, object_parts}
 use Rattle.mesh_record_text.proofs.Refused.{still_refused}
 use Rattle.mesh_record_text.proofs.world_records.read_object.Goals as goal

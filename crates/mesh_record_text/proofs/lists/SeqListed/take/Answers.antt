@@ -1,7 +1,7 @@
 use Rattle.std.proofs.Common.{◌≡◌, ◌<◌, length, get_or, Some, sym, ap, subst, ◌∙◌, arith}
 use Rattle.std.proofs.lemmas.Result.{err_from_is_err_and}
 use Rattle.std.proofs.lemmas.List.{length-map, take_all}
-use Rattle.mesh_canon.proofs.Exact.{some_is}
+use Rattle.mesh_canon_reading.proofs.Exact.{some_is}
 use Rattle.mesh_record_text.proofs.Each.{each_at, only_more, read_more}
 use Rattle.mesh_record_text.proofs.Refused.{still_refused}
 use Rattle.mesh_record_text.proofs.lists.SeqListed.take.Goals as goal

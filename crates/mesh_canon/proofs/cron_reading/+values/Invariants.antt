@@ -1,4 +1,0 @@
-use Rattle.mesh_canon.proofs.cron_reading.+values.Given as goal
-
-abbrev pub decreases-values : goal.decreases-values
-decreases-values l = l.count
