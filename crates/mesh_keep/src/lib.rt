@@ -4,6 +4,7 @@
 //! `mesh_values`, `mesh_base`, `mesh_book`, `mesh_moves`, `mesh_house`, `mesh_canon_reading` and `mesh_record_text`.
 #![tactic(auto)]
 
+mod counted;
 mod fails;
 mod keeper;
 mod kept;
@@ -11,6 +12,7 @@ mod laws;
 mod maps;
 mod writing;
 
+pub use counted::counted;
 pub use keeper::{KeepFail, Keeper};
 pub use kept::{Kept, Place, Record, Records, Write, Writes};
 pub use laws::records_hold_one_world;

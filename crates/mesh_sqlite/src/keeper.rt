@@ -4,7 +4,7 @@ ghost use Rattle.mesh_list.specs.Counts.{Rose};
 ghost use Rattle.mesh_keep.specs.declared.keeper.KeepFail.TheVariants.{Failed};
 
 use crate::table::{fail_of, find, list, make_table, put_all};
-use mesh_keep::{KeepFail, Keeper, Records, Writes};
+use mesh_keep::{KeepFail, Keeper, Records, Writes, counted};
 use mesh_kept::{KeepFault, KeptHouse};
 use mesh_list::Seq;
 use mesh_values::Str;
@@ -50,13 +50,7 @@ impl<S: Alter> SqliteKeeper<S> {
         ensures faults { self.old.faults ≤ self.new.faults }
         ensures failed { result ≡ Failed → Rose self.old.faults self.new.faults }
     {
-        match fail_of(error) {
-            KeepFail::Failed => {
-                self.faults = self.faults.saturating_add(1);
-                KeepFail::Failed
-            }
-            KeepFail::Memory => KeepFail::Memory,
-        }
+        counted(&mut self.faults, fail_of(error))
     }
 }
 
