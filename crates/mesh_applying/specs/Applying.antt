@@ -14,7 +14,7 @@ use Rattle.mesh_changes.specs.Commands.{Command, Apply, RunAll, changes}
 use Rattle.mesh_fault_text.specs.Lines.{name_text}
 use Rattle.mesh_plan_text.specs.PlanText.{plan_text}
 use Rattle.mesh_plan.specs.Plans.{promised}
-use Rattle.mesh_parts.specs.Works.{parts}
+use Rattle.mesh_works.specs.Works.{parts}
 use Rattle.mesh_exec.specs.declared.faults.ExecFault.{ExecFault}
 use Rattle.mesh_exec.specs.declared.faults.ExecFault.TheVariants as fault
 use Rattle.mesh_exec.specs.declared.sources.Lack.{Lack}

@@ -32,10 +32,10 @@ use Rattle.mesh_due.specs.Plans.{Planned}
 use Rattle.mesh_changes.specs.Changes.{ascending}
 use Rattle.mesh_wave.specs.Waves.{counts, job_rows}
 use Rattle.mesh_lineage.specs.Joinable.{is_joinable}
-use Rattle.mesh_parts.specs.Executable.{is_due_of}
-use Rattle.mesh_parts.specs.Written.{written}
-use Rattle.mesh_parts.specs.Plain.{model_of}
-use Rattle.mesh_parts.specs.Works.{seed_rows}
+use Rattle.mesh_works.specs.Executable.{is_due_of}
+use Rattle.mesh_works.specs.Written.{written}
+use Rattle.mesh_works.specs.Plain.{model_of}
+use Rattle.mesh_works.specs.Works.{seed_rows}
 use Rattle.mesh_exec.specs.Executed.{filled, part_rows}
 use Rattle.mesh_exec.specs.Fills.{each_with, fillings, first_pool, run_fillings, run_rows, span_rows, zipped}
 use Rattle.mesh_exec.specs.Jobs.{due_job, jobs_of, span_job}

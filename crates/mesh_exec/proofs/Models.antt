@@ -24,13 +24,13 @@ use Rattle.mesh_changes.specs.Changes.{followed}
 use Rattle.mesh_layer.specs.Shows.{Finds, IsUntouched, Tells}
 use Rattle.mesh_layer.specs.declared.faults.ShowFault.{ShowFault}
 use Rattle.mesh_layer.specs.declared.faults.ShowFault.TheVariants as show
-use Rattle.mesh_parts.specs.Dues.{is_any}
-use Rattle.mesh_parts.specs.Written.{written}
-use Rattle.mesh_parts.specs.Lost.{lost_part}
-use Rattle.mesh_parts.specs.Plain.{making, model_of}
-use Rattle.mesh_parts.specs.Tables.{part_tables, tables_if}
-use Rattle.mesh_parts.specs.Works.{Part, are_fit, is_fit, part_of}
-use Rattle.mesh_parts.specs.declared.works.Work.{Work}
+use Rattle.mesh_works.specs.Dues.{is_any}
+use Rattle.mesh_works.specs.Written.{written}
+use Rattle.mesh_works.specs.Lost.{lost_part}
+use Rattle.mesh_works.specs.Plain.{making, model_of}
+use Rattle.mesh_works.specs.Tables.{part_tables, tables_if}
+use Rattle.mesh_works.specs.Works.{Part, are_fit, is_fit, part_of}
+use Rattle.mesh_works.specs.declared.works.Work.{Work}
 use Rattle.mesh_exec.specs.declared.faults.ExecFault.{ExecFault}
 use Rattle.mesh_exec.specs.declared.faults.ExecFault.TheVariants as fault
 use Rattle.mesh_exec.specs.Answers.{of_house, of_show}

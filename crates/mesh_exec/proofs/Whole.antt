@@ -25,8 +25,8 @@ use Rattle.mesh_changes.specs.Changes.{forgetting, snapshot_of}
 use Rattle.mesh_layer.specs.Shows.{Finds, IsUntouched, Tells}
 use Rattle.mesh_layer.specs.declared.faults.ShowFault.{ShowFault}
 use Rattle.mesh_layer.specs.declared.faults.ShowFault.TheVariants as show
-use Rattle.mesh_parts.specs.Plain.{models, opened, puts_of}
-use Rattle.mesh_parts.specs.Works.{Part, parts}
+use Rattle.mesh_works.specs.Plain.{models, opened, puts_of}
+use Rattle.mesh_works.specs.Works.{Part, parts}
 use Rattle.mesh_exec.specs.declared.faults.ExecFault.{ExecFault}
 use Rattle.mesh_exec.specs.declared.faults.ExecFault.TheVariants as fault
 use Rattle.mesh_exec.specs.declared.sources.Lack.{Lack}

@@ -16,8 +16,8 @@ use Rattle.mesh_house.specs.Step.{run}
 use Rattle.mesh_layer.specs.Shows.{Tells}
 use Rattle.mesh_layer.specs.declared.faults.ShowFault.{ShowFault}
 use Rattle.mesh_layer.specs.declared.faults.ShowFault.TheVariants as show
-use Rattle.mesh_parts.specs.Plain.{models, opened}
-use Rattle.mesh_parts.specs.Works.{Part, parts}
+use Rattle.mesh_works.specs.Plain.{models, opened}
+use Rattle.mesh_works.specs.Works.{Part, parts}
 use Rattle.mesh_exec.specs.declared.faults.ExecFault.{ExecFault}
 use Rattle.mesh_exec.specs.declared.faults.ExecFault.TheVariants as fault
 use Rattle.mesh_exec.specs.Executed.{executed, outline}

@@ -14,9 +14,9 @@ use Rattle.mesh_house.specs.declared.world.Change.{Change}
 use Rattle.mesh_house.specs.Step.{run}
 use Rattle.mesh_due.specs.Plans.{Planned}
 use Rattle.mesh_changes.specs.Changes.{ascending, followed, tables_for}
-use Rattle.mesh_parts.specs.Plain.{making, model_of, models, opened}
-use Rattle.mesh_parts.specs.Works.{Part, parts}
-use Rattle.mesh_parts.specs.Written.{written}
+use Rattle.mesh_works.specs.Plain.{making, model_of, models, opened}
+use Rattle.mesh_works.specs.Works.{Part, parts}
+use Rattle.mesh_works.specs.Written.{written}
 
 -- the rows of a due part over the tables that its model reads: those of a unit that lie in it, or all
 abbrev pub part_rows : Planned → List Input → Due → List (List Cell)

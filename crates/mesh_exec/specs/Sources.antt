@@ -13,8 +13,8 @@ use Rattle.mesh_base.specs.declared.jobs.Input.{Input}
 use Rattle.mesh_scratch.specs.Sources.{has_shape, source_named}
 use Rattle.mesh_tokens.specs.declared.faults.FaultKind.{FaultKind}
 use Rattle.mesh_tokens.specs.declared.faults.FaultKind.TheVariants.{SourceMissing, SourceShape}
-use Rattle.mesh_parts.specs.Dues.{is_any}
-use Rattle.mesh_parts.specs.Works.{Part}
+use Rattle.mesh_works.specs.Dues.{is_any}
+use Rattle.mesh_works.specs.Works.{Part}
 use Rattle.mesh_exec.specs.declared.sources.Breach.{Breach}
 use Rattle.mesh_exec.specs.declared.sources.Lack.{Lack}
 

@@ -3,9 +3,9 @@ ghost use Rattle.std.specs.Prelude.{◌≡◌, ◌≤◌, IfOk, IsTrue, length, 
 ghost use Rattle.mesh_list.specs.Counts.{risen};
 ghost use Rattle.mesh_book.specs.WellFormed.{is_moment};
 ghost use Rattle.mesh_house.specs.Runs.{Makes};
-ghost use Rattle.mesh_parts.specs.Executable.{IsExecutable};
-ghost use Rattle.mesh_parts.specs.Plain.{opened};
-ghost use Rattle.mesh_parts.specs.Works.{are_fit, part_of, parts};
+ghost use Rattle.mesh_works.specs.Executable.{IsExecutable};
+ghost use Rattle.mesh_works.specs.Plain.{opened};
+ghost use Rattle.mesh_works.specs.Works.{are_fit, part_of, parts};
 ghost use Rattle.mesh_exec.specs.Answers.{Executes};
 ghost use Rattle.mesh_exec.specs.Steps.{Looks, MakesPlan};
 
@@ -16,7 +16,7 @@ use crate::sources::first_lack;
 use mesh_base::Done;
 use mesh_house::{Warehouse, WhFail};
 use mesh_making::make_counted;
-use mesh_parts::{Work, opening, works_of};
+use mesh_works::{Work, opening, works_of};
 use mesh_rules::Plan;
 use mesh_wave::Gate;
 use std::alloc::Global;
