@@ -15,10 +15,11 @@ use Rattle.mesh_house.specs.declared.world.World.{World}
 use Rattle.mesh_house.specs.Step.{run}
 use Rattle.mesh_due.specs.Plans.{Planned}
 use Rattle.mesh_changes.specs.Changes.{followed, tables_for}
-use Rattle.mesh_exec.specs.Executable.{is_due_of}
-use Rattle.mesh_exec.specs.Executed.{executes, filled, fills, part_fills, part_filling, part_outline, parts_outline, written}
-use Rattle.mesh_exec.specs.Plain.{making, model_of}
-use Rattle.mesh_exec.specs.Works.{Part, are_fit, is_fit}
+use Rattle.mesh_works.specs.Executable.{is_due_of}
+use Rattle.mesh_works.specs.Written.{written}
+use Rattle.mesh_works.specs.Plain.{making, model_of}
+use Rattle.mesh_works.specs.Works.{Part, are_fit, is_fit}
+use Rattle.mesh_exec.specs.Executed.{executes, filled, fills, part_fills, part_filling, part_outline, parts_outline}
 use Rattle.mesh_exec.proofs.Books.{ends}
 use Rattle.mesh_exec.proofs.Running.{is_both}
 use Rattle.mesh_exec.proofs.Stepping.{each_many, written_many}

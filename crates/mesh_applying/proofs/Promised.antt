@@ -25,11 +25,11 @@ use Rattle.mesh_due.specs.Plans.{is_made, planned}
 use Rattle.mesh_changes.specs.Changes.{executes as book_executes, objects_by_name, opens, promotes, refs_by_name, run_opens}
 use Rattle.mesh_changes.specs.Commands.{Apply, RunAll, asked, is_final, is_not_behind, is_present}
 use Rattle.mesh_changes.specs.Environments.{env_at}
-use Rattle.mesh_exec.specs.Executable.{IsExecutable}
+use Rattle.mesh_works.specs.Executable.{IsExecutable}
+use Rattle.mesh_works.specs.Plain.{models, opened}
+use Rattle.mesh_works.specs.Works.{are_fit, parts}
 use Rattle.mesh_exec.specs.Executed.{executed, executes, outline, parts_outline}
-use Rattle.mesh_exec.specs.Plain.{models, opened}
 use Rattle.mesh_exec.specs.Planned.{IsOf, as_planned, planned_models}
-use Rattle.mesh_exec.specs.Works.{are_fit, parts}
 use Rattle.mesh_exec.proofs.Books.{as_the_book_asks, ends, ends_as_the_book, opens_same}
 use Rattle.mesh_exec.proofs.Fitting.{parts_fit}
 use Rattle.mesh_plan.specs.Entries.{IsRecorded, entries_of}

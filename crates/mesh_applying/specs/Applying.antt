@@ -14,13 +14,13 @@ use Rattle.mesh_changes.specs.Commands.{Command, Apply, RunAll, changes}
 use Rattle.mesh_fault_text.specs.Lines.{name_text}
 use Rattle.mesh_plan_text.specs.PlanText.{plan_text}
 use Rattle.mesh_plan.specs.Plans.{promised}
+use Rattle.mesh_works.specs.Works.{parts}
 use Rattle.mesh_exec.specs.declared.faults.ExecFault.{ExecFault}
 use Rattle.mesh_exec.specs.declared.faults.ExecFault.TheVariants as fault
 use Rattle.mesh_exec.specs.declared.sources.Lack.{Lack}
 use Rattle.mesh_exec.specs.Answers.{IsLostIn}
 use Rattle.mesh_exec.specs.Executed.{executed}
 use Rattle.mesh_exec.specs.Sources.{first_lack}
-use Rattle.mesh_exec.specs.Works.{parts}
 use Rattle.mesh_printed.specs.Reports.{applied_line, ran_line}
 use Rattle.mesh_printed.specs.declared.refusals.Refusal.{Refusal}
 use Rattle.mesh_printed.specs.declared.refusals.Refusal.TheVariants.{Model, Warehouse, Memory, ObjectMissing}

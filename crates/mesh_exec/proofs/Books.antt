@@ -35,11 +35,12 @@ use Rattle.mesh_due.specs.Parts.{object_of, unit_of}
 use Rattle.mesh_due.specs.Plans.{Planned, is_made, planned_by}
 use Rattle.mesh_changes.specs.Changes.{ascending, executes as book_executes, fill, fills as book_fills, followed, forgetting, is_any as is_any_part, makes, opens, parent_table, planned_ref, puts, run_opens, snapshot_of, tables_for, target_of}
 use Rattle.mesh_changes.specs.Environments.{lifetime}
-use Rattle.mesh_exec.specs.Dues.{behind, is_any, leading}
-use Rattle.mesh_exec.specs.Executed.{executed, executes, filled, fills, part_fills, part_rows, written}
-use Rattle.mesh_exec.specs.Plain.{making, model_of, models, opened, parents_at, plain_models, puts_of}
+use Rattle.mesh_works.specs.Dues.{behind, is_any, leading}
+use Rattle.mesh_works.specs.Written.{written}
+use Rattle.mesh_works.specs.Plain.{making, model_of, models, opened, parents_at, plain_models, puts_of}
+use Rattle.mesh_works.specs.Works.{Part, parts, parts_from}
+use Rattle.mesh_exec.specs.Executed.{executed, executes, filled, fills, part_fills, part_rows}
 use Rattle.mesh_exec.specs.Planned.{IsOf, as_planned, opens_of, planned_models}
-use Rattle.mesh_exec.specs.Works.{Part, parts, parts_from}
 
 -- the objects of some models are made and filled, and then come some last changes; nothing more comes where an object dangles
 abbrev pub ends : List Planned → List Change → List Part → World → List Change

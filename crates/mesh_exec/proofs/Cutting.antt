@@ -25,11 +25,11 @@ use Rattle.mesh_lineage.specs.Joinable.{is_joinable, is_joinable_as}
 use Rattle.mesh_wave.proofs.Ascending.{cut_ascending}
 use Rattle.mesh_unit_laws.specs.Units.{IsInDays, IsUnit}
 use Rattle.mesh_unit_laws.proofs.Cuts.{sorted_rows}
-use Rattle.mesh_exec.specs.Cuts.{cut_fills, rows_in, run_fills, second_in, seconds_by, seconds_of}
-use Rattle.mesh_exec.specs.Executable.{is_due_of, is_in_days}
-use Rattle.mesh_exec.specs.Executed.{written}
+use Rattle.mesh_works.specs.Cuts.{cut_fills, rows_in, run_fills, second_in, seconds_by, seconds_of}
+use Rattle.mesh_works.specs.Executable.{is_due_of, is_in_days}
+use Rattle.mesh_works.specs.Written.{written}
+use Rattle.mesh_works.specs.Plain.{model_of}
 use Rattle.mesh_exec.specs.Fills.{fillings, span_rows}
-use Rattle.mesh_exec.specs.Plain.{model_of}
 use Rattle.mesh_exec.specs.Runs.{begins_at, end_of, goes_all_on, goes_on, is_run, last_end}
 use Rattle.mesh_exec.proofs.Running.{is_both}
 

@@ -32,13 +32,14 @@ use Rattle.mesh_due.specs.Plans.{Planned}
 use Rattle.mesh_changes.specs.Changes.{ascending}
 use Rattle.mesh_wave.specs.Waves.{counts, job_rows}
 use Rattle.mesh_lineage.specs.Joinable.{is_joinable}
-use Rattle.mesh_exec.specs.Executable.{is_due_of}
-use Rattle.mesh_exec.specs.Executed.{filled, part_rows, written}
+use Rattle.mesh_works.specs.Executable.{is_due_of}
+use Rattle.mesh_works.specs.Written.{written}
+use Rattle.mesh_works.specs.Plain.{model_of}
+use Rattle.mesh_works.specs.Works.{seed_rows}
+use Rattle.mesh_exec.specs.Executed.{filled, part_rows}
 use Rattle.mesh_exec.specs.Fills.{each_with, fillings, first_pool, run_fillings, run_rows, span_rows, zipped}
 use Rattle.mesh_exec.specs.Jobs.{due_job, jobs_of, span_job}
-use Rattle.mesh_exec.specs.Plain.{model_of}
 use Rattle.mesh_exec.specs.Runs.{AreRunsOf, are_fit_runs, dues_in, is_fit_run, is_run, spanned}
-use Rattle.mesh_exec.specs.Works.{seed_rows}
 use Rattle.mesh_exec.specs.declared.runs.Run.{Run}
 use Rattle.mesh_exec.proofs.Cutting.{cut_run}
 use Rattle.mesh_exec.proofs.Running.{is_both}

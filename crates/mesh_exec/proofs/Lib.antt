@@ -1,7 +1,3 @@
--- Places: the models of a plan by their places.
-pub mod Places
--- Parents: the tables that models read, parent by parent.
-pub mod Parents
 -- Running: the due parts of a model stand in runs.
 pub mod Running
 -- Cutting: the rows of a run, cut to its due parts, are the rows of these.

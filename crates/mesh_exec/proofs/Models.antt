@@ -24,18 +24,19 @@ use Rattle.mesh_changes.specs.Changes.{followed}
 use Rattle.mesh_layer.specs.Shows.{Finds, IsUntouched, Tells}
 use Rattle.mesh_layer.specs.declared.faults.ShowFault.{ShowFault}
 use Rattle.mesh_layer.specs.declared.faults.ShowFault.TheVariants as show
+use Rattle.mesh_works.specs.Dues.{is_any}
+use Rattle.mesh_works.specs.Written.{written}
+use Rattle.mesh_works.specs.Lost.{lost_part}
+use Rattle.mesh_works.specs.Plain.{making, model_of}
+use Rattle.mesh_works.specs.Tables.{part_tables, tables_if}
+use Rattle.mesh_works.specs.Works.{Part, are_fit, is_fit, part_of}
+use Rattle.mesh_works.specs.declared.works.Work.{Work}
 use Rattle.mesh_exec.specs.declared.faults.ExecFault.{ExecFault}
 use Rattle.mesh_exec.specs.declared.faults.ExecFault.TheVariants as fault
 use Rattle.mesh_exec.specs.Answers.{of_house, of_show}
-use Rattle.mesh_exec.specs.Dues.{is_any}
-use Rattle.mesh_exec.specs.Executed.{executes, fills, filled, part_fills, part_filling, part_outline, parts_outline, written}
+use Rattle.mesh_exec.specs.Executed.{executes, fills, filled, part_fills, part_filling, part_outline, parts_outline}
 use Rattle.mesh_exec.specs.Fills.{fillings}
-use Rattle.mesh_exec.specs.Lost.{lost_part}
-use Rattle.mesh_exec.specs.Plain.{making, model_of}
 use Rattle.mesh_exec.specs.Steps.{IsPartMade, MakesPart, MakesParts, Tries, or_nothing}
-use Rattle.mesh_exec.specs.Tables.{part_tables, tables_if}
-use Rattle.mesh_exec.specs.Works.{Part, are_fit, is_fit, part_of}
-use Rattle.mesh_exec.specs.declared.works.Work.{Work}
 use Rattle.mesh_exec.proofs.Running.{is_both}
 use Rattle.mesh_exec.proofs.Stepping.{each_many, each_sources, making_sources, none_made, prefix_more, prefix_then, run_then, whole_prefix, written_many, written_sources}
 

@@ -12,8 +12,8 @@ use Rattle.mesh_base.specs.declared.plans.Due.{Due}
 use Rattle.mesh_base.specs.declared.plans.Entry.{Entry}
 use Rattle.mesh_base.specs.declared.snapshots.Node.{Node}
 use Rattle.mesh_rules.specs.Proper.{are_fit as nodes_fit, have_distinct_names, is_proper, node_cmp, node_itself}
-use Rattle.mesh_exec.specs.Dues.{behind}
-use Rattle.mesh_exec.specs.Works.{Part, parts_from}
+use Rattle.mesh_works.specs.Dues.{behind}
+use Rattle.mesh_works.specs.Works.{Part, parts_from}
 use Rattle.mesh_exec.proofs.Running.{is_both}
 
 abbrev Rising : List Node → Type 0

@@ -30,7 +30,7 @@ use Rattle.mesh_house.specs.World.{object_at}
 use Rattle.mesh_house.proofs.Runs.{run-append}
 use Rattle.mesh_due.specs.Plans.{Planned}
 use Rattle.mesh_changes.specs.Changes.{makes, parents_in, target_of}
-use Rattle.mesh_exec.specs.Executed.{written}
+use Rattle.mesh_works.specs.Written.{written}
 
 -- one list after another
 pub run_then : (f g : List Change) (w : World) (k : ℕ) (b c : Told) → IsRun f w k b → IsRun g (run w f) b.calls c → IsRun (f ++ g) w k c

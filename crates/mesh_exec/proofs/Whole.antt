@@ -25,15 +25,15 @@ use Rattle.mesh_changes.specs.Changes.{forgetting, snapshot_of}
 use Rattle.mesh_layer.specs.Shows.{Finds, IsUntouched, Tells}
 use Rattle.mesh_layer.specs.declared.faults.ShowFault.{ShowFault}
 use Rattle.mesh_layer.specs.declared.faults.ShowFault.TheVariants as show
+use Rattle.mesh_works.specs.Plain.{models, opened, puts_of}
+use Rattle.mesh_works.specs.Works.{Part, parts}
 use Rattle.mesh_exec.specs.declared.faults.ExecFault.{ExecFault}
 use Rattle.mesh_exec.specs.declared.faults.ExecFault.TheVariants as fault
 use Rattle.mesh_exec.specs.declared.sources.Lack.{Lack}
 use Rattle.mesh_exec.specs.Answers.{Executes, IsLostIn, of_house, of_show}
 use Rattle.mesh_exec.specs.Executed.{executed, executes, outline, parts_outline}
-use Rattle.mesh_exec.specs.Plain.{models, opened, puts_of}
 use Rattle.mesh_exec.specs.Sources.{first_lack}
 use Rattle.mesh_exec.specs.Steps.{IsLost, Looks, MakesParts, MakesPlan}
-use Rattle.mesh_exec.specs.Works.{Part, parts}
 use Rattle.mesh_exec.proofs.Stepping.{prefix_more, prefix_then, run_then, whole_prefix}
 
 abbrev unit_err : ExecFault → Result (Unit {0}) ExecFault

@@ -16,13 +16,13 @@ use Rattle.mesh_house.specs.Step.{run}
 use Rattle.mesh_layer.specs.Shows.{Tells}
 use Rattle.mesh_layer.specs.declared.faults.ShowFault.{ShowFault}
 use Rattle.mesh_layer.specs.declared.faults.ShowFault.TheVariants as show
+use Rattle.mesh_works.specs.Plain.{models, opened}
+use Rattle.mesh_works.specs.Works.{Part, parts}
 use Rattle.mesh_exec.specs.declared.faults.ExecFault.{ExecFault}
 use Rattle.mesh_exec.specs.declared.faults.ExecFault.TheVariants as fault
 use Rattle.mesh_exec.specs.Executed.{executed, outline}
-use Rattle.mesh_exec.specs.Plain.{models, opened}
 use Rattle.mesh_exec.specs.Sources.{first_lack}
 use Rattle.mesh_exec.specs.Steps.{IsLost}
-use Rattle.mesh_exec.specs.Works.{Part, parts}
 
 abbrev pub of_house : WhFail → ExecFault
 of_house house.Failed = fault.Warehouse

@@ -3,8 +3,6 @@ use Rattle.std.specs.Prelude.{List, [], ◌∷◌, ◌++◌, Some}
 use Rattle.std.specs.List.{flat_map}
 use Rattle.std.specs.Option.{option_map}
 use Rattle.std.specs.declared.option.Option.{Option}
-use Rattle.mesh_values.specs.declared.kinds.Kind.{Kind}
-use Rattle.mesh_values.specs.declared.kinds.Kind.TheVariants.{View, Incremental}
 use Rattle.mesh_values.specs.declared.values.Cell.{Cell}
 use Rattle.mesh_base.specs.declared.jobs.Input.{Input}
 use Rattle.mesh_base.specs.declared.plans.Due.{Due}
@@ -13,20 +11,12 @@ use Rattle.mesh_rules.specs.declared.plans.Plan.{Plan}
 use Rattle.mesh_scratch.specs.Scratch.{no_bounds, defn_rows, piece_over}
 use Rattle.mesh_house.specs.declared.world.World.{World}
 use Rattle.mesh_house.specs.declared.world.Change.{Change}
-use Rattle.mesh_house.specs.declared.world.Change.TheVariants.{ReplaceRows, WriteRange, RecordRange, RecordMarks}
 use Rattle.mesh_house.specs.Step.{run}
 use Rattle.mesh_due.specs.Plans.{Planned}
 use Rattle.mesh_changes.specs.Changes.{ascending, followed, tables_for}
-use Rattle.mesh_exec.specs.Plain.{making, model_of, models, opened}
-use Rattle.mesh_exec.specs.Works.{Part, parts}
-
--- what fills a due part of a model with these rows
-abbrev pub written : Planned → Kind → Due → List (List Cell) → List Change
-written p (Incremental time lookback) (Unit place start end) rows = WriteRange p.object time start end rows ∷ RecordRange p.object start end ∷ []
-written p (Incremental time lookback) (Whole place marks) rows = []
-written p View (Whole place marks) rows = RecordMarks p.object marks ∷ []
-written p kind (Whole place marks) rows = ReplaceRows p.object rows ∷ RecordMarks p.object marks ∷ []
-written p kind (Unit place start end) rows = []
+use Rattle.mesh_works.specs.Plain.{making, model_of, models, opened}
+use Rattle.mesh_works.specs.Works.{Part, parts}
+use Rattle.mesh_works.specs.Written.{written}
 
 -- the rows of a due part over the tables that its model reads: those of a unit that lie in it, or all
 abbrev pub part_rows : Planned → List Input → Due → List (List Cell)

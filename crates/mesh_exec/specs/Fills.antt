@@ -7,9 +7,10 @@ use Rattle.mesh_base.specs.declared.plans.Due.{Due}
 use Rattle.mesh_house.specs.declared.world.Change.{Change}
 use Rattle.mesh_due.specs.Plans.{Planned}
 use Rattle.mesh_changes.specs.Changes.{ascending}
+use Rattle.mesh_works.specs.Cuts.{run_fills}
+use Rattle.mesh_works.specs.Written.{written}
 use Rattle.mesh_exec.specs.declared.runs.Run.{Run}
-use Rattle.mesh_exec.specs.Cuts.{run_fills}
-use Rattle.mesh_exec.specs.Executed.{filled, part_rows, written}
+use Rattle.mesh_exec.specs.Executed.{filled, part_rows}
 use Rattle.mesh_exec.specs.Runs.{dues_in, spanned}
 
 -- each run with the rows at its place

@@ -13,10 +13,10 @@ use Rattle.mesh_base.specs.declared.jobs.Input.{Input}
 use Rattle.mesh_scratch.specs.Sources.{has_shape, source_named}
 use Rattle.mesh_tokens.specs.declared.faults.FaultKind.{FaultKind}
 use Rattle.mesh_tokens.specs.declared.faults.FaultKind.TheVariants.{SourceMissing, SourceShape}
+use Rattle.mesh_works.specs.Dues.{is_any}
+use Rattle.mesh_works.specs.Works.{Part}
 use Rattle.mesh_exec.specs.declared.sources.Breach.{Breach}
 use Rattle.mesh_exec.specs.declared.sources.Lack.{Lack}
-use Rattle.mesh_exec.specs.Dues.{is_any}
-use Rattle.mesh_exec.specs.Works.{Part}
 
 -- a declared source isn't there, or it is there without a declared column or its type; further columns are passed over
 abbrev pub breach_by : Decl → Option (List Column) → Option Breach

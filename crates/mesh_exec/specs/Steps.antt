@@ -13,13 +13,13 @@ use Rattle.mesh_house.specs.Runs.{IsRun, IsPrefixRun}
 use Rattle.mesh_house.specs.Step.{run}
 use Rattle.mesh_due.specs.Plans.{Planned}
 use Rattle.mesh_layer.specs.Shows.{IsUntouched, Tells}
+use Rattle.mesh_works.specs.Lost.{lost_part}
+use Rattle.mesh_works.specs.Plain.{making, models, opened}
+use Rattle.mesh_works.specs.Works.{Part, parts}
 use Rattle.mesh_exec.specs.declared.faults.ExecFault.{ExecFault}
 use Rattle.mesh_exec.specs.declared.faults.ExecFault.TheVariants as fault
 use Rattle.mesh_exec.specs.Executed.{executed, executes, outline, part_outline, parts_outline}
-use Rattle.mesh_exec.specs.Lost.{lost_part}
-use Rattle.mesh_exec.specs.Plain.{making, models, opened}
 use Rattle.mesh_exec.specs.Sources.{first_lack}
-use Rattle.mesh_exec.specs.Works.{Part, parts}
 
 -- all of a list, where there is one
 abbrev pub or_nothing : Option (List Change) → List Change

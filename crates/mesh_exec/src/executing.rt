@@ -3,21 +3,20 @@ ghost use Rattle.std.specs.Prelude.{◌≡◌, ◌≤◌, IfOk, IsTrue, length, 
 ghost use Rattle.mesh_list.specs.Counts.{risen};
 ghost use Rattle.mesh_book.specs.WellFormed.{is_moment};
 ghost use Rattle.mesh_house.specs.Runs.{Makes};
+ghost use Rattle.mesh_works.specs.Executable.{IsExecutable};
+ghost use Rattle.mesh_works.specs.Plain.{opened};
+ghost use Rattle.mesh_works.specs.Works.{are_fit, part_of, parts};
 ghost use Rattle.mesh_exec.specs.Answers.{Executes};
-ghost use Rattle.mesh_exec.specs.Executable.{IsExecutable};
-ghost use Rattle.mesh_exec.specs.Plain.{opened};
 ghost use Rattle.mesh_exec.specs.Steps.{Looks, MakesPlan};
-ghost use Rattle.mesh_exec.specs.Works.{are_fit, part_of, parts};
 
-use crate::changes::opening;
 use crate::faults::ExecFault;
 use crate::fills::added;
 use crate::making::make_parts;
 use crate::sources::first_lack;
-use crate::works::{Work, works_of};
 use mesh_base::Done;
 use mesh_house::{Warehouse, WhFail};
 use mesh_making::make_counted;
+use mesh_works::{Work, opening, works_of};
 use mesh_rules::Plan;
 use mesh_wave::Gate;
 use std::alloc::Global;

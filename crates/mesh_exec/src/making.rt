@@ -2,21 +2,19 @@
 ghost use Rattle.std.specs.Prelude.{◌≡◌, ◌≤◌, ◌∷◌, [], IfOk, length, map, true};
 ghost use Rattle.mesh_list.specs.Counts.{risen};
 ghost use Rattle.mesh_house.specs.Runs.{Makes};
+ghost use Rattle.mesh_works.specs.Lost.{lost_part};
+ghost use Rattle.mesh_works.specs.Plain.{making, plain_models};
+ghost use Rattle.mesh_works.specs.Works.{are_fit, is_fit, part_of};
 ghost use Rattle.mesh_exec.specs.Executed.{part_fills, part_filling};
-ghost use Rattle.mesh_exec.specs.Lost.{lost_part};
-ghost use Rattle.mesh_exec.specs.Plain.{making, plain_models};
 ghost use Rattle.mesh_exec.specs.Steps.{MakesPart, MakesParts, Tries};
-ghost use Rattle.mesh_exec.specs.Works.{are_fit, is_fit, part_of};
 
-use crate::changes::push_making;
 use crate::faults::ExecFault;
 use crate::fills::{added, fill_all};
-use crate::tables::part_tables;
-use crate::works::Work;
 use mesh_base::{Entry, Inputs, Node, Pools};
 use mesh_house::{Warehouse, WhFail};
 use mesh_list::{Memory, Seq};
 use mesh_making::make_counted;
+use mesh_works::{Work, part_tables, push_making};
 use mesh_wave::Gate;
 use std::alloc::Global;
 use std::thread::Threads;

@@ -20,7 +20,7 @@ use Rattle.mesh_scratch.proofs.Clocks.{shown}
 use Rattle.mesh_due.specs.Dues.{dues}
 use Rattle.mesh_due.specs.Plans.{planned}
 use Rattle.mesh_marks.specs.Long.{first_too_long}
-use Rattle.mesh_exec.specs.Executable.{IsExecutable, due_cmp, due_itself, is_due_in}
+use Rattle.mesh_works.specs.Executable.{IsExecutable, due_cmp, due_itself, is_due_in}
 use Rattle.mesh_changes.specs.Planning.{compared_list}
 use Rattle.mesh_plan.specs.Entries.{IsRecorded}
 use Rattle.mesh_plan.specs.Plans.{IsPlanOf}

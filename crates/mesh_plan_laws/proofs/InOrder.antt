@@ -38,7 +38,7 @@ use Rattle.mesh_due.specs.Marks.{marks}
 use Rattle.mesh_due.specs.Parts.{is_among, unit_of}
 use Rattle.mesh_due.specs.Plans.{Planned, are_marks, is_marked, marks_of, planned, planned_by}
 use Rattle.mesh_marks.specs.Long.{first_too_long, is_too_long}
-use Rattle.mesh_exec.specs.Executable.{due_cmp, due_itself, is_due_in, is_due_of, is_in_days, place_of, start_of}
+use Rattle.mesh_works.specs.Executable.{due_cmp, due_itself, is_due_in, is_due_of, is_in_days, place_of, start_of}
 use Rattle.mesh_plan_laws.proofs.InDays.{IsInDays, schedule_in_days}
 
 first_lower : (x y : ℕ) (o : Ordering) → x < y → is_lt (ordering_then (nat_cmp x y) o) ≡ true

@@ -8,7 +8,7 @@ ghost use Rattle.mesh_days.specs.Moments.{IsMoment};
 ghost use Rattle.mesh_rules.specs.Proper.{is_proper};
 ghost use Rattle.mesh_rules.specs.declared.plans.Plan.{Plan};
 ghost use Rattle.mesh_book.specs.declared.book.Book.{Book};
-ghost use Rattle.mesh_exec.specs.Executable.{IsExecutable};
+ghost use Rattle.mesh_works.specs.Executable.{IsExecutable};
 ghost use Rattle.mesh_plan.specs.Plans.{IsPlanOf};
 ghost use Rattle.mesh_plan.specs.Running.{IsRunIn};
 

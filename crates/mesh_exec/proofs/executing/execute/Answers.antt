@@ -1,6 +1,6 @@
 use Rattle.std.proofs.Common.{◌≡◌, ℕ, Ok, map, sym, ap, subst, ◌∙◌}
+use Rattle.mesh_works.specs.Works.{part_of, parts, parts_from}
 use Rattle.mesh_exec.specs.Answers.{Executes}
-use Rattle.mesh_exec.specs.Works.{part_of, parts, parts_from}
 use Rattle.mesh_exec.proofs.Fitting.{parts_fit}
 use Rattle.mesh_exec.proofs.Ranks.{lower_before}
 use Rattle.mesh_exec.proofs.Whole.{begins_not, looks_stop, plan_done, plan_stops}

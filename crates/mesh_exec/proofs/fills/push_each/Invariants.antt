@@ -1,6 +1,6 @@
 use Rattle.std.proofs.Common.{◌≡◌, ◌++◌, take}
+use Rattle.mesh_works.specs.Plain.{model_of}
 use Rattle.mesh_exec.specs.Fills.{each_with}
-use Rattle.mesh_exec.specs.Plain.{model_of}
 use Rattle.mesh_exec.proofs.fills.push_each.Given as goal
 
 abbrev pub invariant-loop-due : goal.invariant-loop-due

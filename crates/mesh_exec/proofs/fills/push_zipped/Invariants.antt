@@ -1,6 +1,6 @@
 use Rattle.std.proofs.Common.{◌≡◌, ◌++◌, drop}
+use Rattle.mesh_works.specs.Plain.{model_of}
 use Rattle.mesh_exec.specs.Fills.{zipped}
-use Rattle.mesh_exec.specs.Plain.{model_of}
 use Rattle.mesh_exec.proofs.fills.push_zipped.Given as goal
 
 -- what has come and what is left are all of them

@@ -1,6 +1,6 @@
+use Rattle.mesh_works.specs.Plain.{plain_models}
+use Rattle.mesh_works.specs.Works.{part_of}
 use Rattle.mesh_exec.proofs.Models.{object_stops, part_ok, part_stops_there, sum_stops}
-use Rattle.mesh_exec.specs.Plain.{plain_models}
-use Rattle.mesh_exec.specs.Works.{part_of}
 use Rattle.mesh_exec.proofs.making.make_part.Goals as goal
 
 pub returns-in_err-made : goal.returns-in_err-made

@@ -1,7 +1,7 @@
 use Rattle.std.proofs.Common.{map, arith}
+use Rattle.mesh_works.specs.Plain.{plain_models}
+use Rattle.mesh_works.specs.Works.{part_of}
 use Rattle.mesh_exec.proofs.Models.{begun, fit_at, loop_counts, loop_ends, loop_more, loop_stops}
-use Rattle.mesh_exec.specs.Plain.{plain_models}
-use Rattle.mesh_exec.specs.Works.{part_of}
 use Rattle.mesh_exec.proofs.making.make_parts.Goals as goal
 
 pub loop-work-init : goal.loop-work-init

@@ -1,7 +1,7 @@
 use Rattle.std.proofs.Common.{drop, map, take}
+use Rattle.mesh_works.specs.Plain.{plain_models}
+use Rattle.mesh_works.specs.Works.{part_of}
 use Rattle.mesh_exec.proofs.Models.{SoFar}
-use Rattle.mesh_exec.specs.Plain.{plain_models}
-use Rattle.mesh_exec.specs.Works.{part_of}
 use Rattle.mesh_exec.proofs.making.make_parts.Given as goal
 
 -- the models so far were made
