@@ -16,9 +16,9 @@ use crate::sources::first_lack;
 use mesh_base::Done;
 use mesh_house::{Warehouse, WhFail};
 use mesh_making::make_counted;
-use mesh_works::{Work, opening, works_of};
 use mesh_rules::Plan;
 use mesh_wave::Gate;
+use mesh_works::{Work, opening, works_of};
 use std::alloc::Global;
 use std::thread::Threads;
 

@@ -19,9 +19,9 @@ use mesh_base::{Defn, Due, Entry, Node, Pools};
 use mesh_house::{Changes, Warehouse, WhFail};
 use mesh_list::{Duplicate, Memory, Seq};
 use mesh_making::make_counted;
-use mesh_works::{cut_to, push_written, seconds_of};
 use mesh_values::{Kind, Rows, RowsList, sort_rows};
 use mesh_wave::{Gate, wave};
+use mesh_works::{cut_to, push_written, seconds_of};
 use std::alloc::Global;
 use std::thread::Threads;
 

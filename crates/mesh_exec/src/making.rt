@@ -14,8 +14,8 @@ use mesh_base::{Entry, Inputs, Node, Pools};
 use mesh_house::{Warehouse, WhFail};
 use mesh_list::{Memory, Seq};
 use mesh_making::make_counted;
-use mesh_works::{Work, part_tables, push_making};
 use mesh_wave::Gate;
+use mesh_works::{Work, part_tables, push_making};
 use std::alloc::Global;
 use std::thread::Threads;
 

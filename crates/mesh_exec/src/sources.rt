@@ -11,9 +11,9 @@ use mesh_base::Decl;
 use mesh_house::Warehouse;
 use mesh_layer::{ShowFault, has_shape};
 use mesh_list::{Duplicate, Memory};
-use mesh_works::Work;
 use mesh_tokens::FaultKind;
 use mesh_values::{Columns, Name, Str, has_two_underscores};
+use mesh_works::Work;
 use std::alloc::Global;
 
 /// A source that isn't there, or is there with another shape.
