@@ -55,7 +55,7 @@ impl Parts {
 
     fn set_moment(&mut self, line: &Line) -> Result<(), Trouble> {
         self.moment = line.number(1)?;
-        if line.len() > 2 {
+        if !line.word(2).is_empty() {
             self.version = line.rank(2)?;
         }
         Ok(())
@@ -77,7 +77,7 @@ impl Parts {
 
     fn add_all(&mut self, alloc: Global, lines: &[&[u8]], owns: &[Named]) -> Result<(), Trouble> {
         for text in lines {
-            self.add(&Line::of(alloc, text)?, owns)?;
+            self.add(&Line::of(alloc, text), owns)?;
         }
         Ok(())
     }
@@ -159,7 +159,7 @@ struct Stage<'a> {
 impl<'a> Stage<'a> {
     fn with(&mut self, alloc: Global, rest: &'a [u8]) -> Result<(), Trouble> {
         let (place, text) = front_word(rest);
-        let at = Line::of(alloc, place)?.rank(0)?;
+        let at = Line::of(alloc, place).rank(0)?;
         match self.now.get_mut((at as usize).wrapping_sub(1)) {
             Some(line) => {
                 *line = text;
@@ -198,7 +198,7 @@ impl<'a> Stage<'a> {
     ) -> Result<(), Trouble> {
         pen.put(text);
         pen.put(b": ");
-        self.shown(pen, &Line::of(alloc, text)?, owns)?;
+        self.shown(pen, &Line::of(alloc, text), owns)?;
         pen.put(b"\n");
         Ok(())
     }

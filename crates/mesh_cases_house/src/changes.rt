@@ -29,7 +29,7 @@ pub fn snapshot(line: &Line, owns: &[Named]) -> Result<Snapshot, Trouble> {
 }
 
 fn load(line: &Line) -> Result<Change, Trouble> {
-    let (name, (columns, rows)) = pair(line.name(1), pair(columns(line.alloc()), line.rows(3)))?;
+    let (name, (columns, rows)) = pair(line.name(1), pair(columns(line.alloc()), line.all(3)))?;
     Ok(Change::Load {
         name,
         columns,
@@ -41,7 +41,7 @@ fn load(line: &Line) -> Result<Change, Trouble> {
 fn make_view(line: &Line, owns: &[Named]) -> Result<Change, Trouble> {
     let ((object, columns), (own, targets)) = pair(
         pair(line.name(1), columns(line.alloc())),
-        pair(own_at(line, owns, 2), line.pairs(3)),
+        pair(own_at(line, owns, 2), line.all(3)),
     )?;
     Ok(Change::MakeView {
         object,
@@ -53,7 +53,7 @@ fn make_view(line: &Line, owns: &[Named]) -> Result<Change, Trouble> {
 
 fn write_range(line: &Line) -> Result<Change, Trouble> {
     let (start, end) = pair(line.number(3), line.number(4))?;
-    let (object, (time, rows)) = pair(line.name(1), pair(line.text(2), line.rows(5)))?;
+    let (object, (time, rows)) = pair(line.name(1), pair(line.text(2), line.all(5)))?;
     Ok(Change::WriteRange {
         object,
         time,
@@ -81,12 +81,12 @@ fn make_table(line: &Line) -> Result<Change, Trouble> {
 }
 
 fn replace_rows(line: &Line) -> Result<Change, Trouble> {
-    let (object, rows) = pair(line.name(1), line.rows(2))?;
+    let (object, rows) = pair(line.name(1), line.all(2))?;
     Ok(Change::ReplaceRows { object, rows })
 }
 
 fn record_marks(line: &Line) -> Result<Change, Trouble> {
-    let (object, marks) = pair(line.name(1), line.numbers(2))?;
+    let (object, marks) = pair(line.name(1), line.all(2))?;
     Ok(Change::RecordMarks { object, marks })
 }
 
@@ -137,10 +137,10 @@ fn book_change(line: &Line, owns: &[Named]) -> Result<Change, Trouble> {
 
 fn change_of_many(line: &Line) -> Result<Change, Trouble> {
     if line.is(0, b"forget_units") {
-        let list = line.forgets(1)?;
+        let list = line.all(1)?;
         Ok(Change::ForgetUnits { list })
     } else if line.is(0, b"migrate") {
-        let map = line.renames(1)?;
+        let map = line.all(1)?;
         Ok(Change::Migrate { map })
     } else {
         change_of_env(line)

@@ -327,9 +327,9 @@ impl Stage {
         } else if word == b"own".as_slice() {
             add_own(alloc, owns, rest)
         } else if word == b"also".as_slice() {
-            self.keep(&Line::of(alloc, rest)?, owns)
+            self.keep(&Line::of(alloc, rest), owns)
         } else {
-            self.told(pen, &Line::of(alloc, text)?, owns)
+            self.told(pen, &Line::of(alloc, text), owns)
         }
     }
 }

@@ -1,8 +1,8 @@
 // A line of a case, in words, and what its words say.
-use mesh_base::{Forget, Forgets, Marks, Own, Ref, Refs, Rename, Renames};
-use mesh_cases::{Trouble, number_of, parted};
+use mesh_base::{Forget, Own, Ref, Refs, Rename};
+use mesh_cases::{Trouble, front_word, number_of, parted};
 use mesh_list::{Duplicate, Memory, Seq, push_made, together};
-use mesh_values::{Cell, ColType, Column, Columns, Name, Pair, Pairs, Row, Rows, Str};
+use mesh_values::{Cell, ColType, Column, Columns, Name, Pair, Row, Str};
 use std::alloc::Global;
 
 /// Two answers as one.
@@ -52,13 +52,6 @@ fn reference(alloc: Global, word: &[u8]) -> Result<Ref, Trouble> {
     reference_of(alloc, name, mark)
 }
 
-fn pair_of(alloc: Global, word: &[u8]) -> Result<Pair, Trouble> {
-    let (model, object) = parted(word, b'=');
-    let (first, second) = pair(name_of(alloc, model), name_of(alloc, object))?;
-    Ok(Pair { first, second })
-}
-
-/// The marks of an object, or a range of it behind a colon, whose end stands behind another one.
 fn forget_of(alloc: Global, word: &[u8]) -> Result<Forget, Trouble> {
     let (name, range) = parted(word, b':');
     if range.is_empty() {
@@ -71,7 +64,6 @@ fn forget_of(alloc: Global, word: &[u8]) -> Result<Forget, Trouble> {
     Ok(Forget::Range { object, start, end })
 }
 
-/// A reference, and behind an equals sign the numbers that its fingerprint gets.
 fn rename_of(alloc: Global, word: &[u8]) -> Result<Rename, Trouble> {
     let (old, new) = parted(word, b'=');
     let new = fingerprint_of(new)?;
@@ -110,24 +102,67 @@ pub struct Named {
 
 pub type Owns = Vec<Named>;
 
+/// What a word says.
+pub trait Said: Drop + Sized {
+    fn of_word(alloc: Global, word: &[u8]) -> Result<Self, Trouble>;
+}
+
+impl Said for i64 {
+    fn of_word(_alloc: Global, word: &[u8]) -> Result<i64, Trouble> {
+        number_of(word)
+    }
+}
+
+/// A row of the number in both columns.
+impl Said for Row {
+    fn of_word(alloc: Global, word: &[u8]) -> Result<Row, Trouble> {
+        row(alloc, word)
+    }
+}
+
+/// A pair `MODEL=OBJECT`.
+impl Said for Pair {
+    fn of_word(alloc: Global, word: &[u8]) -> Result<Pair, Trouble> {
+        let (model, object) = parted(word, b'=');
+        let (first, second) = pair(name_of(alloc, model), name_of(alloc, object))?;
+        Ok(Pair { first, second })
+    }
+}
+
+/// The marks of an object, or a range of it behind a colon, whose end stands behind another one.
+impl Said for Forget {
+    fn of_word(alloc: Global, word: &[u8]) -> Result<Forget, Trouble> {
+        forget_of(alloc, word)
+    }
+}
+
+/// A reference, and behind an equals sign the numbers that its fingerprint gets.
+impl Said for Rename {
+    fn of_word(alloc: Global, word: &[u8]) -> Result<Rename, Trouble> {
+        rename_of(alloc, word)
+    }
+}
+
 /// The words of a line.
-#[derive(Drop)]
+#[derive(Clone, Copy)]
 pub struct Line<'a> {
     alloc: Global,
-    words: Vec<&'a [u8]>,
+    text: &'a [u8],
 }
 
 impl<'a> Line<'a> {
-    pub fn of(alloc: Global, text: &'a [u8]) -> Result<Line<'a>, Trouble> {
-        let mut words = Vec::new(alloc);
-        for word in text.split(|byte| *byte == b' ') {
-            words.push(word)?;
-        }
-        Ok(Line { alloc, words })
+    pub fn of(alloc: Global, text: &'a [u8]) -> Line<'a> {
+        Line { alloc, text }
     }
 
-    pub fn len(&self) -> usize {
-        self.words.len()
+    /// What stands behind so many words.
+    fn behind(&self, count: usize) -> &'a [u8] {
+        let mut rest = self.text;
+        for _ in 0..count {
+            let (_, behind) = front_word(rest);
+            rest = behind;
+        }
+        rest
     }
 
     pub fn alloc(&self) -> Global {
@@ -136,10 +171,8 @@ impl<'a> Line<'a> {
 
     /// The word at a place, and nothing behind the last one.
     pub fn word(&self, at: usize) -> &'a [u8] {
-        match self.words.get(at) {
-            Some(word) => *word,
-            None => &[],
-        }
+        let (word, _) = front_word(self.behind(at));
+        word
     }
 
     pub fn is(&self, at: usize, word: &[u8]) -> bool {
@@ -178,8 +211,7 @@ impl<'a> Line<'a> {
     pub fn refs(&self, word: &[u8]) -> Result<Refs, Trouble> {
         let mut refs = Seq::new(self.alloc);
         let mut behind = false;
-        for at in 0..self.len() {
-            let other = self.word(at);
+        for other in self.text.split(|byte| *byte == b' ') {
             behind = other == word || (behind && other.contains(&b'/'));
             if behind && other != word {
                 pushed(&mut refs, reference(self.alloc, other))?;
@@ -188,49 +220,16 @@ impl<'a> Line<'a> {
         Ok(refs)
     }
 
-    /// The numbers from a place on.
-    pub fn numbers(&self, from: usize) -> Result<Marks, Trouble> {
-        let mut numbers = Seq::new(self.alloc);
-        for at in from..self.len() {
-            pushed(&mut numbers, number_of(self.word(at)))?;
+    /// What each word from a place on says.
+    pub fn all<T: Said>(&self, from: usize) -> Result<Seq<T>, Trouble> {
+        let mut all = Seq::new(self.alloc);
+        let rest = self.behind(from);
+        if !rest.is_empty() {
+            for word in rest.split(|byte| *byte == b' ') {
+                pushed(&mut all, T::of_word(self.alloc, word))?;
+            }
         }
-        Ok(numbers)
-    }
-
-    /// A row for each number from a place on, whose day is that number too.
-    pub fn rows(&self, from: usize) -> Result<Rows, Trouble> {
-        let mut rows = Seq::new(self.alloc);
-        for at in from..self.len() {
-            pushed(&mut rows, row(self.alloc, self.word(at)))?;
-        }
-        Ok(rows)
-    }
-
-    /// The pairs `MODEL=OBJECT` from a place on.
-    pub fn pairs(&self, from: usize) -> Result<Pairs, Trouble> {
-        let mut pairs = Seq::new(self.alloc);
-        for at in from..self.len() {
-            pushed(&mut pairs, pair_of(self.alloc, self.word(at)))?;
-        }
-        Ok(pairs)
-    }
-
-    /// What is to be forgotten, from a place on.
-    pub fn forgets(&self, from: usize) -> Result<Forgets, Trouble> {
-        let mut forgets = Seq::new(self.alloc);
-        for at in from..self.len() {
-            pushed(&mut forgets, forget_of(self.alloc, self.word(at)))?;
-        }
-        Ok(forgets)
-    }
-
-    /// The renames of a map, from a place on.
-    pub fn renames(&self, from: usize) -> Result<Renames, Trouble> {
-        let mut renames = Seq::new(self.alloc);
-        for at in from..self.len() {
-            pushed(&mut renames, rename_of(self.alloc, self.word(at)))?;
-        }
-        Ok(renames)
+        Ok(all)
     }
 
     /// The definition that a word calls.
