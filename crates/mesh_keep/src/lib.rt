@@ -4,16 +4,16 @@
 //! `mesh_values`, `mesh_base`, `mesh_book`, `mesh_moves`, `mesh_house`, `mesh_canon_reading` and `mesh_record_text`.
 #![tactic(auto)]
 
-mod counted;
 mod fails;
 mod keeper;
 mod kept;
 mod laws;
 mod maps;
+mod refusals;
 mod writing;
 
-pub use counted::counted;
 pub use keeper::{KeepFail, Keeper};
 pub use kept::{Kept, Place, Record, Records, Write, Writes};
 pub use laws::records_hold_one_world;
 pub use maps::MapKeeper;
+pub use refusals::counted;
