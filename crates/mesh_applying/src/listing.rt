@@ -16,11 +16,20 @@ use std::alloc::Global;
 use std::cmp::Ordering;
 
 /// A model of a plan with the object that has its rows.
-#[derive(Drop)]
 pub struct Target {
     pub name: Name,
     pub fingerprint: [u8; 32],
     pub object: Name,
+}
+
+impl Drop for Target {
+    fn drop(self) {
+        let Target {
+            name: _,
+            fingerprint: _,
+            object: _,
+        } = self;
+    }
 }
 
 impl Keyed for Target {
@@ -44,10 +53,18 @@ impl Keyed for Target {
 }
 
 /// The list of an environment, and the object of each model in it.
-#[derive(Drop)]
 pub struct Lists {
     pub list: Refs,
     pub objects: Names,
+}
+
+impl Drop for Lists {
+    fn drop(self) {
+        let Lists {
+            list: _,
+            objects: _,
+        } = self;
+    }
 }
 
 fn as_target(node: &Node, entry: &Entry) -> Result<Target, Memory>

@@ -17,15 +17,25 @@ pub struct Decl {
     pub time: Option<Str>,
 }
 
-#[derive(Drop)]
 pub enum Defn {
     Seed { columns: Columns, rows: Rows },
     Sql(Query),
 }
 
+impl Drop for Defn {
+    fn drop(self) {
+        match self {
+            Defn::Seed {
+                columns: _,
+                rows: _,
+            }
+            | Defn::Sql(_) => {}
+        }
+    }
+}
+
 /// A model without its parents: it is what makes a table's rows, and what its fingerprint begins with. `start` is a
 /// day, counted from 1970-01-01.
-#[derive(Drop)]
 pub struct Own {
     pub name: Name,
     pub kind: Kind,
@@ -34,6 +44,20 @@ pub struct Own {
     pub start: Option<i32>,
     pub sources: Sources,
     pub defn: Defn,
+}
+
+impl Drop for Own {
+    fn drop(self) {
+        let Own {
+            name: _,
+            kind: _,
+            cron: _,
+            unit: _,
+            start: _,
+            sources: _,
+            defn: _,
+        } = self;
+    }
 }
 
 /// A column of a model or a source that a query names.

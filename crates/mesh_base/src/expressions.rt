@@ -59,15 +59,22 @@ pub enum Var {
 
 /// One WHEN of a CASE.
 #[cycle(ast)]
-#[derive(Drop, PartialEq, Eq)]
+#[derive(PartialEq, Eq)]
 pub struct When {
     pub test: Expr,
     pub value: Expr,
 }
 
+impl Drop for When {
+    #[cycle(drops)]
+    fn drop(self) {
+        let When { test: _, value: _ } = self;
+    }
+}
+
 /// `item` is a place in FROM, from 0. What is negated in the text, as `IS NOT NULL`, is a `Not` of the plain form.
 #[cycle(ast)]
-#[derive(Drop, PartialEq, Eq)]
+#[derive(PartialEq, Eq)]
 pub enum Expr {
     Literal(Cell),
     Col {
@@ -110,6 +117,39 @@ pub enum Expr {
         kind: AggKind,
         value: Boxed<Expr>,
     },
+}
+
+impl Drop for Expr {
+    #[cycle(drops)]
+    fn drop(self) {
+        match self {
+            Expr::Literal(_)
+            | Expr::Col { item: _, name: _ }
+            | Expr::Macro(_)
+            | Expr::Binary {
+                op: _,
+                left: _,
+                right: _,
+            }
+            | Expr::Neg(_)
+            | Expr::Not(_)
+            | Expr::IsNull(_)
+            | Expr::Between {
+                value: _,
+                low: _,
+                high: _,
+            }
+            | Expr::OneOf { value: _, of: _ }
+            | Expr::Cast { to: _, value: _ }
+            | Expr::Call { func: _, args: _ }
+            | Expr::Case {
+                whens: _,
+                otherwise: _,
+            }
+            | Expr::CountAll
+            | Expr::Agg { kind: _, value: _ } => {}
+        }
+    }
 }
 
 impl Duplicate for Op {

@@ -8,26 +8,52 @@ pub type Forgets = Seq<Forget>;
 pub type Renames = Seq<Rename>;
 
 /// What is no longer recorded of a table: the seconds from `start` on that are below `end`, or its marks.
-#[derive(Drop)]
 pub enum Forget {
     Range { object: Name, start: i64, end: i64 },
     Marks { object: Name },
 }
 
+impl Drop for Forget {
+    fn drop(self) {
+        match self {
+            Forget::Range {
+                object: _,
+                start: _,
+                end: _,
+            }
+            | Forget::Marks { object: _ } => {}
+        }
+    }
+}
+
 /// A model that is to be computed again with its descendants: the units that have a second in the days from `first` to
 /// `last`, counted from 1970-01-01, or all of them where no days are given.
-#[derive(Drop)]
 pub struct Restate {
     pub name: Name,
     pub first: Option<i32>,
     pub last: Option<i32>,
 }
 
+impl Drop for Restate {
+    fn drop(self) {
+        let Restate {
+            name: _,
+            first: _,
+            last: _,
+        } = self;
+    }
+}
+
 /// A snapshot, and the fingerprint that it gets.
-#[derive(Drop)]
 pub struct Rename {
     pub old: Ref,
     pub new: [u8; 32],
+}
+
+impl Drop for Rename {
+    fn drop(self) {
+        let Rename { old: _, new: _ } = self;
+    }
 }
 
 impl Duplicate for Forget {

@@ -10,21 +10,40 @@ pub type Pools = Seq<Inputs>;
 pub type Jobs = Seq<Job>;
 
 /// A table by the name that a query reads it by.
-#[derive(Drop)]
 pub struct Input {
     pub name: Name,
     pub columns: Columns,
     pub rows: Rows,
 }
 
+impl Drop for Input {
+    fn drop(self) {
+        let Input {
+            name: _,
+            columns: _,
+            rows: _,
+        } = self;
+    }
+}
+
 /// A query to be evaluated over the inputs of the pool at the place `pool`, from 0. Where there is a time column, only
 /// rows that lie in the bounds count.
-#[derive(Drop)]
 pub struct Job {
     pub query: Query,
     pub pool: u32,
     pub bounds: Bounds,
     pub time: Option<Str>,
+}
+
+impl Drop for Job {
+    fn drop(self) {
+        let Job {
+            query: _,
+            pool: _,
+            bounds: _,
+            time: _,
+        } = self;
+    }
 }
 
 /// How many units were computed, and how many changes the warehouse was asked for.

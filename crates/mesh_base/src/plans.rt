@@ -24,25 +24,51 @@ pub enum Category {
 }
 
 /// One category for each node of a project, and the models that it no longer has.
-#[derive(Drop)]
 pub struct Categories {
     pub of: CategoryList,
     pub removed: Names,
 }
 
+impl Drop for Categories {
+    fn drop(self) {
+        let Categories { of: _, removed: _ } = self;
+    }
+}
+
 /// What is to be computed of a project's node: all its rows, or those of one unit.
-#[derive(Drop)]
 pub enum Due {
     Whole { node: u32, marks: Marks },
     Unit { node: u32, start: i64, end: i64 },
 }
 
+impl Drop for Due {
+    fn drop(self) {
+        match self {
+            Due::Whole { node: _, marks: _ }
+            | Due::Unit {
+                node: _,
+                start: _,
+                end: _,
+            } => {}
+        }
+    }
+}
+
 /// What is planned for a node: the table or view that will have its rows, and whether that is made already.
-#[derive(Drop)]
 pub struct Entry {
     pub category: Category,
     pub object: Name,
     pub made: bool,
+}
+
+impl Drop for Entry {
+    fn drop(self) {
+        let Entry {
+            category: _,
+            object: _,
+            made: _,
+        } = self;
+    }
 }
 
 impl Duplicate for Category {

@@ -14,18 +14,36 @@ pub type Selects = Seq<Select>;
 pub type Ctes = Seq<Selects>;
 
 /// One output column.
-#[derive(Drop, PartialEq, Eq)]
+#[derive(PartialEq, Eq)]
 pub struct Item {
     pub name: Str,
     pub kind: ColType,
     pub expr: Expr,
 }
 
+impl Drop for Item {
+    fn drop(self) {
+        let Item {
+            name: _,
+            kind: _,
+            expr: _,
+        } = self;
+    }
+}
+
 /// What a FROM item reads: a model or a source, or the CTE at a place, from 0.
-#[derive(Drop, PartialEq, Eq)]
+#[derive(PartialEq, Eq)]
 pub enum Rel {
     Named(Name),
     Cte(u32),
+}
+
+impl Drop for Rel {
+    fn drop(self) {
+        match self {
+            Rel::Named(_) | Rel::Cte(_) => {}
+        }
+    }
 }
 
 /// How a FROM item is joined to those before it.
@@ -37,15 +55,25 @@ pub enum Join {
     Cross,
 }
 
-#[derive(Drop, PartialEq, Eq)]
+#[derive(PartialEq, Eq)]
 pub struct FromItem {
     pub join: Join,
     pub rel: Rel,
     pub on: Option<Expr>,
 }
 
+impl Drop for FromItem {
+    fn drop(self) {
+        let FromItem {
+            join: _,
+            rel: _,
+            on: _,
+        } = self;
+    }
+}
+
 /// `filter` is WHERE and `keys` is GROUP BY. A SELECT may be grouped without keys.
-#[derive(Drop, PartialEq, Eq)]
+#[derive(PartialEq, Eq)]
 pub struct Select {
     pub distinct: bool,
     pub grouped: bool,
@@ -56,10 +84,33 @@ pub struct Select {
     pub having: Option<Expr>,
 }
 
-#[derive(Drop, PartialEq, Eq)]
+impl Drop for Select {
+    fn drop(self) {
+        let Select {
+            distinct: _,
+            grouped: _,
+            items: _,
+            from: _,
+            filter: _,
+            keys: _,
+            having: _,
+        } = self;
+    }
+}
+
+#[derive(PartialEq, Eq)]
 pub struct Query {
     pub ctes: Ctes,
     pub selects: Selects,
+}
+
+impl Drop for Query {
+    fn drop(self) {
+        let Query {
+            ctes: _,
+            selects: _,
+        } = self;
+    }
 }
 
 impl Duplicate for Join {

@@ -24,7 +24,6 @@ pub struct Ref {
 }
 
 /// A model of a project. Its parents are places among the project's nodes.
-#[derive(Drop)]
 pub struct Node {
     pub own: Own,
     pub parents: Indexes,
@@ -32,9 +31,19 @@ pub struct Node {
     pub fingerprint: [u8; 32],
 }
 
+impl Drop for Node {
+    fn drop(self) {
+        let Node {
+            own: _,
+            parents: _,
+            rank: _,
+            fingerprint: _,
+        } = self;
+    }
+}
+
 /// A model that was planned once, and the table or view that has its rows. From the second `expires` on it may go
 /// where no environment lists it.
-#[derive(Drop)]
 pub struct Snapshot {
     pub name: Name,
     pub fingerprint: [u8; 32],
@@ -45,14 +54,39 @@ pub struct Snapshot {
     pub expires: i64,
 }
 
+impl Drop for Snapshot {
+    fn drop(self) {
+        let Snapshot {
+            name: _,
+            fingerprint: _,
+            own: _,
+            parents: _,
+            rank: _,
+            object: _,
+            expires: _,
+        } = self;
+    }
+}
+
 /// While it is pending its views may be those of `list` or of `previous`. One without an expiry stays.
-#[derive(Drop)]
 pub struct Env {
     pub name: Str,
     pub pending: bool,
     pub list: Refs,
     pub previous: Refs,
     pub expires: Option<i64>,
+}
+
+impl Drop for Env {
+    fn drop(self) {
+        let Env {
+            name: _,
+            pending: _,
+            list: _,
+            previous: _,
+            expires: _,
+        } = self;
+    }
 }
 
 impl Duplicate for Ref {

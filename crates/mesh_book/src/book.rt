@@ -12,13 +12,24 @@ pub const OLD_VERSION: u32 = 1;
 /// What a warehouse records beside its tables and views. `version` is that of the fingerprints: they are those of the
 /// canonical text that names an incremental model's lookback from 2 on, and before it of a text without one. `moment` is
 /// in seconds since 1970-01-01T00:00:00 UTC. Any lists make a book; `book_fault` tells whether it is a well-formed one.
-#[derive(Drop)]
 pub struct Book {
     pub version: u32,
     pub moment: i64,
     pub snapshots: Snapshots,
     pub versions: Versions,
     pub environments: Envs,
+}
+
+impl Drop for Book {
+    fn drop(self) {
+        let Book {
+            version: _,
+            moment: _,
+            snapshots: _,
+            versions: _,
+            environments: _,
+        } = self;
+    }
 }
 
 impl Duplicate for Book {

@@ -12,12 +12,22 @@ pub type Versions = Register<Version>;
 
 /// The record of a physical table or view, by its name. `ranges` are the seconds of the schedule whose rows were
 /// written. `marks` are the last ticks that the rows of a whole table were computed for, and are absent until they were.
-#[derive(Drop)]
 pub struct Version {
     pub object: Name,
     pub made: bool,
     pub ranges: Ranges,
     pub marks: Option<Marks>,
+}
+
+impl Drop for Version {
+    fn drop(self) {
+        let Version {
+            object: _,
+            made: _,
+            ranges: _,
+            marks: _,
+        } = self;
+    }
 }
 
 impl Keyed for Version {

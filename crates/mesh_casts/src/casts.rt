@@ -139,13 +139,13 @@ fn day_text(alloc: Global, day: i32) -> Result<Str, Memory>
 fn to_int(x: Cell) -> Cell
     ensures { result ≡ cast_to_int x }
 {
-    match x {
-        Cell::Int(n) => Cell::Int(n),
+    match &x {
+        Cell::Int(n) => Cell::Int(*n),
         Cell::Text(t) => match number_named(t.as_slice()) {
             Some(n) => Cell::Int(n),
             None => Cell::Null,
         },
-        Cell::Bool(b) => Cell::Int(if b { 1 } else { 0 }),
+        Cell::Bool(b) => Cell::Int(if *b { 1 } else { 0 }),
         _ => Cell::Null,
     }
 }
@@ -153,11 +153,11 @@ fn to_int(x: Cell) -> Cell
 fn to_text(alloc: Global, x: Cell) -> Result<Cell, Memory>
     ensures { IfOk result (λ v. v ≡ cast_to_text x) }
 {
-    match x {
-        Cell::Int(n) => Ok(Cell::Text(number_text(alloc, n)?)),
-        Cell::Text(t) => Ok(Cell::Text(t)),
-        Cell::Date(d) => Ok(Cell::Text(day_text(alloc, d)?)),
-        Cell::Bool(b) => Ok(Cell::Text(truth_text(alloc, b)?)),
+    match &x {
+        Cell::Int(n) => Ok(Cell::Text(number_text(alloc, *n)?)),
+        Cell::Text(_) => Ok(x),
+        Cell::Date(d) => Ok(Cell::Text(day_text(alloc, *d)?)),
+        Cell::Bool(b) => Ok(Cell::Text(truth_text(alloc, *b)?)),
         Cell::Null => Ok(Cell::Null),
     }
 }
@@ -165,12 +165,12 @@ fn to_text(alloc: Global, x: Cell) -> Result<Cell, Memory>
 fn to_date(x: Cell) -> Cell
     ensures { result ≡ cast_to_date x }
 {
-    match x {
+    match &x {
         Cell::Text(t) => match day_named(t.as_slice()) {
             Some(d) => Cell::Date(d),
             None => Cell::Null,
         },
-        Cell::Date(d) => Cell::Date(d),
+        Cell::Date(d) => Cell::Date(*d),
         _ => Cell::Null,
     }
 }
@@ -178,13 +178,13 @@ fn to_date(x: Cell) -> Cell
 fn to_bool(x: Cell) -> Result<Cell, Memory>
     ensures { IfOk result (λ v. v ≡ cast_to_bool x) }
 {
-    match x {
-        Cell::Int(n) => Ok(Cell::Bool(n != 0)),
+    match &x {
+        Cell::Int(n) => Ok(Cell::Bool(*n != 0)),
         Cell::Text(t) => match truth_named(t.alloc(), t.as_slice())? {
             Some(b) => Ok(Cell::Bool(b)),
             None => Ok(Cell::Null),
         },
-        Cell::Bool(b) => Ok(Cell::Bool(b)),
+        Cell::Bool(b) => Ok(Cell::Bool(*b)),
         _ => Ok(Cell::Null),
     }
 }

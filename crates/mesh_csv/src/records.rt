@@ -11,9 +11,14 @@ use std::alloc::Global;
 use std::marker::Model;
 
 /// A record, which contracts see as the list of its fields.
-#[derive(Drop)]
 pub struct Record {
     fields: ByteRecord,
+}
+
+impl Drop for Record {
+    fn drop(self) {
+        let Record { fields: _ } = self;
+    }
 }
 
 impl Model for Record {

@@ -19,7 +19,6 @@ pub(crate) struct Members<'a, 'x> {
 }
 
 /// The columns and the row of each item of a FROM, the keys with their values, and the rows of the group.
-#[derive(Drop)]
 pub(crate) struct Frame<'a, 'x> {
     pub(crate) columns: &'a [Columns],
     pub(crate) row: &'a [&'x [Cell]],
@@ -27,6 +26,19 @@ pub(crate) struct Frame<'a, 'x> {
     pub(crate) key_values: &'a [Cell],
     pub(crate) group: Option<Members<'a, 'x>>,
     pub(crate) bounds: Bounds,
+}
+
+impl Drop for Frame<'_, '_> {
+    fn drop(self) {
+        let Frame {
+            columns: _,
+            row: _,
+            keys: _,
+            key_values: _,
+            group: _,
+            bounds: _,
+        } = self;
+    }
 }
 
 /// The cell at a place, where there is one.

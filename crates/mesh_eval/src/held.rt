@@ -8,10 +8,15 @@ use std::marker::Model;
 pub(crate) type Helds<'a> = Seq<Held<'a>>;
 
 /// A cell that lies in a row or in an expression and is read there, or one that was made. Contracts see the cell.
-#[derive(Drop)]
 pub(crate) struct Held<'a> {
     lent: Option<&'a Cell>,
     made: Cell,
+}
+
+impl Drop for Held<'_> {
+    fn drop(self) {
+        let Held { lent: _, made: _ } = self;
+    }
 }
 
 impl<'a> Model for Held<'a> {

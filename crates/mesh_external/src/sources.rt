@@ -18,9 +18,14 @@ use std::cmp::Ordering;
 use std::marker::Model;
 
 /// A source, which contracts see as its declaration.
-#[derive(Drop)]
 pub(crate) struct Source {
     decl: Decl,
+}
+
+impl Drop for Source {
+    fn drop(self) {
+        let Source { decl: _ } = self;
+    }
 }
 
 impl Model for Source {

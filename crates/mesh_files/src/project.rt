@@ -5,15 +5,28 @@ use mesh_model::ModelText;
 use mesh_values::Seed;
 
 /// A model's file, and the seed that a SEED names.
-#[derive(Drop)]
 pub struct ModelFile {
     pub text: ModelText,
     pub seed: Option<Seed>,
 }
 
+impl Drop for ModelFile {
+    fn drop(self) {
+        let ModelFile { text: _, seed: _ } = self;
+    }
+}
+
 /// The declared sources, and the models in the order of their paths' bytes.
-#[derive(Drop)]
 pub struct ProjectFiles {
     pub sources: Externals,
     pub models: Seq<ModelFile>,
+}
+
+impl Drop for ProjectFiles {
+    fn drop(self) {
+        let ProjectFiles {
+            sources: _,
+            models: _,
+        } = self;
+    }
 }

@@ -14,7 +14,6 @@ use mesh_values::{Columns, Name};
 use std::alloc::Global;
 
 /// A world in memory.
-#[derive(Drop)]
 pub struct MemHouse {
     world: World,
     fails: Fails,
@@ -22,6 +21,19 @@ pub struct MemHouse {
     next_read: u64,
     calls: u64,
     faults: u64,
+}
+
+impl Drop for MemHouse {
+    fn drop(self) {
+        let MemHouse {
+            world: _,
+            fails: _,
+            next_change: _,
+            next_read: _,
+            calls: _,
+            faults: _,
+        } = self;
+    }
 }
 
 impl MemHouse {

@@ -1,9 +1,10 @@
 // The objects of a warehouse.
-ghost use Rattle.std.specs.Prelude.{◌≡◌, [], true, OnOk, OnErr};
+ghost use Rattle.std.specs.Prelude.{◌≡◌, [], true, OnOk, OnErr, Some};
 ghost use Rattle.std.specs.Option.{option_copied};
 ghost use Rattle.mesh_values.specs.Names.{name_cmp};
 ghost use Rattle.mesh_list.specs.Keyed.{found, placed, exchanged, without, ascends};
 ghost use Rattle.mesh_values.specs.NameOrder.{names_exact, names_total};
+ghost use Rattle.mesh_house.specs.World.{rows_of};
 ghost use Rattle.mesh_house.specs.Objects.{object_name, is_physical, are_physical};
 
 use mesh_base::Own;
@@ -14,7 +15,6 @@ use std::cmp::Ordering;
 use std::marker::Model;
 
 /// What an object keeps: a table keeps its rows, and another object the query that its rows are computed by.
-#[derive(Drop)]
 pub enum Body {
     /// The rows of a table.
     Rows(Rows),
@@ -22,12 +22,41 @@ pub enum Body {
     Stored { own: Own, targets: Pairs },
 }
 
+impl Drop for Body {
+    fn drop(self) {
+        match self {
+            Body::Rows(_) | Body::Stored { own: _, targets: _ } => {}
+        }
+    }
+}
+
+impl Body {
+    /// The rows of a table; a stored query has none of its own.
+    pub fn into_rows(self) -> Option<Rows>
+        ensures { result ≡ rows_of (Some self) }
+    {
+        match self {
+            Body::Rows(rows) => Some(rows),
+            Body::Stored { own: _, targets: _ } => None,
+        }
+    }
+}
+
 /// A physical table or a stored query, with the columns that its rows have.
-#[derive(Drop)]
 pub struct Object {
     pub name: Name,
     pub columns: Columns,
     pub body: Body,
+}
+
+impl Drop for Object {
+    fn drop(self) {
+        let Object {
+            name: _,
+            columns: _,
+            body: _,
+        } = self;
+    }
 }
 
 impl Keyed for Object {
@@ -51,9 +80,14 @@ impl Keyed for Object {
 }
 
 /// Objects in strictly ascending order of their names, each of a schema where two underscores adjoin.
-#[derive(Drop)]
 pub struct Objects {
     list: Sorted<Object>,
+}
+
+impl Drop for Objects {
+    fn drop(self) {
+        let Objects { list: _ } = self;
+    }
 }
 
 impl Model for Objects {

@@ -14,9 +14,14 @@ use std::alloc::Global;
 use std::marker::Model;
 
 /// Sources in strictly ascending order of their names, each of a schema where no two underscores adjoin.
-#[derive(Drop)]
 pub struct SourceTables {
     list: Sorted<Input>,
+}
+
+impl Drop for SourceTables {
+    fn drop(self) {
+        let SourceTables { list: _ } = self;
+    }
 }
 
 impl Model for SourceTables {

@@ -11,15 +11,19 @@ use mesh_values::{Columns, Name, Pairs, Rows, Str};
 use std::cmp::Ordering;
 
 /// A view, and the object that it points at.
-#[derive(Drop)]
 pub struct ViewOf {
     pub view: Name,
     pub target: Name,
 }
 
+impl Drop for ViewOf {
+    fn drop(self) {
+        let ViewOf { view: _, target: _ } = self;
+    }
+}
+
 /// All that a warehouse has, each list in strictly ascending order of its names. The schemas of objects have two
 /// underscores that adjoin somewhere, and those of sources have none.
-#[derive(Drop)]
 pub struct World {
     pub sources: SourceTables,
     pub objects: Objects,
@@ -27,9 +31,19 @@ pub struct World {
     pub book: Book,
 }
 
+impl Drop for World {
+    fn drop(self) {
+        let World {
+            sources: _,
+            objects: _,
+            views: _,
+            book: _,
+        } = self;
+    }
+}
+
 /// One change of a world. Where the world lacks what a change needs, nothing in it changes. Seconds count from
 /// 1970-01-01T00:00:00 UTC.
-#[derive(Drop)]
 pub enum Change {
     /// The book's moment is this second from now on, unless it is a later one.
     Moment {
@@ -133,6 +147,66 @@ pub enum Change {
     Migrate {
         map: Renames,
     },
+}
+
+impl Drop for Change {
+    fn drop(self) {
+        match self {
+            Change::Moment { t: _ }
+            | Change::Load {
+                name: _,
+                columns: _,
+                rows: _,
+                keep: _,
+            }
+            | Change::PutSnapshot { snapshot: _ }
+            | Change::MakeTable {
+                object: _,
+                columns: _,
+            }
+            | Change::MakeView {
+                object: _,
+                columns: _,
+                own: _,
+                targets: _,
+            }
+            | Change::ReplaceRows { object: _, rows: _ }
+            | Change::WriteRange {
+                object: _,
+                time: _,
+                start: _,
+                end: _,
+                rows: _,
+            }
+            | Change::RecordRange {
+                object: _,
+                start: _,
+                end: _,
+            }
+            | Change::RecordMarks {
+                object: _,
+                marks: _,
+            }
+            | Change::SetPending {
+                env: _,
+                list: _,
+                expires: _,
+            }
+            | Change::PointView { view: _, target: _ }
+            | Change::DropView { view: _ }
+            | Change::Finalize { env: _ }
+            | Change::Expire { env: _ }
+            | Change::ForgetVersion { object: _ }
+            | Change::DropObject { object: _ }
+            | Change::DeleteSnapshot {
+                name: _,
+                fingerprint: _,
+            }
+            | Change::DeleteEnv { env: _ }
+            | Change::ForgetUnits { list: _ }
+            | Change::Migrate { map: _ } => {}
+        }
+    }
 }
 
 /// Changes in the order in which they are made.

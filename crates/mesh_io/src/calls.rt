@@ -7,11 +7,20 @@ use mesh_list::Seq;
 pub type Numbers = Seq<u64>;
 
 /// The numbers of the calls that are to fail, the number of the next call, and how many listed ones have come.
-#[derive(Drop)]
 pub struct Calls {
     pub fails: Numbers,
     pub next: u64,
     pub faults: u64,
+}
+
+impl Drop for Calls {
+    fn drop(self) {
+        let Calls {
+            fails: _,
+            next: _,
+            faults: _,
+        } = self;
+    }
 }
 
 impl Calls {

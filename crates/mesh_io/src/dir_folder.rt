@@ -23,10 +23,15 @@ const LONGEST_NAME: u32 = 255;
 const LONGEST_PATH: usize = 4_095;
 
 /// The host's files. It tells nothing of them. Contracts see it as the count of its faults.
-#[derive(Drop)]
 pub struct DirFolder<'a> {
     rt: &'a HostRuntime,
     faults: u64,
+}
+
+impl Drop for DirFolder<'_> {
+    fn drop(self) {
+        let DirFolder { rt: _, faults: _ } = self;
+    }
 }
 
 impl<'a> Model for DirFolder<'a> {
@@ -57,10 +62,15 @@ struct Walk {
 }
 
 /// A folder that is still to be looked into, and how deep it lies.
-#[derive(Drop)]
 struct Open {
     path: String,
     depth: u32,
+}
+
+impl Drop for Open {
+    fn drop(self) {
+        let Open { path: _, depth: _ } = self;
+    }
 }
 
 impl Walk {

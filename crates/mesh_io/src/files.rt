@@ -12,10 +12,16 @@ use std::cmp::Ordering;
 use std::mem;
 
 /// A file: its path, which is the names of its folders and its own, joined by `/`, and what it holds.
-#[derive(Drop, PartialEq, Eq)]
+#[derive(PartialEq, Eq)]
 pub struct File {
     pub path: Str,
     pub bytes: Str,
+}
+
+impl Drop for File {
+    fn drop(self) {
+        let File { path: _, bytes: _ } = self;
+    }
 }
 
 /// The files of a folder.

@@ -10,10 +10,18 @@ use crate::outside::Clock;
 use std::marker::Model;
 
 /// A clock that stands still. It tells its moment, and the calls with listed numbers fail, and no others.
-#[derive(Drop)]
 pub struct MemClock {
     moment: i64,
     calls: Calls,
+}
+
+impl Drop for MemClock {
+    fn drop(self) {
+        let MemClock {
+            moment: _,
+            calls: _,
+        } = self;
+    }
 }
 
 impl Model for MemClock {

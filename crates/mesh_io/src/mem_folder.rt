@@ -16,10 +16,15 @@ use std::alloc::Global;
 use std::marker::Model;
 
 /// Files in memory, no two of one path. It tells them, and the calls with listed numbers fail, and no others.
-#[derive(Drop)]
 pub struct MemFolder {
     files: Vec<File>,
     calls: Calls,
+}
+
+impl Drop for MemFolder {
+    fn drop(self) {
+        let MemFolder { files: _, calls: _ } = self;
+    }
 }
 
 impl Model for MemFolder {

@@ -13,11 +13,20 @@ use std::alloc::Global;
 use std::marker::Model;
 
 /// Bytes to be taken. It tells those that are left, and the calls with listed numbers fail, and no others.
-#[derive(Drop)]
 pub struct MemSource {
     bytes: Str,
     at: usize,
     calls: Calls,
+}
+
+impl Drop for MemSource {
+    fn drop(self) {
+        let MemSource {
+            bytes: _,
+            at: _,
+            calls: _,
+        } = self;
+    }
 }
 
 impl Model for MemSource {

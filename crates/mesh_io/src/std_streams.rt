@@ -13,10 +13,15 @@ use std::io::{ErrorKind, Read, Write};
 use std::marker::Model;
 
 /// The standard input. It tells nothing of its bytes. Contracts see it as the count of its faults.
-#[derive(Drop)]
 pub struct StdSource<'a> {
     rt: &'a HostRuntime,
     faults: u64,
+}
+
+impl Drop for StdSource<'_> {
+    fn drop(self) {
+        let StdSource { rt: _, faults: _ } = self;
+    }
 }
 
 impl<'a> Model for StdSource<'a> {
@@ -72,11 +77,20 @@ enum Stream {
 
 /// The standard output, or the standard errors. It tells nothing of what was written. Contracts see it as
 /// the count of its faults.
-#[derive(Drop)]
 pub struct StdSink<'a> {
     rt: &'a HostRuntime,
     stream: Stream,
     faults: u64,
+}
+
+impl Drop for StdSink<'_> {
+    fn drop(self) {
+        let StdSink {
+            rt: _,
+            stream: _,
+            faults: _,
+        } = self;
+    }
 }
 
 impl<'a> Model for StdSink<'a> {

@@ -15,10 +15,15 @@ const LAST: u64 = 253_402_300_799;
 
 /// The host's clock. It tells no moment. Contracts see it as the count of its faults, to which a moment
 /// before 1970 or after 9999 belongs.
-#[derive(Drop)]
 pub struct SystemClock<'a> {
     rt: &'a HostRuntime,
     faults: u64,
+}
+
+impl Drop for SystemClock<'_> {
+    fn drop(self) {
+        let SystemClock { rt: _, faults: _ } = self;
+    }
 }
 
 impl<'a> Model for SystemClock<'a> {

@@ -22,12 +22,22 @@ use mesh_values::{Name, Str};
 use std::alloc::Global;
 
 /// What a sweep makes, and how much of each kind goes.
-#[derive(Drop)]
 pub(crate) struct Sweep {
     pub changes: Changes,
     pub environments: u64,
     pub objects: u64,
     pub snapshots: u64,
+}
+
+impl Drop for Sweep {
+    fn drop(self) {
+        let Sweep {
+            changes: _,
+            environments: _,
+            objects: _,
+            snapshots: _,
+        } = self;
+    }
 }
 
 fn emptied(alloc: Global, env: &Env) -> Result<Change, Memory>

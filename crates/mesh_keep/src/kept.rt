@@ -7,35 +7,63 @@ use mesh_values::Str;
 use std::cmp::Ordering;
 
 /// Where a record is kept.
-#[derive(Drop)]
 pub struct Place {
     pub kind: u32,
     pub name: Str,
 }
 
+impl Drop for Place {
+    fn drop(self) {
+        let Place { kind: _, name: _ } = self;
+    }
+}
+
 /// A record where it is kept.
-#[derive(Drop)]
 pub struct Kept {
     pub kind: u32,
     pub name: Str,
     pub body: Str,
 }
 
+impl Drop for Kept {
+    fn drop(self) {
+        let Kept {
+            kind: _,
+            name: _,
+            body: _,
+        } = self;
+    }
+}
+
 /// A record among those of its kind.
-#[derive(Drop)]
 pub struct Record {
     pub name: Str,
     pub body: Str,
 }
 
+impl Drop for Record {
+    fn drop(self) {
+        let Record { name: _, body: _ } = self;
+    }
+}
+
 pub type Records = Seq<Record>;
 
 /// A record that is put in place of the one of its kind and name, or, without a body, one that goes.
-#[derive(Drop)]
 pub struct Write {
     pub kind: u32,
     pub name: Str,
     pub body: Option<Str>,
+}
+
+impl Drop for Write {
+    fn drop(self) {
+        let Write {
+            kind: _,
+            name: _,
+            body: _,
+        } = self;
+    }
 }
 
 /// Writes in the order in which they are made.

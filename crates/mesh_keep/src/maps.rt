@@ -14,13 +14,24 @@ use mesh_values::Str;
 use std::alloc::Global;
 
 /// Records in memory.
-#[derive(Drop)]
 pub struct MapKeeper {
     kept: Sorted<Kept>,
     fails: Fails,
     next_write: u64,
     next_look: u64,
     faults: u64,
+}
+
+impl Drop for MapKeeper {
+    fn drop(self) {
+        let MapKeeper {
+            kept: _,
+            fails: _,
+            next_write: _,
+            next_look: _,
+            faults: _,
+        } = self;
+    }
 }
 
 impl MapKeeper {

@@ -18,10 +18,15 @@ pub struct Found {
 }
 
 /// The same, by the object's name.
-#[derive(Drop)]
 pub struct Entry {
     pub name: Name,
     pub found: Found,
+}
+
+impl Drop for Entry {
+    fn drop(self) {
+        let Entry { name: _, found: _ } = self;
+    }
 }
 
 /// What is known so far, by name.

@@ -105,8 +105,8 @@ fn rows_of(body: Option<Body>) -> Option<Rows>
     ensures { result ≡ rows_of body }
 {
     match body {
-        Some(Body::Rows(rows)) => Some(rows),
-        _ => None,
+        Some(body) => body.into_rows(),
+        None => None,
     }
 }
 

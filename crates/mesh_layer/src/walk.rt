@@ -56,9 +56,9 @@ fn body_at<W: Warehouse>(
 fn table_rows(alloc: Global, kept: Boxed<Body>) -> Rows
     ensures { (rows : List (List Cell)) → kept ≡ body.Rows rows → result ≡ rows }
 {
-    match kept.into_inner() {
-        Body::Rows(rows) => rows,
-        Body::Stored { .. } => Seq::new(alloc),
+    match kept.into_inner().into_rows() {
+        Some(rows) => rows,
+        None => Seq::new(alloc),
     }
 }
 

@@ -8,7 +8,6 @@ use mesh_values::{Name, Str};
 
 /// A command, with what its words ask for. A moment is in seconds since 1970-01-01, a day in days since then; where no
 /// moment is given, the clock is asked.
-#[derive(Drop)]
 pub enum Command {
     Plan {
         env: Str,
@@ -54,12 +53,62 @@ pub enum Command {
     Batch,
 }
 
+impl Drop for Command {
+    fn drop(self) {
+        match self {
+            Command::Plan {
+                env: _,
+                auto_apply: _,
+                workers: _,
+                moment: _,
+                again: _,
+            }
+            | Command::Apply {
+                env: _,
+                workers: _,
+                moment: _,
+                again: _,
+            }
+            | Command::Run {
+                env: _,
+                workers: _,
+                moment: _,
+            }
+            | Command::Evaluate {
+                model: _,
+                env: _,
+                first: _,
+                last: _,
+            }
+            | Command::Fetchdf { query: _, env: _ }
+            | Command::Ingest {
+                name: _,
+                file: _,
+                append: _,
+            }
+            | Command::Janitor { moment: _ }
+            | Command::Invalidate { env: _ }
+            | Command::Migrate
+            | Command::Batch => {}
+        }
+    }
+}
+
 /// A whole command line: the folder of the project, the file of the warehouse, and the command.
-#[derive(Drop)]
 pub struct Line {
     pub paths: Option<Str>,
     pub warehouse: Option<Str>,
     pub command: Command,
+}
+
+impl Drop for Line {
+    fn drop(self) {
+        let Line {
+            paths: _,
+            warehouse: _,
+            command: _,
+        } = self;
+    }
 }
 
 /// The words are no command line, or memory ran out.

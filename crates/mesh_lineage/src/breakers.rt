@@ -13,10 +13,18 @@ use mesh_values::Name;
 use std::alloc::Global;
 
 /// What a query may name.
-#[derive(Drop)]
 pub struct Links {
     pub sources: Register<Link>,
     pub parents: Register<Link>,
+}
+
+impl Drop for Links {
+    fn drop(self) {
+        let Links {
+            sources: _,
+            parents: _,
+        } = self;
+    }
 }
 
 fn source_link(d: &Decl) -> Result<Link, Memory>

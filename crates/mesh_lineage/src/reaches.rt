@@ -14,26 +14,47 @@ use mesh_values::{Kind, Name, Str, is_incremental};
 use std::cmp::Ordering;
 
 /// How an incremental model may read a relation: as it is, not at all, or bound to the unit by this column.
-#[derive(Drop)]
 pub enum Bound {
     Free,
     Never,
     By(Str),
 }
 
+impl Drop for Bound {
+    fn drop(self) {
+        match self {
+            Bound::Free | Bound::Never | Bound::By(_) => {}
+        }
+    }
+}
+
 /// A relation that a query may name.
-#[derive(Drop)]
 pub struct Link {
     pub name: Name,
     pub bound: Bound,
 }
 
+impl Drop for Link {
+    fn drop(self) {
+        let Link { name: _, bound: _ } = self;
+    }
+}
+
 /// `timed` is the least timed source that is reached through the model.
-#[derive(Drop)]
 pub struct Reach {
     pub link: Link,
     pub timeless: bool,
     pub timed: Option<Name>,
+}
+
+impl Drop for Reach {
+    fn drop(self) {
+        let Reach {
+            link: _,
+            timeless: _,
+            timed: _,
+        } = self;
+    }
 }
 
 impl Duplicate for Bound {

@@ -35,9 +35,14 @@ pub trait Keyed: Drop {
 }
 
 /// A list in strictly ascending order of its keys.
-#[derive(Drop)]
 pub struct Sorted<T: Keyed> {
     list: Vec<T>,
+}
+
+impl<T: Keyed + Drop> Drop for Sorted<T> {
+    fn drop(self) {
+        let Sorted { list: _ } = self;
+    }
 }
 
 impl<T: Keyed> Model for Sorted<T> {

@@ -11,10 +11,18 @@ use std::alloc::Global;
 use std::marker::Model;
 
 /// A list in any order. It knows whether it is one that ascends, and is then searched by halves.
-#[derive(Drop)]
 pub struct Register<T: Keyed> {
     list: Vec<T>,
     ascending: bool,
+}
+
+impl<T: Keyed + Drop> Drop for Register<T> {
+    fn drop(self) {
+        let Register {
+            list: _,
+            ascending: _,
+        } = self;
+    }
 }
 
 impl<T: Keyed> Model for Register<T> {

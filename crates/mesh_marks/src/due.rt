@@ -29,12 +29,22 @@ use std::alloc::Global;
 use std::collections::BTreeSet;
 
 /// What the dues of each model are found in: the models by name, which of them each stands on, and what is computed again.
-#[derive(Drop)]
 pub(crate) struct Sight {
     pub spots: Vec<Spot>,
     pub rows: Vec<Seq<u64>>,
     pub units: BTreeSet<(i64, i64, Name)>,
     pub tables: BTreeSet<Name>,
+}
+
+impl Drop for Sight {
+    fn drop(self) {
+        let Sight {
+            spots: _,
+            rows: _,
+            units: _,
+            tables: _,
+        } = self;
+    }
 }
 
 fn sight_of(

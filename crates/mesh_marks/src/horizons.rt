@@ -16,9 +16,14 @@ use std::alloc::Global;
 use std::marker::Model;
 
 /// The horizon of each model of a project, in seconds since 1970-01-01T00:00:00 UTC.
-#[derive(Drop)]
 pub struct Horizons {
     list: Seq<i64>,
+}
+
+impl Drop for Horizons {
+    fn drop(self) {
+        let Horizons { list: _ } = self;
+    }
 }
 
 impl Model for Horizons {

@@ -13,9 +13,14 @@ use std::cmp::Ordering;
 pub(crate) type Entries = Register<Entry>;
 
 /// A rename of a map.
-#[derive(Drop)]
 pub(crate) struct Entry {
     pub(crate) rename: Rename,
+}
+
+impl Drop for Entry {
+    fn drop(self) {
+        let Entry { rename: _ } = self;
+    }
 }
 
 impl Keyed for Entry {

@@ -7,7 +7,6 @@ use mesh_values::{Columns, Cron, Kind, Name, Str, Unit};
 /// A model as it is written. `start` is a day counted from 1970-01-01. Without the property, `columns` is empty.
 /// `path` is that of a SEED's file in the project, and `path_at` the byte at which its text begins, 0 where there is none.
 /// `audits` are the tokens of that property's value as they stand in the file, none without it. A SEED has no query.
-#[derive(Drop)]
 pub struct ModelText {
     pub file: Str,
     pub name: Name,
@@ -20,6 +19,24 @@ pub struct ModelText {
     pub path_at: u64,
     pub audits: Tokens,
     pub query: Option<Surface>,
+}
+
+impl Drop for ModelText {
+    fn drop(self) {
+        let ModelText {
+            file: _,
+            name: _,
+            kind: _,
+            cron: _,
+            unit: _,
+            start: _,
+            columns: _,
+            path: _,
+            path_at: _,
+            audits: _,
+            query: _,
+        } = self;
+    }
 }
 
 impl Duplicate for ModelText {

@@ -15,10 +15,18 @@ use mesh_values::{Bounds, Name, Spans};
 use std::mem::drop;
 
 // Seconds of one object that are still to be forgotten.
-#[derive(Drop)]
 struct Held {
     object: Name,
     spans: Spans,
+}
+
+impl Drop for Held {
+    fn drop(self) {
+        let Held {
+            object: _,
+            spans: _,
+        } = self;
+    }
 }
 
 /// Each range of the list is taken out of its version's ranges, and the marks of each other item's version go. What names

@@ -12,9 +12,14 @@ use std::cmp::Ordering;
 pub(crate) type Moves = Register<Move>;
 
 /// A rename of a map.
-#[derive(Drop)]
 pub(crate) struct Move {
     pub(crate) rename: Rename,
+}
+
+impl Drop for Move {
+    fn drop(self) {
+        let Move { rename: _ } = self;
+    }
 }
 
 impl Keyed for Move {

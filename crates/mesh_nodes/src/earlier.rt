@@ -16,10 +16,15 @@ use std::collections::BTreeMap;
 use std::marker::Model;
 
 /// A model by its name, and its place among those that stand before.
-#[derive(Drop)]
 pub struct Place {
     pub name: Name,
     pub at: u32,
+}
+
+impl Drop for Place {
+    fn drop(self) {
+        let Place { name: _, at: _ } = self;
+    }
 }
 
 impl Keyed for Place {
@@ -43,10 +48,18 @@ impl Keyed for Place {
 }
 
 /// The models so far, in their order, and the place of each name's first one.
-#[derive(Drop)]
 pub struct Earlier {
     nodes: Nodes,
     places: BTreeMap<Name, u32>,
+}
+
+impl Drop for Earlier {
+    fn drop(self) {
+        let Earlier {
+            nodes: _,
+            places: _,
+        } = self;
+    }
 }
 
 impl Model for Earlier {

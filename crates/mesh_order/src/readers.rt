@@ -3,10 +3,15 @@ use mesh_list::Seq;
 use mesh_values::{Name, Names};
 
 /// A model, and the relations that its query names, in any order, some of them perhaps no models.
-#[derive(Drop)]
 pub struct Reader {
     pub name: Name,
     pub reads: Names,
+}
+
+impl Drop for Reader {
+    fn drop(self) {
+        let Reader { name: _, reads: _ } = self;
+    }
 }
 
 /// A model's place in the list that was given, and its rank.

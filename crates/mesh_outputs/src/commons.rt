@@ -19,10 +19,15 @@ pub struct Common {
 }
 
 /// The common table expressions so far, in their order, and the place of each name's first one.
-#[derive(Drop)]
 pub struct Commons {
     list: Vec<Common>,
     places: BTreeMap<Str, usize>,
+}
+
+impl Drop for Commons {
+    fn drop(self) {
+        let Commons { list: _, places: _ } = self;
+    }
 }
 
 impl Model for Commons {

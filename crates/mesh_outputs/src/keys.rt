@@ -20,11 +20,18 @@ use mesh_values::{Cell, Str, same_text};
 use std::alloc::Global;
 
 /// A key: an expression, an item by its place or its name, or a number that no item has.
-#[derive(Drop)]
 pub enum Key {
     Part(Typed),
     Item { at: u64, expr: Expr },
     Missing { at: u64 },
+}
+
+impl Drop for Key {
+    fn drop(self) {
+        match self {
+            Key::Part(_) | Key::Item { at: _, expr: _ } | Key::Missing { at: _ } => {}
+        }
+    }
 }
 
 // The first item of that name.

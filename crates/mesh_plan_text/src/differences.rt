@@ -11,11 +11,20 @@ use std::alloc::Global;
 use std::cmp::Ordering;
 
 /// How a model differs, in a word, and the word of its kind.
-#[derive(Drop)]
 pub struct Difference {
     pub name: Name,
     pub word: Str,
     pub kind: Str,
+}
+
+impl Drop for Difference {
+    fn drop(self) {
+        let Difference {
+            name: _,
+            word: _,
+            kind: _,
+        } = self;
+    }
 }
 
 impl Keyed for Difference {

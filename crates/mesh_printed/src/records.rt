@@ -17,8 +17,9 @@ use std::io::Write;
 fn field_of(alloc: Global, cell: &Cell) -> Result<Str, Memory>
     ensures { IfOk result (λ made. made ≡ field cell.now) }
 {
-    match cast(alloc, ColType::Text, cell.copy()?)? {
-        Cell::Text(text) => Ok(text),
+    let text = cast(alloc, ColType::Text, cell.copy()?)?;
+    match &text {
+        Cell::Text(text) => text.copy(),
         Cell::Null | Cell::Int(_) | Cell::Date(_) | Cell::Bool(_) => Ok(Seq::new(alloc)),
     }
 }

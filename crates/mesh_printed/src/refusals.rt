@@ -13,7 +13,6 @@ use mesh_values::{Name, Str};
 use std::alloc::Global;
 
 /// Why a command isn't done. A place is a byte from 0 in the file, and a moment in seconds since 1970-01-01.
-#[derive(Drop)]
 pub enum Refusal {
     /// A fault of the project, or of the query and the names that the words have.
     Model { file: Str, at: u64, kind: FaultKind },
@@ -30,6 +29,28 @@ pub enum Refusal {
     ObjectMissing { object: Name },
     /// The book is of a former version.
     StateOld { version: u32 },
+}
+
+impl Drop for Refusal {
+    fn drop(self) {
+        match self {
+            Refusal::Model {
+                file: _,
+                at: _,
+                kind: _,
+            }
+            | Refusal::Usage
+            | Refusal::Warehouse
+            | Refusal::Memory
+            | Refusal::Input
+            | Refusal::MomentBehind { given: _, kept: _ }
+            | Refusal::EnvUnknown { env: _ }
+            | Refusal::EnvPending { env: _ }
+            | Refusal::BookBroken { part: _, place: _ }
+            | Refusal::ObjectMissing { object: _ }
+            | Refusal::StateOld { version: _ } => {}
+        }
+    }
 }
 
 impl From<Memory> for Refusal {

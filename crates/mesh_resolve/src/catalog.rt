@@ -107,11 +107,20 @@ fn find<'a, T: Named>(items: &'a [T], ascending: bool, name: &Name) -> Option<&'
 }
 
 /// What a query may read, and whether its models and its sources stand in the order of their names.
-#[derive(Drop)]
 pub(crate) struct Catalog<'a> {
     known: &'a Known,
     models_ascend: bool,
     sources_ascend: bool,
+}
+
+impl Drop for Catalog<'_> {
+    fn drop(self) {
+        let Catalog {
+            known: _,
+            models_ascend: _,
+            sources_ascend: _,
+        } = self;
+    }
 }
 
 impl<'a> Model for Catalog<'a> {

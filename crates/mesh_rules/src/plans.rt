@@ -8,7 +8,6 @@ use mesh_values::{Pairs, Str};
 /// change of it. `entries` has one entry for each node of the project. A pair of `removed` is a model that goes and a
 /// name that has the word of its kind as its model part; one of `unsteady` is a model and one that it reads. What
 /// `forgets` has is forgotten before anything is computed.
-#[derive(Drop)]
 pub struct Plan {
     pub env: Str,
     pub moment: i64,
@@ -19,6 +18,22 @@ pub struct Plan {
     pub unsteady: Pairs,
     pub dues: Dues,
     pub forgets: Forgets,
+}
+
+impl Drop for Plan {
+    fn drop(self) {
+        let Plan {
+            env: _,
+            moment: _,
+            run: _,
+            project: _,
+            entries: _,
+            removed: _,
+            unsteady: _,
+            dues: _,
+            forgets: _,
+        } = self;
+    }
 }
 
 impl Duplicate for Plan {

@@ -8,9 +8,14 @@ use std::marker::Model;
 
 /// The models of a project by rank and then by name, each with its parents' places. Each has what a model needs to be
 /// planned: its names are there, its rank is 1 above its highest parent's, and no two have one name.
-#[derive(Drop)]
 pub struct Project {
     pub nodes: Nodes,
+}
+
+impl Drop for Project {
+    fn drop(self) {
+        let Project { nodes: _ } = self;
+    }
 }
 
 impl Model for Project {

@@ -28,12 +28,22 @@ pub struct Meant {
 /// What an expression may name: columns of FROM items and, in an incremental model, macros. For the name of a column it
 /// has what that means without the name of a FROM item, and for the name of a FROM item where that stands; either is
 /// `None` where there are several.
-#[derive(Drop)]
 pub struct Sight {
     from: Vec<Seen>,
     macros: bool,
     columns: Index<Meant>,
     places: Index<usize>,
+}
+
+impl Drop for Sight {
+    fn drop(self) {
+        let Sight {
+            from: _,
+            macros: _,
+            columns: _,
+            places: _,
+        } = self;
+    }
 }
 
 impl Model for Sight {

@@ -4,29 +4,51 @@ use mesh_list::Seq;
 use mesh_values::Str;
 
 /// A whole query: its common table expressions, and what is selected.
-#[derive(Drop)]
 pub struct Surface {
     pub at: u64,
     pub ctes: Seq<SurfaceCte>,
     pub body: SurfaceUnion,
 }
 
-#[derive(Drop)]
+impl Drop for Surface {
+    fn drop(self) {
+        let Surface {
+            at: _,
+            ctes: _,
+            body: _,
+        } = self;
+    }
+}
+
 pub struct SurfaceCte {
     pub at: u64,
     pub name: Str,
     pub body: SurfaceUnion,
 }
 
+impl Drop for SurfaceCte {
+    fn drop(self) {
+        let SurfaceCte {
+            at: _,
+            name: _,
+            body: _,
+        } = self;
+    }
+}
+
 /// One or more SELECTs with UNION ALL between them.
-#[derive(Drop)]
 pub struct SurfaceUnion {
     pub at: u64,
     pub selects: Seq<SurfaceSelect>,
 }
 
+impl Drop for SurfaceUnion {
+    fn drop(self) {
+        let SurfaceUnion { at: _, selects: _ } = self;
+    }
+}
+
 /// `keys` are those of GROUP BY, and empty where it doesn't stand. A comma after the last item leaves no trace.
-#[derive(Drop)]
 pub struct SurfaceSelect {
     pub at: u64,
     pub distinct: bool,
@@ -37,8 +59,21 @@ pub struct SurfaceSelect {
     pub having: Option<OrExpr>,
 }
 
+impl Drop for SurfaceSelect {
+    fn drop(self) {
+        let SurfaceSelect {
+            at: _,
+            distinct: _,
+            items: _,
+            from: _,
+            filter: _,
+            keys: _,
+            having: _,
+        } = self;
+    }
+}
+
 /// `AllOf` has the columns of one FROM item.
-#[derive(Drop)]
 pub enum SurfaceItem {
     All {
         at: u64,
@@ -54,15 +89,37 @@ pub enum SurfaceItem {
     },
 }
 
-#[derive(Drop)]
+impl Drop for SurfaceItem {
+    fn drop(self) {
+        match self {
+            SurfaceItem::All { at: _ }
+            | SurfaceItem::AllOf { at: _, item: _ }
+            | SurfaceItem::Value {
+                at: _,
+                value: _,
+                alias: _,
+            } => {}
+        }
+    }
+}
+
 pub struct SurfaceFrom {
     pub at: u64,
     pub first: SurfaceRel,
     pub joins: Seq<SurfaceJoin>,
 }
 
+impl Drop for SurfaceFrom {
+    fn drop(self) {
+        let SurfaceFrom {
+            at: _,
+            first: _,
+            joins: _,
+        } = self;
+    }
+}
+
 /// A comma and CROSS JOIN mean the same join.
-#[derive(Drop)]
 pub enum SurfaceJoin {
     Comma {
         at: u64,
@@ -84,11 +141,40 @@ pub enum SurfaceJoin {
     },
 }
 
+impl Drop for SurfaceJoin {
+    fn drop(self) {
+        match self {
+            SurfaceJoin::Comma { at: _, rel: _ }
+            | SurfaceJoin::Cross { at: _, rel: _ }
+            | SurfaceJoin::Inner {
+                at: _,
+                rel: _,
+                on: _,
+            }
+            | SurfaceJoin::Left {
+                at: _,
+                rel: _,
+                on: _,
+            } => {}
+        }
+    }
+}
+
 /// A name of one part or two, and another name for it in this SELECT.
-#[derive(Drop)]
 pub struct SurfaceRel {
     pub at: u64,
     pub schema: Option<Str>,
     pub name: Str,
     pub alias: Option<Str>,
+}
+
+impl Drop for SurfaceRel {
+    fn drop(self) {
+        let SurfaceRel {
+            at: _,
+            schema: _,
+            name: _,
+            alias: _,
+        } = self;
+    }
 }

@@ -18,9 +18,15 @@ pub const FIRST_SECOND: i64 = -62_135_596_800;
 pub const END_OF_SECONDS: i64 = 253_402_300_800;
 
 /// The seconds that are recorded, which contracts see as the list of their spans.
-#[derive(Drop, PartialEq, Eq)]
+#[derive(PartialEq, Eq)]
 pub struct Ranges {
     spans: Spans,
+}
+
+impl Drop for Ranges {
+    fn drop(self) {
+        let Ranges { spans: _ } = self;
+    }
 }
 
 impl Model for Ranges {

@@ -6,7 +6,6 @@ use mesh_list::Memory;
 use mesh_values::{CronFault, Name, Names, Str};
 
 /// What is wrong, in the order of the printed faults M1 to M20, of which M17 has two.
-#[derive(Drop)]
 pub enum FaultKind {
     Syntax,
     TooLarge { what: Str, limit: u64 },
@@ -29,6 +28,37 @@ pub enum FaultKind {
     BadMacro { name: Str },
     FingerprintClash { stored: [u8; 32], given: [u8; 32] },
     Outside { name: Str },
+}
+
+impl Drop for FaultKind {
+    fn drop(self) {
+        match self {
+            FaultKind::Syntax
+            | FaultKind::TooLarge { what: _, limit: _ }
+            | FaultKind::UnknownProperty { name: _ }
+            | FaultKind::BadProperty { name: _ }
+            | FaultKind::DuplicateModel { name: _ }
+            | FaultKind::UnknownRelation { name: _ }
+            | FaultKind::UnknownColumn { name: _ }
+            | FaultKind::Ambiguous { name: _ }
+            | FaultKind::TypeMismatch
+            | FaultKind::Duplicate { name: _ }
+            | FaultKind::NotGrouped
+            | FaultKind::Cycle { names: _ }
+            | FaultKind::BadCron { fault: _ }
+            | FaultKind::NoStart
+            | FaultKind::TimeColumn { name: _ }
+            | FaultKind::BadRow { row: _, field: _ }
+            | FaultKind::SourceMissing { name: _ }
+            | FaultKind::SourceShape { name: _ }
+            | FaultKind::BadMacro { name: _ }
+            | FaultKind::FingerprintClash {
+                stored: _,
+                given: _,
+            }
+            | FaultKind::Outside { name: _ } => {}
+        }
+    }
 }
 
 /// `at` is a place in the text's bytes.

@@ -7,7 +7,7 @@ pub type Tokens = Seq<Token>;
 
 /// What a token is. Identifiers and the names of macros are in lower case and texts are without their quotes, `''` in
 /// them being one quote. The sign `!=` is `<>`.
-#[derive(Drop, PartialEq, Eq)]
+#[derive(PartialEq, Eq)]
 pub enum TokenKind {
     Ident(Str),
     Number(u64),
@@ -16,10 +16,32 @@ pub enum TokenKind {
     Sign(Str),
 }
 
+impl Drop for TokenKind {
+    fn drop(self) {
+        match self {
+            TokenKind::Ident(_)
+            | TokenKind::Number(_)
+            | TokenKind::Text(_)
+            | TokenKind::Macro(_)
+            | TokenKind::Sign(_) => {}
+        }
+    }
+}
+
 /// A token, and the bytes from `start` up to `end` that it was read from.
-#[derive(Drop, PartialEq, Eq)]
+#[derive(PartialEq, Eq)]
 pub struct Token {
     pub start: u64,
     pub end: u64,
     pub kind: TokenKind,
+}
+
+impl Drop for Token {
+    fn drop(self) {
+        let Token {
+            start: _,
+            end: _,
+            kind: _,
+        } = self;
+    }
 }

@@ -6,7 +6,7 @@ use crate::values::Str;
 use mesh_list::{Duplicate, Memory, Same};
 
 /// How a model's rows are kept.
-#[derive(Drop, PartialEq, Eq)]
+#[derive(PartialEq, Eq)]
 pub enum Kind {
     /// The rows of the whole query.
     Full,
@@ -17,6 +17,20 @@ pub enum Kind {
     /// For each unit of the schedule, the query's rows whose time column lies in it. A unit is computed again with each of
     /// the next `lookback` units of the schedule.
     Incremental { time: Str, lookback: u32 },
+}
+
+impl Drop for Kind {
+    fn drop(self) {
+        match self {
+            Kind::Full
+            | Kind::View
+            | Kind::Seed
+            | Kind::Incremental {
+                time: _,
+                lookback: _,
+            } => {}
+        }
+    }
 }
 
 /// Whether a model is computed unit by unit.

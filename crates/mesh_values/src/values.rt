@@ -35,7 +35,7 @@ pub enum ColType {
 }
 
 /// One value of a row, or NULL. The day of a DATE counts from 1970-01-01, in days.
-#[derive(Drop, PartialEq, Eq, PartialOrd, Ord)]
+#[derive(PartialEq, Eq, PartialOrd, Ord)]
 pub enum Cell {
     Null,
     Int(i64),
@@ -44,17 +44,40 @@ pub enum Cell {
     Bool(bool),
 }
 
+impl Drop for Cell {
+    fn drop(self) {
+        match self {
+            Cell::Null | Cell::Int(_) | Cell::Text(_) | Cell::Date(_) | Cell::Bool(_) => {}
+        }
+    }
+}
+
 /// The two-part name of a model, a source, a table or a view.
-#[derive(Drop, PartialEq, Eq, PartialOrd, Ord)]
+#[derive(PartialEq, Eq, PartialOrd, Ord)]
 pub struct Name {
     pub schema: Str,
     pub model: Str,
 }
 
-#[derive(Drop, PartialEq, Eq)]
+impl Drop for Name {
+    fn drop(self) {
+        let Name {
+            schema: _,
+            model: _,
+        } = self;
+    }
+}
+
+#[derive(PartialEq, Eq)]
 pub struct Column {
     pub name: Str,
     pub kind: ColType,
+}
+
+impl Drop for Column {
+    fn drop(self) {
+        let Column { name: _, kind: _ } = self;
+    }
 }
 
 /// The columns and the rows of a file.

@@ -20,12 +20,22 @@ pub(crate) type Prints = BTreeMap<[u8; 32], bool>;
 pub(crate) type Holders = BTreeMap<Name, [u8; 32]>;
 
 /// The fingerprints of a book and of a project, those that have an object, and those of a list.
-#[derive(Drop)]
 pub(crate) struct Index {
     pub stored: Prints,
     pub given: Prints,
     pub objects: Holders,
     pub compared: Holders,
+}
+
+impl Drop for Index {
+    fn drop(self) {
+        let Index {
+            stored: _,
+            given: _,
+            objects: _,
+            compared: _,
+        } = self;
+    }
 }
 
 // One fingerprint more.

@@ -16,16 +16,26 @@ use std::cmp::Ordering;
 use std::collections::BTreeMap;
 
 /// What snapshots of one list are put in order by.
-#[derive(Drop)]
 pub(crate) struct Rank {
     pub rank: u32,
     pub name: Name,
 }
 
+impl Drop for Rank {
+    fn drop(self) {
+        let Rank { rank: _, name: _ } = self;
+    }
+}
+
 /// A snapshot of a book, where it lies.
-#[derive(Drop)]
 pub(crate) struct Standing<'a> {
     pub snapshot: &'a Snapshot,
+}
+
+impl Drop for Standing<'_> {
+    fn drop(self) {
+        let Standing { snapshot: _ } = self;
+    }
 }
 
 impl<'a> Keyed for Standing<'a> {
