@@ -28,15 +28,22 @@
 //! - `stops CALL WORD..` runs a command, and then again from the world before with each call of that kind failing in turn,
 //!   each time followed by the whole command, and prints both statuses, whether the views show the same, and the second text;
 //!   at the end the world is as it was.
+//!
+//! An example whose warehouse has no other world than its commands make, and of which no call fails, is run over two further
+//! warehouses side by side, records in a map and SQLite in memory: what comes of a command, or is shown, over one of them and
+//! isn't the same is printed behind it. At the end it is printed how many commands were run over all three, and how often
+//! their views were shown.
 #![tactic(auto)]
 
 mod arrange;
+mod beside;
 mod report;
 mod stage;
 mod trouble;
 mod turns;
 
 use crate::arrange::{arrange, is};
+use crate::beside::{Beside, Tally, is_plain};
 use crate::report::{put, put_counts, put_outcome, put_targets, put_views};
 use crate::stage::Stage;
 use crate::trouble::Trouble;
@@ -61,22 +68,29 @@ fn read(alloc: Global, data: &mut DirFolder, path: &[u8]) -> Result<Str, Trouble
 fn command<R: Threads + Sync>(
     rt: &R,
     stage: &mut Stage,
+    beside: &mut Beside,
     words: &[Str],
     report: &mut Vec<u8>,
 ) -> Result<(), Trouble> {
     let outcome = stage.run(rt, words)?;
-    put_outcome(stage.alloc, report, &outcome)
+    put_outcome(stage.alloc, report, &outcome)?;
+    beside.command(rt, stage, words, &outcome, report)
 }
 
-fn put_world(stage: &Stage, report: &mut Vec<u8>) -> Result<(), Trouble> {
-    put_views(stage.alloc, report, stage.house.world())?;
-    put_counts(stage.alloc, report, stage.house.world())
+fn put_world(stage: &Stage, beside: &mut Beside, report: &mut Vec<u8>) -> Result<(), Trouble> {
+    let world = stage.house.world();
+    let mut text = Vec::new(stage.alloc);
+    put_views(stage.alloc, &mut text, world)?;
+    put(report, text.as_slice())?;
+    put_counts(stage.alloc, report, world)?;
+    beside.look(stage.alloc, world.views.as_slice(), text.as_slice(), report)
 }
 
 /// Runs one step, and adds what is to be printed.
 fn perform<R: Threads + Sync>(
     rt: &R,
     stage: &mut Stage,
+    beside: &mut Beside,
     words: &[Str],
     report: &mut Vec<u8>,
 ) -> Result<(), Trouble> {
@@ -84,8 +98,8 @@ fn perform<R: Threads + Sync>(
         return Err(Trouble::Script);
     };
     match rest {
-        _ if is(first, b"mesh") => command(rt, stage, rest, report),
-        [] if is(first, b"show") => put_world(stage, report),
+        _ if is(first, b"mesh") => command(rt, stage, beside, rest, report),
+        [] if is(first, b"show") => put_world(stage, beside, report),
         [] if is(first, b"targets") => put_targets(report, stage.house.world()),
         [path, command @ ..] if is(first, b"cuts") => cuts(rt, stage, path, command, report),
         [kind, command @ ..] if is(first, b"stops") => stops(rt, stage, kind, command, report),
@@ -97,12 +111,13 @@ fn perform<R: Threads + Sync>(
 fn step<R: Threads + Sync>(
     rt: &R,
     stage: &mut Stage,
+    beside: &mut Beside,
     line: &[u8],
     report: &mut Vec<u8>,
 ) -> Result<(), Trouble> {
     let words = line_words(stage.alloc, line)?.ok_or(Trouble::Script)?;
     let mut printed = Vec::new(stage.alloc);
-    perform(rt, stage, words.as_slice(), &mut printed)?;
+    perform(rt, stage, beside, words.as_slice(), &mut printed)?;
     if printed.is_empty() {
         return Ok(());
     }
@@ -115,12 +130,13 @@ fn step<R: Threads + Sync>(
 fn play<R: Threads + Sync>(
     rt: &R,
     stage: &mut Stage,
+    beside: &mut Beside,
     script: &Str,
     report: &mut Vec<u8>,
 ) -> Result<(), Trouble> {
     for line in script.as_slice().split(|byte| *byte == b'\n') {
         if !is_skipped(line) {
-            step(rt, stage, line, report)?;
+            step(rt, stage, beside, line, report)?;
         }
     }
     Ok(())
@@ -143,21 +159,33 @@ fn furnish(
     Ok(())
 }
 
-fn play_over<R: Threads + Sync>(
-    rt: &R,
+/// The script of an example, whose files are given to the stage.
+fn script_of(
     alloc: Global,
     data: &mut DirFolder,
     paths: &[Str],
     name: &[u8],
     stage: &mut Stage,
-    report: &mut Vec<u8>,
-) -> Result<(), Trouble> {
+) -> Result<Str, Trouble> {
     let mut front = Vec::from_slice(alloc, name)?;
     front.push(b'/')?;
     furnish(alloc, data, paths, front.as_slice(), stage)?;
     front.extend_from_slice(b"script")?;
-    let script = read(alloc, data, front.as_slice())?;
-    play(rt, stage, &script, report)
+    read(alloc, data, front.as_slice())
+}
+
+/// Plays a script, beside two further warehouses where it may be, and counts what was run over them.
+fn play_beside<R: Threads + Sync>(
+    rt: &R,
+    stage: &mut Stage,
+    script: &Str,
+    tally: &mut Tally,
+    report: &mut Vec<u8>,
+) -> Result<(), Trouble> {
+    let mut beside = Beside::new(stage.alloc, is_plain(script.as_slice()))?;
+    let done = play(rt, stage, &mut beside, script, report);
+    tally.add(beside.close());
+    done
 }
 
 /// Plays an example.
@@ -167,15 +195,23 @@ fn example<R: Threads + Sync>(
     data: &mut DirFolder,
     paths: &[Str],
     name: &[u8],
+    tally: &mut Tally,
     report: &mut Vec<u8>,
 ) -> Result<(), Trouble> {
     put(report, b"== ")?;
     put(report, name)?;
     put(report, b"\n")?;
     let mut stage = Stage::new(alloc);
-    let done = play_over(rt, alloc, data, paths, name, &mut stage, report);
-    drop(stage);
-    done
+    let script = script_of(alloc, data, paths, name, &mut stage)?;
+    play_beside(rt, &mut stage, &script, tally, report)
+}
+
+fn put_tally(alloc: Global, report: &mut Vec<u8>, tally: Tally) -> Result<(), Trouble> {
+    let (commands, looks) = (tally.commands, tally.looks);
+    let text = format!(in alloc;
+        "over three warehouses: {commands} commands, {looks} looks at the views\n"
+    )?;
+    put(report, text.as_bytes())
 }
 
 fn examples<R: Threads + Sync>(
@@ -186,12 +222,13 @@ fn examples<R: Threads + Sync>(
 ) -> Result<(), Trouble> {
     let rows = u8::copy_items(alloc, b"rows")?;
     let paths = data.list(alloc, &rows)?;
+    let mut tally = Tally::new();
     for path in paths.as_slice() {
         if let Some(name) = path.as_slice().strip_suffix(b"/script") {
-            example(rt, alloc, data, paths.as_slice(), name, report)?;
+            example(rt, alloc, data, paths.as_slice(), name, &mut tally, report)?;
         }
     }
-    Ok(())
+    put_tally(alloc, report, tally)
 }
 
 /// Plays all examples, in the order of their names, and adds what is to be printed. Commands compute by the threads of `rt`.

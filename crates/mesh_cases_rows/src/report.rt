@@ -1,6 +1,6 @@
 // What is printed of a command and of what its house shows.
 use crate::trouble::Trouble;
-use mesh_house::{MemHouse, ViewOf, World};
+use mesh_house::{MemHouse, ViewOf, Warehouse, World};
 use mesh_layer::show;
 use mesh_list::{Duplicate, Seq};
 use mesh_printed::rows_text;
@@ -77,10 +77,10 @@ fn put_table(
     put(report, text.as_slice())
 }
 
-fn put_shown(
+fn put_shown<W: Warehouse>(
     alloc: Global,
     report: &mut Vec<u8>,
-    house: &mut MemHouse,
+    house: &mut W,
     view: &ViewOf,
     columns: &Columns,
 ) -> Result<(), Trouble> {
@@ -91,10 +91,10 @@ fn put_shown(
 }
 
 /// Adds a view, the number of its target and its rows.
-fn put_view(
+fn put_view<W: Warehouse>(
     alloc: Global,
     report: &mut Vec<u8>,
-    house: &mut MemHouse,
+    house: &mut W,
     view: &ViewOf,
     number: u64,
 ) -> Result<(), Trouble> {
@@ -102,16 +102,17 @@ fn put_view(
     put_name(report, &view.view)?;
     let at = format!(in alloc; " at {number}\n")?;
     put(report, at.as_bytes())?;
-    match house.world().head(&view.target)? {
+    match house.head(alloc, &view.target)? {
         Some(columns) => put_shown(alloc, report, house, view, &columns),
         None => Err(Trouble::Dangling),
     }
 }
 
-fn put_each(
+/// Adds each of some views with its rows, as a warehouse shows them.
+pub fn put_each<W: Warehouse>(
     alloc: Global,
     report: &mut Vec<u8>,
-    house: &mut MemHouse,
+    house: &mut W,
     views: &[ViewOf],
 ) -> Result<(), Trouble> {
     for view in views {

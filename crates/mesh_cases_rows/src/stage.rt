@@ -161,39 +161,60 @@ impl Stage {
         Ok(())
     }
 
-    fn run_over<R: Threads + Sync>(
-        &mut self,
-        rt: &R,
-        words: &[Str],
-        over: &mut Streams,
-    ) -> Result<Outcome, Memory> {
-        let before = self.house.calls();
-        let status = mesh_cli::mesh(
+    /// Runs one command, whose calls are numbered from 0.
+    pub fn run<R: Threads + Sync>(&mut self, rt: &R, words: &[Str]) -> Result<Outcome, Trouble> {
+        self.begin()?;
+        let over = self.streams()?;
+        run_over(
             rt,
             self.alloc,
             words,
             &mut self.folder,
             &mut self.house,
-            &mut over.clock,
-            &mut over.input,
-            &mut over.out,
-            &mut over.err,
-        );
-        let (out, err) = both(over.out.bytes(), over.err.bytes())?;
-        Ok(Outcome {
-            status,
-            changes: self.house.calls().saturating_sub(before),
-            out,
-            err,
-        })
+            over,
+        )
     }
 
-    /// Runs one command, whose calls are numbered from 0.
-    pub fn run<R: Threads + Sync>(&mut self, rt: &R, words: &[Str]) -> Result<Outcome, Trouble> {
-        self.begin()?;
-        match self.streams() {
-            Ok(mut over) => Ok(self.run_over(rt, words, &mut over)?),
-            Err(trouble) => Err(trouble),
-        }
+    /// Runs one command over another warehouse.
+    pub fn run_beside<R: Threads + Sync, W: Warehouse>(
+        &mut self,
+        rt: &R,
+        words: &[Str],
+        house: &mut W,
+    ) -> Result<Outcome, Trouble> {
+        let over = self.streams()?;
+        run_over(rt, self.alloc, words, &mut self.folder, house, over)
     }
+}
+
+/// What comes of a command over a warehouse.
+fn run_over<R: Threads + Sync, W: Warehouse>(
+    rt: &R,
+    alloc: Global,
+    words: &[Str],
+    folder: &mut MemFolder,
+    house: &mut W,
+    over: Streams,
+) -> Result<Outcome, Trouble> {
+    let mut over = over;
+    let before = house.calls();
+    let status = mesh_cli::mesh(
+        rt,
+        alloc,
+        words,
+        folder,
+        house,
+        &mut over.clock,
+        &mut over.input,
+        &mut over.out,
+        &mut over.err,
+    );
+    let changes = house.calls().saturating_sub(before);
+    let (out, err) = both(over.out.bytes(), over.err.bytes())?;
+    Ok(Outcome {
+        status,
+        changes,
+        out,
+        err,
+    })
 }

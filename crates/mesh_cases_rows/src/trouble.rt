@@ -1,4 +1,5 @@
 // Why the examples could not be run to their end.
+use mesh_house::WhFail;
 use mesh_io::IoFail;
 use mesh_layer::ShowFault;
 use mesh_list::Memory;
@@ -36,6 +37,15 @@ impl From<IoFail> for Trouble {
         match fail {
             IoFail::Failed => Trouble::Outside,
             IoFail::Memory => Trouble::Memory,
+        }
+    }
+}
+
+impl From<WhFail> for Trouble {
+    fn from(fail: WhFail) -> Trouble {
+        match fail {
+            WhFail::Failed => Trouble::Outside,
+            WhFail::Memory => Trouble::Memory,
         }
     }
 }
