@@ -5,12 +5,14 @@ that forgets 200,000 units of a version, which adjoin or are every second one; a
 fingerprints, which are of as many models or of one. Their seconds are those of a file that makes the changes at once and
 counts what is then there, without one that has the same changes and makes none. Last the suite `rows`: the views of a further
 environment of many models, by `apply` without those of `plan`, and a janitor's sweep of the snapshots and tables of
-environments that are over. Prints seconds of processor and growth.
+environments that are over; and a question over a view of 100,000 rows, beside the evaluation of its query alone, as the suite
+`queries` makes it. Prints seconds of processor and growth.
 
 Usage: bench/house.py [PROGRAM], where PROGRAM is crates/mesh_answers/out/mesh_answers if left out (`rt run` makes it)."""
 import random
 import sys
 
+from eval import ours
 import played
 from measured import Suite
 
@@ -92,6 +94,19 @@ def swept(count):
     return played.each(played.PROGRAM, files, front, ["mesh janitor --execution-time 2024-02-03T00:30"])
 
 
+def asked(rows):
+    """The seconds of a question over a view of a table of so many rows, and those of evaluating its query alone."""
+    lines = "".join(f"{n},{n}\n" for n in range(rows))
+    files = {
+        "project/seeds/l.csv": "k,v\n" + lines,
+        "project/models/l.sql": "MODEL (name a.s, kind SEED (path '../seeds/l.csv'))\n",
+        "project/models/m.sql": "MODEL (name a.l, kind FULL); SELECT k, v FROM a.s\n",
+    }
+    question = 'mesh fetchdf "SELECT COUNT(DISTINCT v) AS n FROM a.l"'
+    ask = played.each(played.PROGRAM, files, ["mesh apply --execution-time 2024-01-03T00:30"], [question] * TIMES)
+    return ask, ours(Suite("queries", *sys.argv[1:]), "number", rows)[0]
+
+
 def main():
     suite = Suite("house", *sys.argv[1:])
     half = recorded(suite, 2048)
@@ -111,6 +126,8 @@ def main():
     print(f"4,096 models promoted: {full:.4f} s, growth {full / half:.2f}")
     half, full = swept(1250), swept(2500)
     print(f"10,000 snapshots and tables swept: {full:.4f} s, growth {full / half:.2f}")
+    ask, alone = asked(100_000)
+    print(f"a question over a view of 100,000 rows: {ask:.4f} s, its query alone {alone:.4f} s, ratio {ask / alone:.2f}")
 
 
 if __name__ == "__main__":

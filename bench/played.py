@@ -1,11 +1,11 @@
 """Seconds of processor that a step of a script takes, as the suite `rows` of `mesh_answers` plays it over a project and a
-warehouse in memory."""
+warehouse in memory alone."""
 from measured import PROGRAM, ran
 
 
 def seconds(program, files, script, last=0, status=0):
     """The least seconds of two runs of a script over an example's files, whose last commands have this status, and all others 0."""
-    example = {**files, "script": "\n".join(script) + "\n"}
+    example = {**files, "script": "\n".join(["alone", *script]) + "\n"}
     least, _, said = ran([program, "rows"], {f"rows/example/{path}": text for path, text in example.items()}, 2)
     answered = [line for line in said.splitlines() if line.startswith("status ")]
     assert len(answered) == sum(line.startswith("mesh ") for line in script), said[:1000]

@@ -10,8 +10,9 @@ use mesh_values::{Name, Str, Unit, same_text};
 use std::alloc::Global;
 use std::mem::replace;
 
-fn number_of(word: &Str) -> Result<u64, Trouble> {
-    let Ok(text) = std::str::from_utf8(word.as_slice()) else {
+/// The number that a word is.
+pub fn number_of(word: &[u8]) -> Result<u64, Trouble> {
+    let Ok(text) = std::str::from_utf8(word) else {
         return Err(Trouble::Script);
     };
     text.parse::<u64>().map_err(|_| Trouble::Script)
@@ -305,13 +306,13 @@ fn write(stage: &mut Stage, path: &Str, bytes: Result<Str, Trouble>) -> Result<(
 fn arrange_over(stage: &mut Stage, kind: &Str, words: &[Str], bytes: &Str) -> Result<(), Trouble> {
     match words {
         [path, _] if is(kind, b"write") => write(stage, path, Ok(bytes.copy()?)),
-        [number, _] if is(kind, b"copies") => copies(stage, number_of(number)?, bytes),
+        [number, _] if is(kind, b"copies") => copies(stage, number_of(number.as_slice())?, bytes),
         [path, _, length] if is(kind, b"cut") => {
-            let cut = front(stage.alloc, bytes, number_of(length)?);
+            let cut = front(stage.alloc, bytes, number_of(length.as_slice())?);
             write(stage, path, cut)
         }
         [path, _, length] if is(kind, b"pad") => {
-            let longer = padded(stage.alloc, bytes, number_of(length)?);
+            let longer = padded(stage.alloc, bytes, number_of(length.as_slice())?);
             write(stage, path, longer)
         }
         _ => Err(Trouble::Script),
@@ -327,7 +328,7 @@ fn set_clock(stage: &mut Stage, moment: &Str) -> Result<(), Trouble> {
 fn set_input(stage: &mut Stage, path: &Str, length: Option<&Str>) -> Result<(), Trouble> {
     let bytes = stage.file(path)?;
     let input = match length {
-        Some(length) => padded(stage.alloc, &bytes, number_of(length)?)?,
+        Some(length) => padded(stage.alloc, &bytes, number_of(length.as_slice())?)?,
         None => bytes,
     };
     drop(replace(&mut stage.input, input));
@@ -335,7 +336,7 @@ fn set_input(stage: &mut Stage, path: &Str, length: Option<&Str>) -> Result<(), 
 }
 
 fn set_failing(stage: &mut Stage, call: &Str, number: &Str) -> Result<(), Trouble> {
-    stage.failing = failing(call, number_of(number)?)?;
+    stage.failing = failing(call, number_of(number.as_slice())?)?;
     Ok(())
 }
 
@@ -345,6 +346,8 @@ fn arrange_alone(stage: &mut Stage, kind: &Str) -> Result<(), Trouble> {
         stage.empty();
     } else if is(kind, b"fail") {
         stage.failing = None;
+    } else if is(kind, b"alone") {
+        return Ok(());
     } else {
         return Err(Trouble::Script);
     }
@@ -355,6 +358,8 @@ fn arrange_alone(stage: &mut Stage, kind: &Str) -> Result<(), Trouble> {
 fn arrange_one(stage: &mut Stage, kind: &Str, word: &Str) -> Result<(), Trouble> {
     if is(kind, b"delete") {
         stage.folder.delete(word);
+        Ok(())
+    } else if is(kind, b"kept") {
         Ok(())
     } else if is(kind, b"clock") {
         set_clock(stage, word)

@@ -1,8 +1,9 @@
 // The commands of an example over two further warehouses: records in a map, and SQLite in memory.
+use crate::arrange::number_of;
 use crate::report::{Outcome, put, put_each, put_outcome};
 use crate::stage::Stage;
 use crate::trouble::Trouble;
-use mesh_house::{ViewOf, Warehouse};
+use mesh_house::{Fail, Fails, ViewOf, Warehouse};
 use mesh_keep::MapKeeper;
 use mesh_kept::{KeepFault, KeptHouse};
 use mesh_list::Seq;
@@ -12,10 +13,11 @@ use sqlite::{Connection, MemStore};
 use std::alloc::Global;
 use std::thread::Threads;
 
-/// How many commands were run over all three warehouses, and how often their views were shown.
+/// How many commands were run over records in a map and over SQLite too, and how often views were shown over the former.
 #[derive(Clone, Copy)]
 pub struct Tally {
-    pub commands: u64,
+    pub mapped: u64,
+    pub stored: u64,
     pub looks: u64,
 }
 
@@ -23,28 +25,45 @@ impl Tally {
     /// Nothing yet.
     pub fn new() -> Tally {
         Tally {
-            commands: 0,
+            mapped: 0,
+            stored: 0,
             looks: 0,
         }
     }
 
     pub fn add(&mut self, more: Tally) {
-        self.commands = self.commands.saturating_add(more.commands);
+        self.mapped = self.mapped.saturating_add(more.mapped);
+        self.stored = self.stored.saturating_add(more.stored);
         self.looks = self.looks.saturating_add(more.looks);
     }
 }
 
-/// The two warehouses, whether the example is run over them, and what was.
+/// The two warehouses, whether the example is run over each, and what was.
 pub struct Beside {
     mapped: KeptHouse<MapKeeper>,
     stored: SqliteHouse<MemStore>,
-    is_plain: bool,
+    is_mapped: bool,
+    is_stored: bool,
     tally: Tally,
 }
 
-/// An empty warehouse over records in a map.
-fn mapped(alloc: Global) -> Result<KeptHouse<MapKeeper>, Trouble> {
-    match KeptHouse::new(alloc, MapKeeper::new(alloc, Seq::new(alloc))) {
+/// The write of this number is to fail before its effect, where there is one.
+fn fails_of(alloc: Global, write: Option<u64>) -> Result<Fails, Trouble> {
+    let mut fails = Seq::new(alloc);
+    if let Some(call) = write {
+        fails.push(Fail {
+            change: true,
+            call,
+            after: false,
+        })?;
+    }
+    Ok(fails)
+}
+
+/// An empty warehouse over records in a map, of which one write may fail.
+fn mapped(alloc: Global, write: Option<u64>) -> Result<KeptHouse<MapKeeper>, Trouble> {
+    let fails = fails_of(alloc, write)?;
+    match KeptHouse::new(alloc, MapKeeper::new(alloc, fails)) {
         Ok(house) => Ok(house),
         Err(KeepFault::Failed(_)) => Err(Trouble::Outside),
         Err(KeepFault::Memory(_)) => Err(Trouble::Memory),
@@ -71,9 +90,9 @@ fn close(house: SqliteHouse<MemStore>) {
     drop(house.into_keeper().into_connection());
 }
 
-/// The steps that put a world in place of the warehouse's own, or have calls fail.
-const GIVEN: [&[u8]; 7] = [
-    b"fail", b"stops", b"cuts", b"book", b"lose", b"hide", b"empty",
+/// The steps that put a world in place of the warehouse's own, have calls fail, or say that nothing else is run.
+const GIVEN: [&[u8]; 8] = [
+    b"alone", b"fail", b"stops", b"cuts", b"book", b"lose", b"hide", b"empty",
 ];
 
 fn is_given(step: &[u8]) -> bool {
@@ -92,8 +111,18 @@ fn first_word(line: &[u8]) -> &[u8] {
     }
 }
 
+/// The number of the write that is to fail over records in a map, where a step says one.
+fn failing_write(script: &[u8]) -> Result<Option<u64>, Trouble> {
+    for line in script.split(|byte| *byte == b'\n') {
+        if let Some(number) = line.strip_prefix(b"kept ") {
+            return Ok(Some(number_of(number)?));
+        }
+    }
+    Ok(None)
+}
+
 /// Whether the warehouse of an example has no other world than its commands make, and no call of it fails.
-pub fn is_plain(script: &[u8]) -> bool {
+fn is_plain(script: &[u8]) -> bool {
     for line in script.split(|byte| *byte == b'\n') {
         if is_given(first_word(line)) {
             return false;
@@ -140,14 +169,17 @@ const MAPPED: &[u8] = b"over records in a map:\n";
 const STORED: &[u8] = b"over SQLite:\n";
 
 impl Beside {
-    /// Two empty warehouses.
-    pub fn new(alloc: Global, is_plain: bool) -> Result<Beside, Trouble> {
-        let mapped = mapped(alloc)?;
+    /// Two empty warehouses for an example with this script.
+    pub fn new(alloc: Global, script: &[u8]) -> Result<Beside, Trouble> {
+        let is_plain = is_plain(script);
+        let write = failing_write(script)?;
+        let mapped = mapped(alloc, write)?;
         match stored(alloc) {
             Ok(stored) => Ok(Beside {
                 mapped,
                 stored,
-                is_plain,
+                is_mapped: is_plain || write.is_some(),
+                is_stored: is_plain,
                 tally: Tally::new(),
             }),
             Err(trouble) => {
@@ -157,7 +189,7 @@ impl Beside {
         }
     }
 
-    /// Runs a command over both, and adds each outcome that isn't this one.
+    /// Runs a command over each, and adds each outcome that isn't this one.
     pub fn command<R: Threads + Sync>(
         &mut self,
         rt: &R,
@@ -166,17 +198,20 @@ impl Beside {
         outcome: &Outcome,
         report: &mut Vec<u8>,
     ) -> Result<(), Trouble> {
-        if !self.is_plain {
-            return Ok(());
+        if self.is_mapped {
+            self.tally.mapped = self.tally.mapped.saturating_add(1);
+            let other = stage.run_beside(rt, words, &mut self.mapped)?;
+            put_other(stage.alloc, report, MAPPED, outcome, other)?;
         }
-        self.tally.commands = self.tally.commands.saturating_add(1);
-        let other = stage.run_beside(rt, words, &mut self.mapped)?;
-        put_other(stage.alloc, report, MAPPED, outcome, other)?;
-        let other = stage.run_beside(rt, words, &mut self.stored)?;
-        put_other(stage.alloc, report, STORED, outcome, other)
+        if self.is_stored {
+            self.tally.stored = self.tally.stored.saturating_add(1);
+            let other = stage.run_beside(rt, words, &mut self.stored)?;
+            put_other(stage.alloc, report, STORED, outcome, other)?;
+        }
+        Ok(())
     }
 
-    /// Shows some views of both, and adds each text that isn't this one.
+    /// Shows some views of each, and adds each text that isn't this one.
     pub fn look(
         &mut self,
         alloc: Global,
@@ -184,12 +219,14 @@ impl Beside {
         text: &[u8],
         report: &mut Vec<u8>,
     ) -> Result<(), Trouble> {
-        if !self.is_plain {
-            return Ok(());
+        if self.is_mapped {
+            self.tally.looks = self.tally.looks.saturating_add(1);
+            put_look(alloc, report, MAPPED, &mut self.mapped, views, text)?;
         }
-        self.tally.looks = self.tally.looks.saturating_add(1);
-        put_look(alloc, report, MAPPED, &mut self.mapped, views, text)?;
-        put_look(alloc, report, STORED, &mut self.stored, views, text)
+        if self.is_stored {
+            put_look(alloc, report, STORED, &mut self.stored, views, text)?;
+        }
+        Ok(())
     }
 
     /// How much was run over both, which ends them.
@@ -197,7 +234,8 @@ impl Beside {
         let Beside {
             mapped,
             stored,
-            is_plain: _,
+            is_mapped: _,
+            is_stored: _,
             tally,
         } = self;
         drop(mapped.into_keeper());
