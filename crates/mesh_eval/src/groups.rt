@@ -3,14 +3,13 @@ ghost use Rattle.std.specs.Prelude.{◌≡◌, [], ◌++◌, map, IfOk, OnOk};
 ghost use Rattle.std.specs.List.{flat_map};
 ghost use Rattle.mesh_meaning.specs.Aggregates.{distinct};
 ghost use Rattle.mesh_index.specs.Places.{places};
-ghost use Rattle.mesh_eval.specs.Frames.{scope_of, picked, all_places};
+ghost use Rattle.mesh_expressions.specs.Frames.{scope_of, picked, all_places};
 ghost use Rattle.mesh_meaning.specs.Sel.{holds, same_row, key_list, group_of, group_row, grouped_rows};
 
-use crate::expressions::{ev, is_met, item_row, key_list};
-use crate::frames::{Frame, Members};
-use crate::joined::JoinedRows;
 use mesh_base::{Expr, Select};
+use mesh_expressions::{Frame, Members, ev, is_met, item_row, key_list};
 use mesh_index::Index;
+use mesh_joined::JoinedRows;
 use mesh_list::{Memory, push_made};
 use mesh_values::{Bounds, Cell, Columns, Row, Rows};
 use std::alloc::Global;

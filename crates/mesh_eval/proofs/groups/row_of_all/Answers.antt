@@ -1,7 +1,7 @@
 use Rattle.std.proofs.Common.{◌≡◌, [], get_or, IfOk, ap, subst, ◌∙◌}
 use Rattle.std.specs.List.{range_with_len}
 use Rattle.mesh_meaning.specs.Sel.{group_row}
-use Rattle.mesh_eval.specs.Frames.{picked}
+use Rattle.mesh_expressions.specs.Frames.{picked}
 use Rattle.mesh_eval.proofs.Picked.{picked-all, plus_0}
 use Rattle.mesh_eval.proofs.groups.row_of_all.Goals as goal
 

@@ -1,0 +1,32 @@
+-- What an expression sees, as a frame has it.
+use Rattle.std.specs.Prelude.{ℕ, List, [], map, slice_index_or}
+use Rattle.std.specs.List.{range_with_len}
+use Rattle.std.specs.Option.{option_map}
+use Rattle.std.specs.declared.option.Option.{Option}
+use Rattle.std.specs.declared.option.Option.TheVariants.{None, Some}
+use Rattle.mesh_values.specs.declared.values.Cell.{Cell}
+use Rattle.mesh_values.specs.declared.values.Cell.TheVariants.{Null}
+use Rattle.mesh_expressions.specs.declared.frames.Frame.{Frame}
+use Rattle.mesh_expressions.specs.declared.frames.Members.{Members}
+use Rattle.mesh_joined.specs.Joined.{shown}
+use Rattle.mesh_meaning.specs.Sel.{Joined}
+use Rattle.mesh_meaning.specs.Ev.{Scope, seen}
+
+-- the rows at places, empty ones where there are none
+abbrev pub picked : List Joined → List ℕ → List Joined
+picked rows places = map (λ at. slice_index_or rows at []) places
+
+-- the places 0, 1 and so on, so many
+abbrev pub all_places : ℕ → List ℕ
+all_places count = range_with_len 0 count
+
+abbrev pub members : Members → List Joined
+members g = picked g.rows.now.rows g.places.now
+
+abbrev pub scope_of : Frame → Scope
+scope_of f = record { column = seen f.columns.now (shown f.row.now); keys = f.keys.now; key_values = f.key_values.now; group = option_map (λ g. map (seen f.columns.now) (members g)) f.group; bounds = f.bounds }
+
+-- a cell, and NULL where there is none
+abbrev pub cell_or_null : Option Cell → Cell
+cell_or_null None = Null
+cell_or_null (Some cell) = cell

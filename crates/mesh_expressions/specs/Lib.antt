@@ -1,0 +1,2 @@
+-- Frames: what an expression sees, as a frame has it.
+pub mod Frames
