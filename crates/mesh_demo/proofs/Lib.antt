@@ -1,1 +1,2 @@
--- none
+-- Playing: what comes of a command and of the next ones.
+pub mod Playing

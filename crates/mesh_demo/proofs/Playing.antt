@@ -1,0 +1,46 @@
+-- What comes of a command and of the next ones.
+use Rattle.std.proofs.Common.{◌≡◌, ℕ, true, false, List, ◌++◌, Ok, Err, Some, Result, refl, sym, ap, subst}
+use Rattle.std.specs.Prelude.{IfOk}
+use Rattle.std.specs.Option.{unwrap_or}
+use Rattle.std.specs.declared.option.Option.{Option}
+use Rattle.mesh_house.specs.declared.memory.MemHouse.{MemHouse}
+use Rattle.mesh_house.specs.declared.world.Change.{Change}
+use Rattle.mesh_house.specs.declared.world.World.{World}
+use Rattle.mesh_house.specs.Memory.{memory_told, memory_world}
+use Rattle.mesh_house.specs.Sources.{are_plain}
+use Rattle.mesh_house.specs.Step.{run}
+use Rattle.mesh_layer.specs.Shows.{Tells}
+use Rattle.mesh_printed.specs.declared.refusals.Refusal.{Refusal}
+use Rattle.mesh_printed.specs.Refusals.{refusal_line}
+use Rattle.mesh_commands.specs.Answers.{Answers, is_fault}
+use Rattle.mesh_demo.specs.Demos.{Then, done, refused}
+
+-- a house in memory tells its world, whose sources have names that sources may have
+pub tells : (h : MemHouse) → are_plain (memory_world h).sources ≡ true → Tells (memory_told h) (memory_world h)
+tells h plain = record { world = refl; plain = plain }
+
+module _ {outside : Type 0} (makes : World → List Change → Type 0) (gives : World → Result (List ℕ) Refusal → Type 0) (line : List ℕ → List ℕ) (rest : World → List ℕ → Type 0)
+    (a b : MemHouse) (plain : are_plain (memory_world a).sources ≡ true) where
+  -- the command was done, and the rest stands behind its line
+  went : (answer more text : List ℕ) → Answers outside makes gives (memory_told a) (memory_told b) (Ok answer) → rest (memory_world b) more → text ≡ line answer ++ more → Then makes gives line rest (memory_world a) text
+  went answer more text by so is =
+      let made = by.made (memory_world a) (tells a plain) in
+      let world : memory_world b ≡ run (memory_world a) made.0 = ap (λ (o : Option World). unwrap_or o (memory_world b)) (made.2).world in
+      subst (Then makes gives line rest (memory_world a)) (sym is) (done answer made.0 more (by.given (memory_world a) (tells a plain)) made.1 (subst (λ (w : World). rest w more) world so))
+
+  pub went_on : {E : Type 0} (answer more : List ℕ) (text : Result (List ℕ) E) → Answers outside makes gives (memory_told a) (memory_told b) (Ok answer) → rest (memory_world b) more
+      → IfOk text (λ t. t ≡ line answer ++ more) → IfOk text (Then makes gives line rest (memory_world a))
+  went_on answer more (Ok text) by so is = went answer more text by so is
+  went_on answer more (Err e) by so is = tt
+
+  -- the command prints nothing, and the rest is all
+  pub went_by : {E : Type 0} (answer : List ℕ) (text : Result (List ℕ) E) → ((t : List ℕ) → line answer ++ t ≡ t) → Answers outside makes gives (memory_told a) (memory_told b) (Ok answer)
+      → IfOk text (rest (memory_world b)) → IfOk text (Then makes gives line rest (memory_world a))
+  went_by answer (Ok text) none by so = went answer text text by so (sym (none text))
+  went_by answer (Err e) none by so = tt
+
+  -- the command was refused, and the text ends with that
+  pub ended_by : {E : Type 0} (r : Refusal) (text : Result (List ℕ) E) → Answers outside makes gives (memory_told a) (memory_told b) (Err r)
+      → IfOk text (λ t. (is_fault r ≡ false) × (t ≡ refusal_line r)) → IfOk text (Then makes gives line rest (memory_world a))
+  ended_by r (Ok text) by is = subst (Then makes gives line rest (memory_world a)) (sym is.1) (refused r is.0 (by.given (memory_world a) (tells a plain) is.0))
+  ended_by r (Err e) by is = tt
