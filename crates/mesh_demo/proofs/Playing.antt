@@ -28,10 +28,10 @@ module _ {outside : Type 0} (makes : World → List Change → Type 0) (gives : 
       let world : memory_world b ≡ run (memory_world a) made.0 = ap (λ (o : Option World). unwrap_or o (memory_world b)) (made.2).world in
       subst (Then makes gives line rest (memory_world a)) (sym is) (done answer made.0 more (by.given (memory_world a) (tells a plain)) made.1 (subst (λ (w : World). rest w more) world so))
 
-  pub went_on : {E : Type 0} (answer more : List ℕ) (text : Result (List ℕ) E) → Answers outside makes gives (memory_told a) (memory_told b) (Ok answer) → rest (memory_world b) more
-      → IfOk text (λ t. t ≡ line answer ++ more) → IfOk text (Then makes gives line rest (memory_world a))
-  went_on answer more (Ok text) by so is = went answer more text by so is
-  went_on answer more (Err e) by so is = tt
+  pub went_on : {E F : Type 0} (answer : List ℕ) (later : Result (List ℕ) E) (text : Result (List ℕ) F) → Answers outside makes gives (memory_told a) (memory_told b) (Ok answer) → IfOk later (rest (memory_world b))
+      → IfOk text (λ t. (more : List ℕ) × (later ≡ Ok more) × (t ≡ line answer ++ more)) → IfOk text (Then makes gives line rest (memory_world a))
+  went_on answer later (Ok text) by so is = went answer is.0 text by (subst (λ (l : Result (List ℕ) _). IfOk l (rest (memory_world b))) is.1 so) is.2
+  went_on answer later (Err e) by so is = tt
 
   -- the command prints nothing, and the rest is all
   pub went_by : {E : Type 0} (answer : List ℕ) (text : Result (List ℕ) E) → ((t : List ℕ) → line answer ++ t ≡ t) → Answers outside makes gives (memory_told a) (memory_told b) (Ok answer)

@@ -1,5 +1,5 @@
 // What a demonstration prints of each answer.
-ghost use Rattle.std.specs.Prelude.{◌≡◌, ◌≤◌, ◌++◌, length, IfOk, IfSome, OnOk};
+ghost use Rattle.std.specs.Prelude.{◌≡◌, ◌≤◌, ◌++◌, ℕ, List, Ok, length, IfOk, IfSome, OnOk};
 ghost use Rattle.std.specs.Fmt.{signed_decimal};
 ghost use Rattle.mesh_fault_text.specs.Lines.{◌·◌};
 ghost use Rattle.mesh_demo.specs.Lines.{head_line, line_start, sum_of, total_in, totals_text, units_line};
@@ -34,19 +34,28 @@ fn units_line(text: &[u8]) -> &[u8]
     &text[first..last]
 }
 
-/// How many units a command had, by what it answered, in front of what comes after it.
-pub(crate) fn with_units(
-    alloc: Global,
-    front: &[u8],
-    answer: &Str,
-    rest: Str,
-) -> Result<Str, Memory>
+fn units_and_rest(alloc: Global, front: &[u8], answer: &Str, rest: Str) -> Result<Str, Memory>
     ensures { IfOk result (λ text. text ≡ (front.now · units_line answer.now) ++ rest) }
 {
     let mut out = Vec::from_slice(alloc, front)?;
     put(&mut out, units_line(answer.as_slice()))?;
     put(&mut out, rest.as_slice())?;
     Ok(Seq::from_vec(out))
+}
+
+/// How many units a command had, by what it answered, in front of what comes after it.
+pub(crate) fn with_units(
+    alloc: Global,
+    front: &[u8],
+    answer: &Str,
+    rest: Result<Str, Memory>,
+) -> Result<Str, Memory>
+    ensures { IfOk result (λ text. (more : List ℕ) × (rest ≡ Ok more) × (text ≡ (front.now · units_line answer.now) ++ more)) }
+{
+    match rest {
+        Err(wanting) => Err(wanting),
+        Ok(rest) => units_and_rest(alloc, front, answer, rest),
+    }
 }
 
 /// What was asked for, in front of what comes of it.

@@ -92,7 +92,7 @@ fn dev_ran<R: Threads + Sync>(
     match run(rt, alloc, house, &env, LATE, workers) {
         Err(refusal) => ended(alloc, &refusal),
         Ok(answer) => {
-            let rest = counted(alloc, house)?;
+            let rest = counted(alloc, house);
             with_units(alloc, b"run dev: ", &answer, rest)
         }
     }
@@ -112,7 +112,7 @@ fn prod_ran<R: Threads + Sync>(
     match run(rt, alloc, house, &env, LATE, workers) {
         Err(refusal) => ended(alloc, &refusal),
         Ok(answer) => {
-            let rest = dev_ran(rt, alloc, workers, house)?;
+            let rest = dev_ran(rt, alloc, workers, house);
             with_units(alloc, b"run prod: ", &answer, rest)
         }
     }
@@ -134,7 +134,7 @@ fn dev_applied<R: Threads + Sync>(
     match apply(rt, alloc, folder, house, &dir, &env, EARLY, None, workers) {
         Err(refusal) => ended(alloc, &refusal),
         Ok(answer) => {
-            let rest = prod_ran(rt, alloc, workers, house)?;
+            let rest = prod_ran(rt, alloc, workers, house);
             with_units(alloc, b"apply dev: ", &answer, rest)
         }
     }
@@ -171,7 +171,7 @@ fn prod_applied<R: Threads + Sync>(
     match apply(rt, alloc, folder, house, &dir, &env, EARLY, None, workers) {
         Err(refusal) => ended(alloc, &refusal),
         Ok(answer) => {
-            let rest = edited(rt, alloc, workers, folder, house)?;
+            let rest = edited(rt, alloc, workers, folder, house);
             with_units(alloc, b"apply prod: ", &answer, rest)
         }
     }
