@@ -75,26 +75,29 @@ DevRan = Then (RunMakes dev late) (RunGives dev late) (units_of (codes "run dev:
 abbrev pub ProdRan : World → List ℕ → Type 0
 ProdRan = Then (RunMakes prod late) (RunGives prod late) (units_of (codes "run prod: ")) DevRan
 
--- an apply of the project of these files makes and gives this
-abbrev pub FilesMake : Option (List File) → List ℕ → World → List Change → Type 0
-FilesMake files env w list = IsProject files here (λ nodes. ApplyMakes nodes env early None w list)
+-- an apply of the project of these files, in a folder, makes and gives this
+abbrev pub FilesMake : Option (List File) → List ℕ → List ℕ → World → List Change → Type 0
+FilesMake files dir env w list = IsProject files dir (λ nodes. ApplyMakes nodes env early None w list)
 
-abbrev pub FilesGive : Option (List File) → List ℕ → World → Result (List ℕ) Refusal → Type 0
-FilesGive files env w answer = OfProject files here (λ nodes. ApplyGives nodes env early None w) answer
+abbrev pub FilesGive : Option (List File) → List ℕ → List ℕ → World → Result (List ℕ) Refusal → Type 0
+FilesGive files dir env w answer = OfProject files dir (λ nodes. ApplyGives nodes env early None w) answer
 
 abbrev pub DevApplied : Option (List File) → World → List ℕ → Type 0
-DevApplied files = Then (FilesMake files dev) (FilesGive files dev) (units_of (codes "apply dev: ")) ProdRan
+DevApplied files = Then (FilesMake files here dev) (FilesGive files here dev) (units_of (codes "apply dev: ")) ProdRan
 
 -- the development environment is made of the edited files
 abbrev pub ProdApplied : Option (List File) → World → List ℕ → Type 0
-ProdApplied files = Then (FilesMake files prod) (FilesGive files prod) (units_of (codes "apply prod: ")) (DevApplied (option_map edited files))
+ProdApplied files = Then (FilesMake files here prod) (FilesGive files here prod) (units_of (codes "apply prod: ")) (DevApplied (option_map edited files))
 
 -- the orders are a source
 abbrev pub orders_name : Name
 orders_name = record { schema = codes "raw"; model = codes "orders" }
 
+abbrev pub orders_path : List ℕ
+orders_path = codes "orders.csv"
+
 abbrev pub Loaded : Option (List File) → World → List ℕ → Type 0
-Loaded files = Then (IngestMakes files here orders_name (codes "orders.csv") false) (IngestGives files here orders_name (codes "orders.csv") false) nothing (ProdApplied files)
+Loaded files = Then (IngestMakes files here orders_name orders_path false) (IngestGives files here orders_name orders_path false) nothing (ProdApplied files)
 
 -- What a demonstration with so many orders prints: what comes of its commands over these files, from the empty world.
 abbrev pub IsDemo : ℕ → List ℕ → Type 0
