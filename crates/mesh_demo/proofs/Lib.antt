@@ -1,6 +1,4 @@
--- Orders: orders one behind another.
-pub mod Orders
--- Starts: where lines begin.
-pub mod Starts
+-- Pieces: pieces of a text, one behind another.
+pub mod Pieces
 -- Playing: what comes of a command and of the next ones.
 pub mod Playing

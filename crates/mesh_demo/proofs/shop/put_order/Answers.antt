@@ -1,4 +1,4 @@
-use Rattle.mesh_demo.proofs.Orders.{six}
+use Rattle.mesh_demo.proofs.Pieces.{six}
 use Rattle.mesh_demo.proofs.shop.put_order.Goals as goal
 
 pub returns : goal.returns
