@@ -1,5 +1,5 @@
 -- What a command does at its moment.
-use Rattle.std.proofs.Common.{◌≡◌, ℕ, ℤ, true, false, List, Ok, Result, refl, sym, subst, inl, arith}
+use Rattle.std.proofs.Common.{◌≡◌, ℕ, ℤ, true, false, List, Ok, Err, Result, refl, sym, subst, inl, arith}
 use Rattle.std.specs.declared.option.Option.{Option}
 use Rattle.mesh_base.specs.declared.forgets.Restate.{Restate}
 use Rattle.mesh_io.specs.Told.{ClockTold, FolderTold}
@@ -8,14 +8,17 @@ use Rattle.mesh_house.specs.declared.world.Change.{Change}
 use Rattle.mesh_house.specs.declared.world.World.{World}
 use Rattle.mesh_house.specs.House.{Told}
 use Rattle.mesh_printed.specs.declared.refusals.Refusal.{Refusal}
-use Rattle.mesh_line.specs.declared.line.Command.TheVariants.{Plan, Apply, Janitor}
+use Rattle.mesh_printed.specs.declared.refusals.Refusal.TheVariants.{Memory}
+use Rattle.mesh_demo.specs.Demos.{IsDemo}
+use Rattle.mesh_line.specs.declared.line.Command.TheVariants.{Plan, Apply, Janitor, Demo}
 use Rattle.mesh_applying.specs.Applying.{ApplyGives, ApplyMakes}
 use Rattle.mesh_applying.specs.Loaded.{IsProject, OfProject}
 use Rattle.mesh_upkeep.specs.Upkeep.{JanitorGives, JanitorMakes}
 use Rattle.mesh_commands.specs.Answers.{Answers, IsAsked}
-use Rattle.mesh_commands.proofs.Answering.{answers_so}
+use Rattle.mesh_commands.proofs.Answering.{alone_itself, answers_so, told_alone, wanting_first}
 use Rattle.mesh_cli.specs.Ends.{Commanded}
-use Rattle.mesh_cli.specs.Sides.{IsAt, Timed, sides}
+use Rattle.mesh_cli.specs.Asked.{Gives, Makes}
+use Rattle.mesh_cli.specs.Sides.{IsAt, Sides, Timed, sides}
 
 -- where the outside is told to have failed, more stands
 pub reaching : {T near far : Type 0} (makes : World → List Change → Type 0) (gives : World → Result T Refusal → Type 0) (a c : Told) (r : Result T Refusal) → (near → far) → Answers near makes gives a c r → Answers far makes gives a c r
@@ -42,6 +45,7 @@ module _ (dir env : List ℕ) (workers : ℕ) (moment : Option ℤ) (again : Opt
     clock = timed.faults;
     unread = λ e. absurd (let clash : true ≡ false = e in cc);
     unasked = timed.unasked;
+    unused = λ e. absurd (let clash : true ≡ false = e in cc);
   }
 
   -- a plan that is applied at once
@@ -54,6 +58,7 @@ module _ (dir env : List ℕ) (workers : ℕ) (moment : Option ℤ) (again : Opt
     clock = timed.faults;
     unread = λ e. absurd (let clash : true ≡ false = e in cc);
     unasked = timed.unasked;
+    unused = λ e. absurd (let clash : true ≡ false = e in cc);
   }
 
 -- a sweep at its moment
@@ -67,4 +72,31 @@ swept_at dir moment f k k' h h' t given answer same timed by = record {
   clock = timed.faults;
   unread = λ e. refl;
   unasked = timed.unasked;
+  unused = λ e. absurd (let clash : true ≡ false = e in cc);
 }
+
+-- a demonstration, which uses nothing of what is here
+module _ (dir : List ℕ) (n workers : ℕ) (s : Sides) where
+  pub demo_told : (text : List ℕ) → IsDemo n text → Commanded dir (Demo n workers) s s (Ok text)
+  demo_told text is = record {
+    house = told_alone (Makes dir s (Demo n workers)) (Gives dir s (Demo n workers)) s.house s.house text (alone_itself s.house) (omega arith) (λ w told. refl) (λ w told. is);
+    files = refl;
+    moment = refl;
+    folder = omega arith;
+    clock = omega arith;
+    unread = λ e. refl;
+    unasked = λ e. refl;
+    unused = λ e. (refl, λ w. is);
+  }
+
+  pub demo_wanting : Commanded dir (Demo n workers) s s (Err Memory)
+  demo_wanting = record {
+    house = wanting_first (Makes dir s (Demo n workers)) (Gives dir s (Demo n workers)) s.house;
+    files = refl;
+    moment = refl;
+    folder = omega arith;
+    clock = omega arith;
+    unread = λ e. refl;
+    unasked = λ e. refl;
+    unused = λ e. (refl, λ w fine. absurd (let clash : true ≡ false = fine in cc));
+  }

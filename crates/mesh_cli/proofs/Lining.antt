@@ -12,33 +12,33 @@ use Rattle.std.specs.Prelude.{IfOk, IfErr, IsErrOf}
 use Rattle.mesh_printed.specs.declared.refusals.Refusal.{Refusal}
 use Rattle.mesh_printed.specs.declared.refusals.Refusal.TheVariants.{Usage}
 use Rattle.mesh_cli.specs.Fit.{IsFit}
-use Rattle.mesh_cli.specs.Scripts.{IsTextLine, is_batch, may_stand}
+use Rattle.mesh_cli.specs.Scripts.{IsTextLine, may_stand, stands_alone}
 
-then_alike : {A : Type 0} (f g : A → Option Command) → ((a : A) → option_map is_batch (f a) ≡ option_map is_batch (g a)) → (o : Option A) → option_map is_batch (option_and_then f o) ≡ option_map is_batch (option_and_then g o)
+then_alike : {A : Type 0} (f g : A → Option Command) → ((a : A) → option_map stands_alone (f a) ≡ option_map stands_alone (g a)) → (o : Option A) → option_map stands_alone (option_and_then f o) ≡ option_map stands_alone (option_and_then g o)
 then_alike f g h None = refl
 then_alike f g h (Some a) = h a
 
-map_alike : {A : Type 0} (f g : A → Command) → ((a : A) → is_batch (f a) ≡ is_batch (g a)) → (o : Option A) → option_map is_batch (option_map f o) ≡ option_map is_batch (option_map g o)
+map_alike : {A : Type 0} (f g : A → Command) → ((a : A) → stands_alone (f a) ≡ stands_alone (g a)) → (o : Option A) → option_map stands_alone (option_map f o) ≡ option_map stands_alone (option_map g o)
 map_alike f g h None = refl
 map_alike f g h (Some a) = ap Some (h a)
 
-if_alike : (b : Bool) (x x' y y' : Option Command) → option_map is_batch x ≡ option_map is_batch x' → option_map is_batch y ≡ option_map is_batch y' → option_map is_batch (if b then x else y) ≡ option_map is_batch (if b then x' else y')
+if_alike : (b : Bool) (x x' y y' : Option Command) → option_map stands_alone x ≡ option_map stands_alone x' → option_map stands_alone y ≡ option_map stands_alone y' → option_map stands_alone (if b then x else y) ≡ option_map stands_alone (if b then x' else y')
 if_alike true x x' y y' p q = p
 if_alike false x x' y y' p q = q
 
-plan_alike : (t u : Option ℤ) (rows : List Row) → option_map is_batch (plan_given t rows) ≡ option_map is_batch (plan_given u rows)
+plan_alike : (t u : Option ℤ) (rows : List Row) → option_map stands_alone (plan_given t rows) ≡ option_map stands_alone (plan_given u rows)
 plan_alike t u rows =
     then_alike _ _ (λ env. then_alike _ _ (λ workers. map_alike _ _ (λ again. refl) (again_given rows)) (workers_given rows)) (env_given rows)
 
-apply_alike : (t u : Option ℤ) (rows : List Row) → option_map is_batch (apply_given t rows) ≡ option_map is_batch (apply_given u rows)
+apply_alike : (t u : Option ℤ) (rows : List Row) → option_map stands_alone (apply_given t rows) ≡ option_map stands_alone (apply_given u rows)
 apply_alike t u rows =
     then_alike _ _ (λ env. then_alike _ _ (λ workers. map_alike _ _ (λ again. refl) (again_given rows)) (workers_given rows)) (env_given rows)
 
-run_alike : (t u : Option ℤ) (rows : List Row) → option_map is_batch (run_given t rows) ≡ option_map is_batch (run_given u rows)
+run_alike : (t u : Option ℤ) (rows : List Row) → option_map stands_alone (run_given t rows) ≡ option_map stands_alone (run_given u rows)
 run_alike t u rows = then_alike _ _ (λ env. map_alike _ _ (λ workers. refl) (workers_given rows)) (env_given rows)
 
--- whether words ask for a batch doesn't hang on the moment
-command_alike : (t u : Option ℤ) (n : Text) (rows : List Row) → option_map is_batch (command_given t n rows) ≡ option_map is_batch (command_given u n rows)
+-- whether words ask for what no script has doesn't hang on the moment
+command_alike : (t u : Option ℤ) (n : Text) (rows : List Row) → option_map stands_alone (command_given t n rows) ≡ option_map stands_alone (command_given u n rows)
 command_alike t u n rows =
     if_alike (same_text n (codes "plan")) _ _ _ _ (plan_alike t u rows)
     (if_alike (same_text n (codes "apply")) _ _ _ _ (apply_alike t u rows)
@@ -48,17 +48,17 @@ command_alike t u n rows =
     (if_alike (same_text n (codes "ingest")) _ _ _ _ refl
     (if_alike (same_text n (codes "janitor")) _ _ _ _ refl refl))))))
 
-batch_alike : (sub : Option (Text × List Row)) (a b : Command) → IsCommandOf sub a → IsCommandOf sub b → is_batch a ≡ is_batch b
-batch_alike None a b h k = absurd h
-batch_alike (Some (n, rows)) a b h k =
-    let same : Some (is_batch a) ≡ Some (is_batch b) = sym (ap (option_map is_batch) h.is) ∙ command_alike h.moment k.moment n rows ∙ ap (option_map is_batch) k.is in
+alone_alike : (sub : Option (Text × List Row)) (a b : Command) → IsCommandOf sub a → IsCommandOf sub b → stands_alone a ≡ stands_alone b
+alone_alike None a b h k = absurd h
+alone_alike (Some (n, rows)) a b h k =
+    let same : Some (stands_alone a) ≡ Some (stands_alone b) = sym (ap (option_map stands_alone) h.is) ∙ command_alike h.moment k.moment n rows ∙ ap (option_map stands_alone) k.is in
     ap (λ (o : Option Bool). unwrap_or o true) same
 
 -- the same words ask for lines of which a script may have both, or none
 stand_alike : (words : List Text) (a b : Line) → IsLine words a → IsLine words b → may_stand a ≡ may_stand b
 stand_alike words a b h k =
-    ap (λ x. not x && is_none a.warehouse) (batch_alike _ a.command b.command h.texts.asks.command k.texts.asks.command)
-    ∙ ap (λ o. not (is_batch b.command) && is_none o) (h.texts.asks.warehouse ∙ sym k.texts.asks.warehouse)
+    ap (λ x. not x && is_none a.warehouse) (alone_alike _ a.command b.command h.texts.asks.command k.texts.asks.command)
+    ∙ ap (λ o. not (stands_alone b.command) && is_none o) (h.texts.asks.warehouse ∙ sym k.texts.asks.warehouse)
 
 -- a line that a script may not have is none that its text asks for
 pub may_not : (text : List ℕ) (words : List Text) (line : Line) → words_of text ≡ Some words → IsLine words line → may_stand line ≡ false → (other : Line) → ¬ IsTextLine text other

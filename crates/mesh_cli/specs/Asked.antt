@@ -1,5 +1,5 @@
 -- What each command makes and gives, by its words, the files of the folder, the clock's moment and the world.
-use Rattle.std.specs.Prelude.{◌≡◌, ℕ, ℤ, Bool, true, false, List, [], Result, Err}
+use Rattle.std.specs.Prelude.{◌≡◌, ℕ, ℤ, Bool, true, false, List, [], Result, Ok, Err}
 use Rattle.std.specs.declared.option.Option.{Option}
 use Rattle.mesh_base.specs.declared.forgets.Restate.{Restate}
 use Rattle.mesh_surface.specs.declared.queries.Surface.{Surface}
@@ -10,7 +10,7 @@ use Rattle.mesh_house.specs.declared.world.World.{World}
 use Rattle.mesh_printed.specs.declared.refusals.Refusal.{Refusal}
 use Rattle.mesh_printed.specs.declared.refusals.Refusal.TheVariants.{Usage}
 use Rattle.mesh_line.specs.declared.line.Command.{Command}
-use Rattle.mesh_line.specs.declared.line.Command.TheVariants.{Plan, Apply, Run, Evaluate, Fetchdf, Ingest, Janitor, Invalidate, Migrate, Batch}
+use Rattle.mesh_line.specs.declared.line.Command.TheVariants.{Plan, Apply, Run, Evaluate, Fetchdf, Ingest, Janitor, Invalidate, Migrate, Batch, Demo}
 use Rattle.mesh_applying.specs.Applying.{ApplyGives, ApplyMakes, PlanGives, RunGives, RunMakes}
 use Rattle.mesh_applying.specs.Loaded.{IsProject, OfProject}
 use Rattle.mesh_applying.specs.Migrating.{MigrateGives, MigrateMakes}
@@ -18,6 +18,7 @@ use Rattle.mesh_asking.specs.Fetched.{fetched, word_tokens}
 use Rattle.mesh_asking.specs.Evaluated.{days, evaluated}
 use Rattle.mesh_upkeep.specs.Ingesting.{IngestGives, IngestMakes}
 use Rattle.mesh_upkeep.specs.Upkeep.{InvalidateGives, InvalidateMakes, JanitorGives, JanitorMakes}
+use Rattle.mesh_demo.specs.Demos.{IsDemo}
 use Rattle.mesh_cli.specs.Sides.{AtMoment, Sides, is_open}
 
 -- an apply of the project in a folder
@@ -36,6 +37,11 @@ abbrev pub PlansGive : Bool → List ℕ → Sides → List ℕ → Option ℤ �
 PlansGive false dir s env moment again w answer = AtMoment moment s.clock.moment (λ t. OfProject s.folder.files dir (λ nodes. PlanGives nodes env t again w) answer)
 PlansGive true dir s env moment again w answer = AppliesGive dir s env moment again w answer
 
+-- a demonstration has its text in every world, and is refused in none
+abbrev pub DemoGives : ℕ → Result (List ℕ) Refusal → Type 0
+DemoGives n (Ok text) = IsDemo n text
+DemoGives n (Err r) = ⊥
+
 -- the changes that a command makes of a world
 abbrev pub Makes : List ℕ → Sides → Command → World → List Change → Type 0
 Makes dir s (Plan env auto workers moment again) w list = PlansMake auto dir s env moment again w list
@@ -48,6 +54,7 @@ Makes dir s (Janitor moment) w list = AtMoment moment s.clock.moment (λ t. Jani
 Makes dir s (Invalidate env) w list = InvalidateMakes env w list
 Makes dir s Migrate w list = MigrateMakes w list
 Makes dir s Batch w list = list ≡ []
+Makes dir s (Demo n workers) w list = list ≡ []
 
 -- what it answers there: the text that is printed, or why it is refused
 abbrev pub Gives : List ℕ → Sides → Command → World → Result (List ℕ) Refusal → Type 0
@@ -61,6 +68,12 @@ Gives dir s (Janitor moment) w answer = AtMoment moment s.clock.moment (λ t. Ja
 Gives dir s (Invalidate env) w answer = InvalidateGives env w answer
 Gives dir s Migrate w answer = MigrateGives w answer
 Gives dir s Batch w answer = answer ≡ Err Usage
+Gives dir s (Demo n workers) w answer = DemoGives n answer
+
+-- the commands that use the warehouse: all but the demonstration, which has one of its own
+abbrev pub uses_house : Command → Bool
+uses_house (Demo n workers) = false
+uses_house other = true
 
 -- the commands that read the project's folder
 abbrev pub reads_folder : Command → Bool

@@ -4,7 +4,7 @@ use Rattle.mesh_days.specs.Moments.{IsMoment}
 use Rattle.mesh_values.specs.Picked.{same_text}
 use Rattle.mesh_changes.specs.Environments.{prod}
 use Rattle.mesh_line.specs.declared.line.Command.{Command}
-use Rattle.mesh_line.specs.declared.line.Command.TheVariants.{Plan, Apply, Run, Evaluate, Fetchdf, Ingest, Janitor, Invalidate, Migrate, Batch}
+use Rattle.mesh_line.specs.declared.line.Command.TheVariants.{Plan, Apply, Run, Evaluate, Fetchdf, Ingest, Janitor, Invalidate, Migrate, Batch, Demo}
 
 -- 1 to 64 workers
 abbrev pub IsCrew : ℕ → Type 0
@@ -22,3 +22,4 @@ IsFit (Janitor moment) = IfSome moment IsMoment
 IsFit (Invalidate env) = same_text env prod ≡ false
 IsFit Migrate = Unit {0}
 IsFit Batch = Unit {0}
+IsFit (Demo n workers) = IsCrew workers

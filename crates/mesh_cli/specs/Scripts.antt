@@ -7,7 +7,7 @@ use Rattle.mesh_io.specs.Told.{SourceTold}
 use Rattle.mesh_printed.specs.declared.refusals.Refusal.{Refusal}
 use Rattle.mesh_printed.specs.declared.refusals.Refusal.TheVariants.{Usage, Memory, Input, Model}
 use Rattle.mesh_line.specs.declared.line.Command.{Command}
-use Rattle.mesh_line.specs.declared.line.Command.TheVariants.{Batch}
+use Rattle.mesh_line.specs.declared.line.Command.TheVariants.{Batch, Demo}
 use Rattle.mesh_line.specs.declared.line.Line.{Line}
 use Rattle.mesh_line.specs.declared.line.UsageFault.{UsageFault}
 use Rattle.mesh_line.specs.declared.line.UsageFault.TheVariants as fault
@@ -26,9 +26,15 @@ abbrev pub is_batch : Command → Bool
 is_batch Batch = true
 is_batch other = false
 
--- a line of a script names no warehouse, and isn't itself a batch
+-- what no line of a script asks for
+abbrev pub stands_alone : Command → Bool
+stands_alone Batch = true
+stands_alone (Demo n workers) = true
+stands_alone other = false
+
+-- a line of a script names no warehouse, and isn't itself a batch or a demonstration
 abbrev pub may_stand : Line → Bool
-may_stand line = not (is_batch line.command) && is_none line.warehouse
+may_stand line = not (stands_alone line.command) && is_none line.warehouse
 
 -- a text is a command line that a script may have
 pub record IsTextLine (text : List ℕ) (line : Line) : Type 0 where

@@ -4,7 +4,7 @@ ghost use Rattle.mesh_line.specs.declared.line.Line.{Line as Asked};
 ghost use Rattle.mesh_scripts.specs.Scripts.{lines};
 ghost use Rattle.mesh_printed.specs.declared.refusals.Refusal.TheVariants as refusal;
 ghost use Rattle.mesh_cli.specs.Fit.{IsFit};
-ghost use Rattle.mesh_cli.specs.Scripts.{AskedAnswers, IsTextLine, ScriptEnds, StepEnds, TextsEnd, is_batch, may_stand, of_usage};
+ghost use Rattle.mesh_cli.specs.Scripts.{AskedAnswers, IsTextLine, ScriptEnds, StepEnds, TextsEnd, is_batch, may_stand, of_usage, stands_alone};
 ghost use Rattle.mesh_cli.specs.Sides.{here, place_or, sides};
 ghost use Rattle.mesh_printed.specs.Printing.{sinks};
 
@@ -41,11 +41,21 @@ pub(crate) fn is_batch(command: &Command) -> bool
     }
 }
 
+/// Whether no line of a script may ask for this.
+fn stands_alone(command: &Command) -> bool
+    ensures { result ≡ stands_alone command.now }
+{
+    match command {
+        Command::Batch | Command::Demo { n: _, workers: _ } => true,
+        _ => false,
+    }
+}
+
 /// Whether a script may have this line.
 fn may_stand(line: &Line) -> bool
     ensures { result ≡ may_stand line.now }
 {
-    !is_batch(&line.command) && line.warehouse.is_none()
+    !stands_alone(&line.command) && line.warehouse.is_none()
 }
 
 fn permitted(line: Line) -> Result<Line, Refusal>

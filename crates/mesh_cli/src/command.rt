@@ -7,13 +7,14 @@ ghost use Rattle.mesh_line.specs.declared.line.Command.TheVariants as asked;
 ghost use Rattle.mesh_cli.specs.Ends.{Commanded};
 ghost use Rattle.mesh_cli.specs.Fit.{IsCrew, IsFit};
 ghost use Rattle.mesh_cli.specs.Scripts.{LineAnswers};
-ghost use Rattle.mesh_cli.specs.Sides.{sides};
+ghost use Rattle.mesh_cli.specs.Sides.{Sides as Around, sides};
 
 use crate::moment::moment_of;
 use crate::place::place_or;
 use mesh_applying::{apply, migrate, plan, run};
 use mesh_asking::{evaluate, fetchdf};
 use mesh_base::Restate;
+use mesh_demo::{DemoFault, demo};
 use mesh_house::Warehouse;
 use mesh_io::{Clock, Folder};
 use mesh_line::{Command, Line};
@@ -126,6 +127,22 @@ fn swept<W: Warehouse, C: Clock>(
     }
 }
 
+/// The demonstration, which lies in memory and uses nothing of what is here.
+fn demonstrated<R: Threads + Sync>(
+    rt: &R,
+    alloc: Global,
+    n: u32,
+    workers: u32,
+) -> Result<Str, Refusal>
+    requires { IsCrew workers }
+    ensures { (dir : List ℕ) (s : Around) → Commanded dir (asked.Demo n workers) s s result }
+{
+    match demo(rt, alloc, n, workers) {
+        Ok(text) => Ok(text),
+        Err(DemoFault::Memory) => Err(Refusal::Memory),
+    }
+}
+
 /// A command other than `batch`, for the project in `dir`: what it prints, or why it isn't done.
 pub(crate) fn answered<R: Threads + Sync, W: Warehouse, F: Folder, C: Clock>(
     rt: &R,
@@ -195,6 +212,7 @@ pub(crate) fn answered<R: Threads + Sync, W: Warehouse, F: Folder, C: Clock>(
         Command::Invalidate { env } => invalidate(alloc, house, env),
         Command::Migrate => migrate(alloc, house),
         Command::Batch => Err(Refusal::Usage),
+        Command::Demo { n, workers } => demonstrated(rt, alloc, *n, *workers),
     }
 }
 

@@ -46,6 +46,7 @@ pub fn workers_change_nothing()
     ensures made { (dir env : List ℕ) (s : Sides) (few many : ℕ) (moment : Option ℤ) (again : Option Restate) (w : World) (list : List Change) → Makes dir s (asked.Apply env few moment again) w list → Makes dir s (asked.Apply env many moment again) w list }
     ensures given { (dir env : List ℕ) (s : Sides) (few many : ℕ) (moment : Option ℤ) (again : Option Restate) (w : World) (answer : Result (List ℕ) Refusal) → Gives dir s (asked.Apply env few moment again) w answer → Gives dir s (asked.Apply env many moment again) w answer }
     ensures run_made { (dir env : List ℕ) (s : Sides) (few many : ℕ) (moment : Option ℤ) (w : World) (list : List Change) → Makes dir s (asked.Run env few moment) w list → Makes dir s (asked.Run env many moment) w list }
+    ensures demo_given { (dir : List ℕ) (s : Sides) (n few many : ℕ) (w : World) (answer : Result (List ℕ) Refusal) → Gives dir s (asked.Demo n few) w answer → Gives dir s (asked.Demo n many) w answer }
     ensures run_given { (dir env : List ℕ) (s : Sides) (few many : ℕ) (moment : Option ℤ) (w : World) (answer : Result (List ℕ) Refusal) → Gives dir s (asked.Run env few moment) w answer → Gives dir s (asked.Run env many moment) w answer }
 {}
 

@@ -10,9 +10,9 @@ use Rattle.mesh_values.specs.Picked.{same_text}
 use Rattle.mesh_values.specs.declared.values.Name.{Name}
 use Rattle.mesh_base.specs.declared.forgets.Restate.{Restate}
 use Rattle.mesh_line.specs.declared.line.Command.{Command}
-use Rattle.mesh_line.specs.declared.line.Command.TheVariants.{Plan, Apply, Run, Evaluate, Fetchdf, Ingest, Janitor, Invalidate, Migrate, Batch}
+use Rattle.mesh_line.specs.declared.line.Command.TheVariants.{Plan, Apply, Run, Evaluate, Fetchdf, Ingest, Janitor, Invalidate, Migrate, Batch, Demo}
 use Rattle.mesh_line.specs.declared.line.Line.{Line}
-use Rattle.mesh_options.specs.Values.{IsMomentOf, again_named, days_named, env_named, expiring_named, is_other, name_named, workers_named}
+use Rattle.mesh_options.specs.Values.{IsMomentOf, again_named, count_named, days_named, env_named, expiring_named, is_other, name_named, workers_named}
 use Rattle.mesh_line.specs.Words.{mesh_app}
 
 -- the value that was given under this name
@@ -36,6 +36,9 @@ expiring_given rows = expiring_named (given (codes "env") rows)
 
 abbrev pub workers_given : List Row → Option ℕ
 workers_given rows = workers_named (given (codes "workers") rows)
+
+abbrev pub count_given : List Row → Option ℕ
+count_given rows = option_and_then count_named (given (codes "records") rows)
 
 abbrev pub again_given : List Row → Option (Option Restate)
 again_given rows = again_named (given (codes "restate-model") rows) (given (codes "start") rows) (given (codes "end") rows)
@@ -81,6 +84,9 @@ ingest_given rows =
 abbrev pub invalidate_given : List Row → Option Command
 invalidate_given rows = option_and_then (λ env. if is_other env then Some (Invalidate env) else None) (env_given rows)
 
+abbrev pub demo_given : List Row → Option Command
+demo_given rows = option_and_then (λ n. option_map (λ workers. Demo n workers) (workers_given rows)) (count_given rows)
+
 -- the command of this name
 abbrev pub command_given : Option ℤ → Text → List Row → Option Command
 command_given t name rows =
@@ -93,7 +99,8 @@ command_given t name rows =
     else (if same_text name (codes "janitor") then Some (Janitor t)
     else (if same_text name (codes "invalidate") then invalidate_given rows
     else (if same_text name (codes "migrate") then Some Migrate
-    else (if same_text name (codes "batch") then Some Batch else None)))))))))
+    else (if same_text name (codes "batch") then Some Batch
+    else (if same_text name (codes "demo") then demo_given rows else None))))))))))
 
 -- the command of a name and what was given to it
 pub record IsCommand (name : Text) (rows : List Row) (command : Command) : Type 0 where

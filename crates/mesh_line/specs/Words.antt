@@ -65,6 +65,9 @@ migrate_app = bare_app (codes "migrate")
 abbrev pub batch_app : App
 batch_app = bare_app (codes "batch")
 
+abbrev pub demo_app : App
+demo_app = with_rule (with_rule (bare_app (codes "demo")) (needed (place_rule (codes "records")))) (option_rule (codes "workers"))
+
 -- the program, whose own name is no word of its line
 abbrev pub unnamed_app : App
 unnamed_app = on_top (λ s. record s { subcommand_required = true; no_binary_name = true }) (bare_app (codes "mesh"))
@@ -100,6 +103,9 @@ to_invalidate_app = with_subcommand to_janitor_app invalidate_app.top
 abbrev pub to_migrate_app : App
 to_migrate_app = with_subcommand to_invalidate_app migrate_app.top
 
+abbrev pub to_batch_app : App
+to_batch_app = with_subcommand to_migrate_app batch_app.top
+
 -- all commands
 abbrev pub mesh_app : App
-mesh_app = with_subcommand to_migrate_app batch_app.top
+mesh_app = with_subcommand to_batch_app demo_app.top

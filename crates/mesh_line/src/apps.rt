@@ -3,7 +3,7 @@ ghost use Rattle.std.specs.Prelude.{◌≡◌, IfOk, false};
 ghost use Rattle.clap.specs.Walk.{Rule, rule_of};
 ghost use Rattle.clap.specs.Simple.{App, app_of, with_rule, with_subcommand};
 ghost use Rattle.clap.specs.declared.builder.command.Command.TheViews.{out-Command as fields_of};
-ghost use Rattle.mesh_line.specs.Words.{option_rule, flag_rule, place_rule, needed, bare_app, timed_app, again_app, plan_app, apply_app, run_app, evaluate_app, fetchdf_app, ingest_app, janitor_app, invalidate_app, migrate_app, batch_app, evaluate_places_app, unnamed_app, basis_app, to_plan_app, to_apply_app, to_run_app, to_evaluate_app, to_fetchdf_app, to_ingest_app, to_janitor_app, to_invalidate_app, to_migrate_app, mesh_app};
+ghost use Rattle.mesh_line.specs.Words.{option_rule, flag_rule, place_rule, needed, bare_app, timed_app, again_app, plan_app, apply_app, run_app, evaluate_app, fetchdf_app, ingest_app, janitor_app, invalidate_app, migrate_app, batch_app, demo_app, evaluate_places_app, unnamed_app, basis_app, to_plan_app, to_apply_app, to_run_app, to_evaluate_app, to_fetchdf_app, to_ingest_app, to_janitor_app, to_invalidate_app, to_migrate_app, to_batch_app, mesh_app};
 
 use clap::builder::ValueParser;
 use clap::{Arg, ArgAction, Command};
@@ -198,6 +198,16 @@ fn invalidate_command<'a>(alloc: Global) -> Result<Command<'a>, AllocError>
     with_arg(Ok(bare(alloc, "invalidate")), env)
 }
 
+fn demo_command<'a>(alloc: Global) -> Result<Command<'a>, AllocError>
+    ensures app { IfOk result (λ c. app_of c ≡ demo_app) }
+    ensures local { IfOk result (λ c. (fields_of c).has_globals ≡ false) }
+{
+    let records = needed_place(alloc, "records");
+    let workers = option(alloc, "workers");
+    let first = with_arg(Ok(bare(alloc, "demo")), records);
+    with_arg(first, workers)
+}
+
 fn unnamed<'a>(alloc: Global) -> Command<'a>
     ensures app { app_of result ≡ unnamed_app }
     ensures local { (fields_of result).has_globals ≡ false }
@@ -280,9 +290,16 @@ fn to_migrate<'a>(alloc: Global) -> Result<Command<'a>, AllocError>
     with_command(to_invalidate(alloc), Ok(bare(alloc, "migrate")))
 }
 
+fn to_batch<'a>(alloc: Global) -> Result<Command<'a>, AllocError>
+    ensures app { IfOk result (λ c. app_of c ≡ to_batch_app) }
+    ensures local { IfOk result (λ c. (fields_of c).has_globals ≡ false) }
+{
+    with_command(to_migrate(alloc), Ok(bare(alloc, "batch")))
+}
+
 /// All commands, with the options in front.
 pub(crate) fn commands<'a>(alloc: Global) -> Result<Command<'a>, AllocError>
     ensures app { IfOk result (λ c. app_of c ≡ mesh_app) }
 {
-    with_command(to_migrate(alloc), Ok(bare(alloc, "batch")))
+    with_command(to_batch(alloc), demo_command(alloc))
 }

@@ -4,11 +4,11 @@ ghost use Rattle.std.specs.Option.{option_map};
 ghost use Rattle.clap.specs.Walk.{rows_of};
 ghost use Rattle.clap.specs.Matches.{found_of};
 ghost use Rattle.mesh_line.specs.declared.line.Command.TheVariants.{Invalidate};
-ghost use Rattle.mesh_line.specs.Lines.{apply_given, command_given, evaluate_given, fetchdf_given, ingest_given, invalidate_given, plan_given, run_given};
+ghost use Rattle.mesh_line.specs.Lines.{apply_given, command_given, demo_given, evaluate_given, fetchdf_given, ingest_given, invalidate_given, plan_given, run_given};
 
 use crate::given::{
-    again_given, days_given, env_given, expiring_given, is_flagged, model_given, text_given,
-    workers_given,
+    again_given, count_given, days_given, env_given, expiring_given, is_flagged, model_given,
+    text_given, workers_given,
 };
 use crate::line::Command;
 use clap::ArgMatches;
@@ -150,6 +150,18 @@ fn invalidate_given(alloc: Global, m: &ArgMatches<'_>) -> Result<Option<Command>
     Ok(invalidated(env))
 }
 
+fn demo_given(m: &ArgMatches<'_>) -> Option<Command>
+    ensures { result ≡ demo_given (rows_of (found_of m.now)) }
+{
+    let Some(workers) = workers_given(m) else {
+        return None;
+    };
+    match count_given(m) {
+        None => None,
+        Some(n) => Some(Command::Demo { n, workers }),
+    }
+}
+
 /// The command of a name, at a moment if one is given.
 pub(crate) fn command_given(
     alloc: Global,
@@ -180,6 +192,8 @@ pub(crate) fn command_given(
         Ok(Some(Command::Migrate))
     } else if same_text(name, b"batch") {
         Ok(Some(Command::Batch))
+    } else if same_text(name, b"demo") {
+        Ok(demo_given(m))
     } else {
         Ok(None)
     }

@@ -3,13 +3,15 @@ ghost use Rattle.std.specs.Prelude.{◌≡◌, codes, IfOk};
 ghost use Rattle.std.specs.Option.{option_and_then, option_map};
 ghost use Rattle.clap.specs.Walk.{rows_of};
 ghost use Rattle.clap.specs.Matches.{found_of};
-ghost use Rattle.mesh_options.specs.Values.{name_named};
-ghost use Rattle.mesh_line.specs.Lines.{again_given, days_between, days_given, env_given, expiring_given, given, is_flagged, is_yes, model_given, workers_given};
+ghost use Rattle.mesh_options.specs.Values.{count_named, name_named};
+ghost use Rattle.mesh_line.specs.Lines.{again_given, count_given, days_between, days_given, env_given, expiring_given, given, is_flagged, is_yes, model_given, workers_given};
 
 use clap::ArgMatches;
 use mesh_base::Restate;
 use mesh_list::{Memory, Seq};
-use mesh_options::{again_named, days_named, env_named, expiring_named, name_named, workers_named};
+use mesh_options::{
+    again_named, count_named, days_named, env_named, expiring_named, name_named, workers_named,
+};
 use mesh_values::{Name, Str, same_text};
 use std::alloc::Global;
 
@@ -68,6 +70,21 @@ pub(crate) fn workers_given(m: &ArgMatches<'_>) -> Option<u32>
     ensures { result ≡ workers_given (rows_of (found_of m.now)) }
 {
     workers_named(given(m, "workers"))
+}
+
+fn count_of(text: Option<&str>) -> Option<u32>
+    ensures { result ≡ option_and_then count_named (option_map (λ s. s.now) text.entry) }
+{
+    match text {
+        None => None,
+        Some(text) => count_named(text.as_bytes()),
+    }
+}
+
+pub(crate) fn count_given(m: &ArgMatches<'_>) -> Option<u32>
+    ensures { result ≡ count_given (rows_of (found_of m.now)) }
+{
+    count_of(given(m, "records"))
 }
 
 pub(crate) fn again_given(

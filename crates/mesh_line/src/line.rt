@@ -51,6 +51,11 @@ pub enum Command {
     },
     Migrate,
     Batch,
+    /// The shop project with so many records, made and run in memory.
+    Demo {
+        n: u32,
+        workers: u32,
+    },
 }
 
 impl Drop for Command {
@@ -89,7 +94,8 @@ impl Drop for Command {
             | Command::Janitor { moment: _ }
             | Command::Invalidate { env: _ }
             | Command::Migrate
-            | Command::Batch => {}
+            | Command::Batch
+            | Command::Demo { n: _, workers: _ } => {}
         }
     }
 }

@@ -40,6 +40,16 @@ abbrev pub workers_named : Option (List ℕ) → Option ℕ
 workers_named None = Some 1
 workers_named (Some text) = option_and_then crew (number_named text)
 
+abbrev pub is_count : ℤ → Bool
+is_count n = le_z (pos 1) n && le_z n (pos 100_000)
+
+abbrev pub count : ℤ → Option ℕ
+count n = if is_count n then Some (unsigned_abs n) else None
+
+-- how many records a demonstration has: 1 to 100,000
+abbrev pub count_named : List ℕ → Option ℕ
+count_named text = option_and_then count (number_named text)
+
 -- a moment, where one is given
 abbrev pub IsMomentOf : Option (List ℕ) → Option ℤ → Type 0
 IsMomentOf None None = Unit {0}

@@ -4,7 +4,7 @@ ghost use Rattle.std.specs.List.{list_all, position};
 ghost use Rattle.std.specs.Option.{option_map};
 ghost use Rattle.std.specs.declared.option.Option.{Option};
 ghost use Rattle.mesh_changes.specs.Environments.{is_env_byte, is_env_name};
-ghost use Rattle.mesh_options.specs.Values.{IsMomentOf, again_named, days_named, env_named, expiring_named, is_other, is_point, name_named, name_of, restate_named, workers_named};
+ghost use Rattle.mesh_options.specs.Values.{IsMomentOf, again_named, count_named, days_named, env_named, expiring_named, is_other, is_point, name_named, name_of, restate_named, workers_named};
 
 use mesh_base::Restate;
 use mesh_casts::{day_named, lower_case, number_named};
@@ -76,6 +76,16 @@ pub fn workers_named(text: Option<&str>) -> Option<u32>
             Some(n) if 1 <= n && n <= 64 => Some(n as u32),
             _ => None,
         },
+    }
+}
+
+/// How many records a demonstration has: 1 to 100,000.
+pub fn count_named(text: &[u8]) -> Option<u32>
+    ensures { result ≡ count_named text.now }
+{
+    match number_named(text) {
+        Some(n) if 1 <= n && n <= 100_000 => Some(n as u32),
+        _ => None,
     }
 }
 
