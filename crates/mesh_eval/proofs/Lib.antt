@@ -8,3 +8,7 @@ pub mod Steps
 pub mod Trimmed
 -- Sides: where the columns of a node stand
 pub mod Sides
+-- Placed: rows of values where expressions are placed
+pub mod Placed
+-- Compared: values of operators between operands
+pub mod Compared

@@ -6,8 +6,9 @@ ghost use Rattle.mesh_index.specs.Places.{places};
 ghost use Rattle.mesh_expressions.specs.Frames.{scope_of, picked, all_places};
 ghost use Rattle.mesh_meaning.specs.Sel.{holds, same_row, key_list, group_of, group_row, grouped_rows};
 
+use crate::placing::{place_all, value_rows};
 use mesh_base::{Expr, Select};
-use mesh_expressions::{Frame, Members, ev, is_met, item_row, key_list};
+use mesh_expressions::{Frame, Members, ev, is_met, item_row};
 use mesh_index::Index;
 use mesh_joined::JoinedRows;
 use mesh_list::{Memory, push_made};
@@ -33,11 +34,8 @@ fn key_lists(
 ) -> Result<Rows, Memory>
     ensures { IfOk result (λ made. made ≡ map (key_list u columns.now keys.now) rows.now.rows) }
 {
-    let mut made = Rows::new(alloc);
-    for at in 0..rows.len() {
-        push_made(&mut made, key_list(alloc, keys, columns, rows.at(at), u))?;
-    }
-    Ok(made)
+    let keys = place_all(alloc, keys, columns, u)?;
+    value_rows(alloc, keys.as_slice(), columns, rows, u)
 }
 
 /// The row of a group, where HAVING is true.

@@ -1,10 +1,12 @@
 //! The rows of a query. Its contract: `eval` gives, as a bag, exactly the rows that the definition of the query has
-//! over its inputs and its bounds, for every query. It stands on `mesh_expressions` and `mesh_joined`, and on `mesh_list`,
-//! `mesh_values`, `mesh_base`, `mesh_columns`, `mesh_index` and the definitions of `mesh_meaning`.
+//! over its inputs and its bounds, for every query. It stands on `mesh_expressions`, `mesh_operators`, `mesh_joined`,
+//! `mesh_index`, `mesh_columns`, `mesh_list`, `mesh_values`, `mesh_base` and the definitions of `mesh_meaning`.
 #![tactic(auto)]
 
+mod comparing;
 mod groups;
 mod joins;
+mod placing;
 mod queries;
 mod tables;
 mod ties;

@@ -1,5 +1,5 @@
 -- The value of a node, from the values of its parts.
-use Rattle.std.proofs.Common.{◌≡◌, List, map, IfOk, sym, ap, ◌∙◌}
+use Rattle.std.proofs.Common.{◌≡◌, ℕ, List, [], ◌∷◌, map, IfOk, refl, sym, ap, ◌∙◌}
 use Rattle.std.proofs.lemmas.Result.{IfOk-weaker}
 use Rattle.std.specs.declared.result.Result.{Result}
 use Rattle.std.specs.declared.option.Option.{Option}
@@ -11,16 +11,23 @@ use Rattle.mesh_values.specs.declared.values.Cell.TheVariants as cell
 use Rattle.mesh_values.specs.declared.values.ColType.{ColType}
 use Rattle.mesh_base.specs.declared.expressions.Expr.{Expr, roll-Expr, out-roll-Expr}
 use Rattle.mesh_base.specs.declared.expressions.Expr as expr
-use Rattle.mesh_base.specs.declared.expressions.Expr.TheOpen.{Binary, Neg, Not, IsNull, Between, OneOf, Cast}
+use Rattle.mesh_base.specs.declared.expressions.Expr.TheOpen.{Literal, Col, Macro, Binary, Neg, Not, IsNull, Between, OneOf, Cast}
 use Rattle.mesh_base.specs.declared.expressions.When.{When}
 use Rattle.mesh_base.specs.declared.expressions.Op.{Op}
 use Rattle.mesh_base.specs.declared.expressions.Func.{Func}
 use Rattle.mesh_base.specs.declared.expressions.AggKind.{AggKind}
+use Rattle.mesh_base.specs.declared.expressions.Var.{Var}
+use Rattle.mesh_values.specs.declared.times.Bounds.{Bounds}
+use Rattle.mesh_values.specs.declared.values.Column.{Column}
 use Rattle.mesh_casts.specs.Casts.{cast_value}
 use Rattle.mesh_meaning.specs.Cells.{is_null, op_value, negative, opposite, between, one_of, func_value, chosen}
 use Rattle.mesh_meaning.specs.Aggregates.{agg_value}
-use Rattle.mesh_meaning.specs.Ev.{Scope, Ev, Ev_each, Ev_whens, Ev_node, at_row, over_group, node_value, valued}
-use Rattle.mesh_meaning.proofs.Nodes.{Ev_call, Ev_case, Ev_agg}
+use Rattle.mesh_meaning.specs.Ev.{Scope, Seen, Ev, Ev_each, Ev_whens, Ev_node, at_row, seen, over_group, node_value, valued}
+use Rattle.mesh_meaning.specs.Macros.{macro_value}
+use Rattle.mesh_meaning.specs.Sel.{Joined}
+use Rattle.mesh_joined.specs.declared.spots.Spot.{Spot}
+use Rattle.mesh_joined.specs.Spots.{IsSpot, cell_at}
+use Rattle.mesh_meaning.proofs.Nodes.{Ev_out, Ev_call, Ev_case, Ev_agg}
 
 -- what is had of an answer, by another name
 pub named : {A E : Type 0} (r : Result A E) (x y : A) → IfOk r (λ v. v ≡ x) → x ≡ y → IfOk r (λ v. v ≡ y)
@@ -70,3 +77,25 @@ of-case e otherwise x whens ws s is f g found h n =
 
 pub of-agg : (e : Expr) (kind : AggKind) (value x : Expr) (s : Scope) → e ≡ expr.Agg kind value → x ≡ value → over_group (λ rows. agg_value kind (map (λ row. Ev x (at_row s.bounds row)) rows)) s.group ≡ Ev_node e s
 of-agg e kind value x s is f = sym (Ev_agg kind x s) ∙ ap (λ v. Ev_node (expr.Agg kind v) s) f ∙ ap (λ x. Ev_node x s) (sym is)
+
+-- a leaf has its own value
+pub of-literal : (e : Expr) (c : Cell) (s : Scope) → e ≡ expr.Literal c → c ≡ Ev_node e s
+unfolding roll-Expr denote.Hole.Carrier.roll
+of-literal e c s is = sym (ap (λ d. node_value (valued d) s) (out-roll-Expr (Literal c))) ∙ ap (λ x. Ev_node x s) (sym is)
+
+pub of-macro : (e : Expr) (var : Var) (s : Scope) → e ≡ expr.Macro var → macro_value var s.bounds ≡ Ev_node e s
+unfolding roll-Expr denote.Hole.Carrier.roll
+of-macro e var s is = sym (ap (λ d. node_value (valued d) s) (out-roll-Expr (Macro var))) ∙ ap (λ x. Ev_node x s) (sym is)
+
+pub of-col : (e : Expr) (item : ℕ) (name : List ℕ) (s : Scope) → e ≡ expr.Col item name → s.column item name ≡ Ev_node e s
+unfolding roll-Expr denote.Hole.Carrier.roll
+of-col e item name s is = sym (ap (λ d. node_value (valued d) s) (out-roll-Expr (Col item name))) ∙ ap (λ x. Ev_node x s) (sym is)
+
+-- the values of a column at rows
+pub of-column : (e : Expr) (item : ℕ) (name : List ℕ) (u : Bounds) (rows : List Seen) → e ≡ expr.Col item name → map (λ row. row item name) rows ≡ map (λ row. Ev e (at_row u row)) rows
+of-column e item name u rows is = λ i. map (λ row. (of-col e item name (at_row u row) is ∙ sym (Ev_out e (at_row u row))) i) rows
+
+pub column-cells : (columns : List (List Column)) (item : ℕ) (name : List ℕ) (spot : Option Spot) (rows : List Joined) → IsSpot columns item name spot
+    → map (cell_at spot) rows ≡ map (λ row. row item name) (map (seen columns) rows)
+column-cells columns item name spot [] h = refl
+column-cells columns item name spot (row ∷ rows) h = λ i. sym (h row) i ∷ column-cells columns item name spot rows h i

@@ -2,10 +2,6 @@
 use Rattle.std.specs.Prelude.{ℕ, List, [], map, slice_index_or}
 use Rattle.std.specs.List.{range_with_len}
 use Rattle.std.specs.Option.{option_map}
-use Rattle.std.specs.declared.option.Option.{Option}
-use Rattle.std.specs.declared.option.Option.TheVariants.{None, Some}
-use Rattle.mesh_values.specs.declared.values.Cell.{Cell}
-use Rattle.mesh_values.specs.declared.values.Cell.TheVariants.{Null}
 use Rattle.mesh_expressions.specs.declared.frames.Frame.{Frame}
 use Rattle.mesh_expressions.specs.declared.frames.Members.{Members}
 use Rattle.mesh_joined.specs.Joined.{shown}
@@ -25,8 +21,3 @@ members g = picked g.rows.now.rows g.places.now
 
 abbrev pub scope_of : Frame → Scope
 scope_of f = record { column = seen f.columns.now (shown f.row.now); keys = f.keys.now; key_values = f.key_values.now; group = option_map (λ g. map (seen f.columns.now) (members g)) f.group; bounds = f.bounds }
-
--- a cell, and NULL where there is none
-abbrev pub cell_or_null : Option Cell → Cell
-cell_or_null None = Null
-cell_or_null (Some cell) = cell

@@ -6,12 +6,12 @@ ghost use Rattle.mesh_meaning.specs.Cells.{is_null, is_true, compared, either, n
 ghost use Rattle.mesh_casts.specs.Casts.{cast_value};
 ghost use Rattle.mesh_meaning.specs.Ev.{Ev, Ev_node, Ev_each, Ev_when, Ev_whens, at_row, seen, key_of, over_group};
 ghost use Rattle.mesh_meaning.specs.Aggregates.{agg_value, count_of};
-ghost use Rattle.mesh_meaning.specs.Sel.{item_row, key_list};
+ghost use Rattle.mesh_meaning.specs.Sel.{item_row};
 ghost use Rattle.mesh_expressions.specs.Frames.{scope_of, members};
 ghost use Rattle.mesh_joined.specs.Joined.{shown};
 
 use crate::aggregates::aggregate;
-use crate::frames::{Frame, Members, cell_at, column};
+use crate::frames::{Frame, Members, column, column_rows, key_value};
 use mesh_base::{AggKind, Expr, Func, Item, Op, When};
 use mesh_casts::cast;
 use mesh_list::{Memory, push_made, together};
@@ -29,7 +29,7 @@ pub fn ev<'v>(alloc: Global, e: &'v Expr, f: &Frame<'v, 'v>) -> Result<Held<'v>,
     ensures { IfOk result (λ v. v ≡ Ev e.now (scope_of f.now)) }
 {
     match key_of(e, f) {
-        Some(k) => Ok(cell_at(f.key_values, k)),
+        Some(k) => Ok(key_value(f.key_values, k)),
         None => ev_node(alloc, e, f),
     }
 }
@@ -181,7 +181,7 @@ fn ev_agg<'v>(
     match &f.group {
         None => Ok(Held::made(Cell::Null)),
         Some(group) => {
-            let cells = ev_rows(alloc, value, f.columns, group, f.bounds)?;
+            let cells = ev_cells(alloc, value, f.columns, group, f.bounds)?;
             made_of(aggregate(alloc, kind, cells.as_slice()))
         }
     }
@@ -260,6 +260,23 @@ fn count_rows(group: &Members) -> Cell
     Cell::Int(group.places.len() as i64)
 }
 
+/// The values at each row of a group, of a column where they lie.
+#[cycle(ev)]
+fn ev_cells<'v>(
+    alloc: Global,
+    value: &'v Expr,
+    columns: &'v [Columns],
+    group: &Members<'v, 'v>,
+    bounds: Bounds,
+) -> Result<Helds<'v>, Memory>
+    ensures { IfOk result (λ v. v ≡ map (λ row. Ev value.now (at_row bounds row)) (map (seen columns.now) (members group.now))) }
+{
+    match value {
+        Expr::Col { item, name } => column_rows(alloc, *item, name, columns, group),
+        _ => ev_rows(alloc, value, columns, group, bounds),
+    }
+}
+
 /// The values at each row of a group.
 #[cycle(ev)]
 fn ev_rows<'v>(
@@ -310,25 +327,4 @@ pub fn item_row<'v>(alloc: Global, items: &'v [Item], f: &Frame<'v, 'v>) -> Resu
         push_made(&mut made, kept(ev(alloc, &item.expr, f)))?;
     }
     Ok(made)
-}
-
-/// The values of keys at a row.
-pub fn key_list<'a, 'x>(
-    alloc: Global,
-    keys: &[Expr],
-    columns: &'a [Columns],
-    row: &'a [&'x [Cell]],
-    u: Bounds,
-) -> Result<Row, Memory>
-    ensures { IfOk result (λ made. made ≡ key_list u columns.now keys.now (shown row.now)) }
-{
-    let f = Frame {
-        columns,
-        row,
-        keys: &[],
-        key_values: &[],
-        group: None,
-        bounds: u,
-    };
-    ev_each(alloc, keys, &f)
 }

@@ -1,15 +1,16 @@
 // What an expression sees.
-ghost use Rattle.std.specs.Prelude.{◌≡◌, slice_get, slice_index_or, []};
-ghost use Rattle.std.specs.Option.{option_copied};
-ghost use Rattle.mesh_values.specs.Picked.{same_text, cell_of};
+ghost use Rattle.std.specs.Prelude.{◌≡◌, map, slice_index_or, IfOk};
 ghost use Rattle.mesh_meaning.specs.Ev.{seen};
-ghost use Rattle.mesh_expressions.specs.Frames.{cell_or_null};
+ghost use Rattle.mesh_expressions.specs.Frames.{members};
 ghost use Rattle.mesh_joined.specs.Joined.{shown};
+ghost use Rattle.mesh_joined.specs.Spots.{cell_at};
 
 use mesh_base::Expr;
-use mesh_joined::JoinedRows;
-use mesh_operators::Held;
-use mesh_values::{Bounds, Cell, Column, Columns, Str};
+use mesh_joined::{JoinedRows, Spot, cell_at, spot_of};
+use mesh_list::Memory;
+use mesh_operators::{Held, Helds};
+use mesh_values::{Bounds, Cell, Columns, Str};
+use std::alloc::Global;
 
 /// The rows of a group, by their places among all.
 #[derive(Clone, Copy)]
@@ -41,8 +42,8 @@ impl Drop for Frame<'_, '_> {
     }
 }
 
-/// The cell at a place, where there is one.
-pub(crate) fn cell_at(cells: &[Cell], k: usize) -> Held<'_>
+/// The value of the key at a place, where there is one.
+pub(crate) fn key_value(cells: &[Cell], k: usize) -> Held<'_>
     ensures { result ≡ slice_index_or cells.now k Cell.Null }
 {
     match cells.get(k) {
@@ -51,52 +52,11 @@ pub(crate) fn cell_at(cells: &[Cell], k: usize) -> Held<'_>
     }
 }
 
-fn is_named(column: &Column, name: &Str) -> bool
-    ensures { result ≡ same_text column.now.name name.now }
+/// The cell of a row that lies at a spot.
+pub fn lent_at<'x>(row: &[&'x [Cell]], spot: Option<Spot>) -> Held<'x>
+    ensures { result ≡ cell_at spot (shown row.now) }
 {
-    column.name.as_slice().cmp(&name.as_slice()).is_eq()
-}
-
-fn found_at(row: &[Cell], at: usize) -> Option<&Cell>
-    ensures { option_copied result ≡ slice_get row.now at }
-{
-    row.get(at)
-}
-
-// A row's cell in the column of that name.
-fn cell_of<'a>(columns: &[Column], row: &'a [Cell], name: &Str) -> Option<&'a Cell>
-    ensures { cell_or_null (option_copied result) ≡ cell_of columns.now row.now name.now }
-{
-    for (i, column) in columns.iter().enumerate() {
-        if is_named(column, name) {
-            return found_at(row, i);
-        }
-    }
-    None
-}
-
-fn columns_at<'a>(columns: &'a [Columns], item: u32) -> &'a [Column]
-    ensures { result.now ≡ slice_index_or columns.now item [] }
-{
-    match columns.get(item as usize) {
-        Some(found) => found.as_slice(),
-        None => &[],
-    }
-}
-
-fn cells_at<'a, 'x>(row: &'a [&'x [Cell]], item: u32) -> &'x [Cell]
-    ensures { result.now ≡ slice_index_or (shown row.now) item [] }
-{
-    match row.get(item as usize) {
-        Some(found) => *found,
-        None => &[],
-    }
-}
-
-fn field<'a>(columns: &[Column], row: &'a [Cell], name: &Str) -> Held<'a>
-    ensures { result ≡ cell_of columns.now row.now name.now }
-{
-    match cell_of(columns, row, name) {
+    match cell_at(row, spot) {
         Some(cell) => Held::lent(cell),
         None => Held::made(Cell::Null),
     }
@@ -106,5 +66,33 @@ fn field<'a>(columns: &[Column], row: &'a [Cell], name: &Str) -> Held<'a>
 pub(crate) fn column<'a, 'x>(f: &Frame<'a, 'x>, item: u32, name: &Str) -> Held<'x>
     ensures { result ≡ seen f.now.columns.now (shown f.now.row.now) item name.now }
 {
-    field(columns_at(f.columns, item), cells_at(f.row, item), name)
+    lent_at(f.row, spot_of(f.columns, item, name))
+}
+
+/// The cells of a group's rows that lie at a spot.
+fn lent_rows<'v>(
+    alloc: Global,
+    spot: Option<Spot>,
+    group: &Members<'v, 'v>,
+) -> Result<Helds<'v>, Memory>
+    ensures { IfOk result (λ made. made ≡ map (cell_at spot) (members group.now)) }
+{
+    let mut made = Helds::new(alloc);
+    for at in group.places {
+        made.push(lent_at(group.rows.get(*at), spot))?;
+    }
+    Ok(made)
+}
+
+/// The cells of a FROM item's column at each row of a group, where they lie.
+pub(crate) fn column_rows<'v>(
+    alloc: Global,
+    item: u32,
+    name: &Str,
+    columns: &[Columns],
+    group: &Members<'v, 'v>,
+) -> Result<Helds<'v>, Memory>
+    ensures { IfOk result (λ made. made ≡ map (λ row. row item name.now) (map (seen columns.now) (members group.now))) }
+{
+    lent_rows(alloc, spot_of(columns, item, name), group)
 }

@@ -7,5 +7,5 @@ mod aggregates;
 mod expressions;
 mod frames;
 
-pub use expressions::{ev, ev_row, is_met, item_row, key_list};
-pub use frames::{Frame, Members};
+pub use expressions::{ev, ev_row, is_met, item_row};
+pub use frames::{Frame, Members, lent_at};

@@ -1,10 +1,11 @@
-use Rattle.std.proofs.Common.{◌∙◌, ap}
+use Rattle.std.proofs.Common.{◌∙◌, ap, map}
+use Rattle.std.proofs.lemmas.Result.{IfOk-weaker}
 use Rattle.mesh_values.specs.declared.values.Cell.TheVariants as cell
 use Rattle.mesh_casts.specs.Casts.{cast_value}
 use Rattle.mesh_meaning.specs.Cells.{is_null, op_value, negative, opposite, between, one_of, func_value}
-use Rattle.mesh_meaning.specs.Ev.{Ev, Ev_each, Ev_node}
-use Rattle.mesh_expressions.specs.Frames.{scope_of}
-use Rattle.mesh_expressions.proofs.Nodes.{named, of-binary, of-neg, of-not, of-is_null, of-between, of-one_of, of-cast, of-call, of-when, of-case, of-agg}
+use Rattle.mesh_meaning.specs.Ev.{Ev, Ev_each, Ev_node, seen}
+use Rattle.mesh_expressions.specs.Frames.{scope_of, members}
+use Rattle.mesh_expressions.proofs.Nodes.{named, of-binary, of-neg, of-not, of-is_null, of-between, of-one_of, of-cast, of-call, of-when, of-case, of-agg, of-column}
 use Rattle.mesh_expressions.proofs.expressions.+ev.Goals as goal
 
 pub ev_node-returns-in-Binary : goal.ev_node-returns-in-Binary
@@ -83,3 +84,8 @@ ev_node-returns-in-Agg t c =
     let s = scope_of c.args.f.now in
     let x = c.get-in-Agg.result.now in
     named c.ev_agg.result _ (Ev_node c.args.e.now s) c.ev_agg.ensures (of-agg c.args.e.now c.in-Agg.kind c.in-Agg.value x s c.in-Agg.is c.get-in-Agg.ensures)
+
+pub ev_cells-returns-in-Col : goal.ev_cells-returns-in-Col
+ev_cells-returns-in-Col t c =
+    IfOk-weaker c.column_rows.result _ _
+    (λ made e. e ∙ of-column c.args.value.now c.in-Col.item c.in-Col.name c.args.bounds (map (seen c.args.columns.now) (members c.args.group.now)) c.in-Col.is) c.column_rows.ensures
