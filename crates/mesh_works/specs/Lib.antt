@@ -14,3 +14,5 @@ pub mod Lost
 pub mod Tables
 -- Cuts: the rows of a run, cut to its due parts.
 pub mod Cuts
+-- Fronts: which models may be computed before any of those before them is made.
+pub mod Fronts

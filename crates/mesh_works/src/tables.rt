@@ -21,7 +21,7 @@ use mesh_values::{Kind, Rows};
 use std::alloc::Global;
 
 /// A model as a table with these rows.
-fn table_of(node: &Node, rows: Rows) -> Result<Input, Memory>
+pub(crate) fn table_of(node: &Node, rows: Rows) -> Result<Input, Memory>
     ensures { IfOk result (λ table. table ≡ table_of node.now.own rows) }
 {
     let columns = columns_of(&node.own)?;

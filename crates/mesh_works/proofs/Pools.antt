@@ -1,0 +1,97 @@
+-- The tables of the first of some models, one model after another.
+use Rattle.std.proofs.Common.{◌≡◌, ◌+◌, ◌<◌, ◌≤◌, ℕ, zero, suc, List, [], ◌∷◌, ◌++◌, length, take, drop, map, get_or, Some, None, refl, sym, ap, ◌∙◌, subst, arith, append_assoc, add-one}
+use Rattle.std.specs.Option.{option_and_then, option_map}
+use Rattle.std.specs.declared.option.Option.{Option}
+use Rattle.std.proofs.lemmas.List.{append-nil, drop_all}
+use Rattle.mesh_base.specs.declared.jobs.Input.{Input}
+use Rattle.mesh_scratch.specs.Sources.{declared, inputs}
+use Rattle.mesh_house.specs.declared.world.World.{World}
+use Rattle.mesh_shown.specs.Shown.{each_there}
+use Rattle.mesh_due.specs.Plans.{Planned}
+use Rattle.mesh_works.specs.declared.works.Work.{Work}
+use Rattle.mesh_works.specs.Fronts.{or_end, pool_now, pools_from, table_now, tables_now, work_now}
+use Rattle.mesh_works.specs.Plain.{work_model}
+use Rattle.mesh_works.specs.Works.{Part, part_of}
+
+-- where one of them isn't there, not all are
+pub one_absent : (f : Work → Option Input) (ks : List Work) (i : ℕ) (k : Work) → i < length ks → k ≡ get_or ks i k → f k ≡ None → each_there (map f ks) ≡ None
+one_absent f [] i k lt here none = absurd (omega arith)
+one_absent f (x ∷ xs) zero k lt here none = ap (option_and_then (λ (y : Input). option_map (λ (ys : List Input). y ∷ ys) (each_there (map f xs)))) (ap f (sym here) ∙ none)
+one_absent f (x ∷ xs) (suc i) k lt here none =
+    ap (λ (os : Option (List Input)). option_and_then (λ (y : Input). option_map (λ (ys : List Input). y ∷ ys) os) (f x)) (one_absent f xs i k (omega arith) here none)
+    ∙ none_behind (f x)
+  where
+    none_behind : (o : Option Input) → option_and_then (λ (y : Input). option_map (λ (ys : List Input). y ∷ ys) None) o ≡ None
+    none_behind None = refl
+    none_behind (Some y) = refl
+
+pub nothing : (o : Option Input) → ((x : Input) → o ≡ Some x → ⊥) → o ≡ None
+nothing None h = refl
+nothing (Some x) h = absurd (h x refl)
+
+all_now : (w : World) (ks : List Work) → map (work_now w) ks ≡ map (table_now w) (map work_model ks)
+all_now w [] = refl
+all_now w (k ∷ ks) = ap (λ l. work_now w k ∷ l) (all_now w ks)
+
+-- what is found of the parents is found of the model
+pub none_there : (w : World) (p : Planned) (ks : List Work) (o : Option (List Input)) → o ≡ each_there (map (work_now w) ks) → o ≡ None → None ≡ tables_now w p (map work_model ks)
+none_there w p ks o found none = sym (ap (option_map (inputs w.sources p.node.own)) (ap each_there (sym (all_now w ks)) ∙ sym found ∙ none))
+
+pub all_there : (w : World) (p : Planned) (ks : List Work) (o : Option (List Input)) (tables read more : List Input) → o ≡ each_there (map (work_now w) ks) → o ≡ Some tables → read ≡ map (declared w.sources) p.node.own.sources → more ≡ read ++ tables
+    → Some more ≡ tables_now w p (map work_model ks)
+all_there w p ks o tables read more found some sources joined =
+    ap Some (joined ∙ ap (λ (l : List Input). l ++ tables) sources)
+    ∙ sym (ap (option_map (inputs w.sources p.node.own)) (ap each_there (sym (all_now w ks)) ∙ sym found ∙ some))
+
+module _ (w : World) (all : List Planned) (works : List Work) (i : ℕ) (x : Work) (lt : i < length works) (here : x ≡ get_or works i x) where
+  abbrev front : ℕ → List Part
+  front n = map part_of (take n works)
+
+  abbrev back : ℕ → List Part
+  back n = map part_of (drop n works)
+
+  come : front (suc i) ≡ front i ++ part_of x ∷ []
+  come = at works i lt here
+    where
+      at : (ks : List Work) (j : ℕ) → j < length ks → x ≡ get_or ks j x → map part_of (take (suc j) ks) ≡ map part_of (take j ks) ++ part_of x ∷ []
+      at [] j l h = absurd (omega arith)
+      at (k ∷ ks) zero l h = ap (λ (y : Work). part_of y ∷ []) (sym h)
+      at (k ∷ ks) (suc j) l h = ap (λ (l : List Part). part_of k ∷ l) (at ks j (omega arith) h)
+
+  left : back i ≡ part_of x ∷ back (suc i)
+  left = at works i lt here
+    where
+      at : (ks : List Work) (j : ℕ) → j < length ks → x ≡ get_or ks j x → map part_of (drop j ks) ≡ part_of x ∷ map part_of (drop (suc j) ks)
+      at [] j l h = absurd (omega arith)
+      at (k ∷ ks) zero l h = ap (λ (y : Work). part_of y ∷ map part_of ks) (sym h)
+      at (k ∷ ks) (suc j) l h = at ks j (omega arith) h
+
+  -- the next model's tables come first
+  next : (parts : List Part) → parts ≡ front (i + 1) → pools_from w all (front i) (back i) ≡ or_end (pool_now w all parts (part_of x)) (pools_from w all (front (i + 1)) (back (i + 1)))
+  next parts is =
+      let more : front (i + 1) ≡ front i ++ part_of x ∷ [] = rw (add-one i) come in
+      let rest : back (suc i) ≡ back (i + 1) = rw (add-one i) refl in
+      ap (pools_from w all (front i)) left
+      ∙ (λ j. or_end (pool_now w all (sym more j) (part_of x)) (pools_from w all (sym more j) (rest j)))
+      ∙ ap (λ (l : List Part). or_end (pool_now w all l (part_of x)) (pools_from w all (front (i + 1)) (back (i + 1)))) (sym is)
+
+  pub stops_there : (pools target : List (List Input)) (parts : List Part) → parts ≡ front (i + 1) → None ≡ pool_now w all parts (part_of x) → pools ++ pools_from w all (front i) (back i) ≡ target → pools ≡ target
+  stops_there pools target parts is none so_far =
+      sym (append-nil pools)
+      ∙ ap (λ (l : List (List Input)). pools ++ l) (sym (next parts is ∙ ap (λ (o : Option (List Input)). or_end o (pools_from w all (front (i + 1)) (back (i + 1)))) (sym none)))
+      ∙ so_far
+
+  pub comes_next : (pools more target : List (List Input)) (tables : List Input) (parts : List Part) → parts ≡ front (i + 1) → Some tables ≡ pool_now w all parts (part_of x) → more ≡ pools ++ tables ∷ [] → pools ++ pools_from w all (front i) (back i) ≡ target
+      → more ++ pools_from w all (front (i + 1)) (back (i + 1)) ≡ target
+  comes_next pools more target tables parts is there more_is so_far =
+      let rest = pools_from w all (front (i + 1)) (back (i + 1)) in
+      ap (λ (l : List (List Input)). l ++ rest) more_is
+      ∙ append_assoc pools (tables ∷ []) rest
+      ∙ ap (λ (l : List (List Input)). pools ++ l) (sym (next parts is ∙ ap (λ (o : Option (List Input)). or_end o rest) (sym there)))
+      ∙ so_far
+
+pub all_come : (w : World) (all : List Planned) (works : List Work) (i : ℕ) (pools target : List (List Input)) → length works ≤ i → pools ++ pools_from w all (map part_of (take i works)) (map part_of (drop i works)) ≡ target → pools ≡ target
+all_come w all works i pools target le so_far =
+    sym (append-nil pools)
+    ∙ sym (ap (λ (l : List Work). pools ++ pools_from w all (map part_of (take i works)) (map part_of l)) (drop_all i works le))
+    ∙ so_far

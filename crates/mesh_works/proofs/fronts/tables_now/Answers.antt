@@ -1,0 +1,19 @@
+use Rattle.std.proofs.Common.{◌∙◌, ap, map}
+use Rattle.mesh_layer.proofs.Finding.{and_then, answers, told_later}
+use Rattle.mesh_scratch.specs.Sources.{declared}
+use Rattle.mesh_works.proofs.Pools.{all_there, none_there}
+use Rattle.mesh_works.specs.Plain.{model_of}
+use Rattle.mesh_works.proofs.fronts.tables_now.Goals as goal
+
+pub returns-in-None : goal.returns-in-None
+returns-in-None g c =
+    let found = c.in_ok-tables.ensures in
+    answers _ _ _ _ _ _ found.untouched (λ w told plain. none_there w (model_of c.args.node.now c.args.entry.now) c.args.parents.now c.in_ok-tables.tables (found.ok w told plain) c.in-None.is)
+
+pub returns-in_ok-append-in-Some : goal.returns-in_ok-append-in-Some
+returns-in_ok-append-in-Some g c =
+    let found = c.in_ok-tables.ensures in
+    let read = c.in_ok-read-in-Some.ensures in
+    answers _ _ _ _ _ _ (and_then _ _ _ found.untouched read.untouched) (λ w told plain.
+    all_there w (model_of c.args.node.now c.args.entry.now) c.args.parents.now c.in_ok-tables.tables c.in-Some.tables c.in_ok-read-in-Some.read c.append.new.self (found.ok w told plain) c.in-Some.is
+    (read.ok w (told_later _ _ w found.untouched told) plain ∙ ap (map (declared w.sources)) c.as_slice.ensures) c.in_ok-append-in-Some.ensures)
