@@ -1,8 +1,10 @@
 -- What comes of a command and of the next ones.
-use Rattle.std.proofs.Common.{◌≡◌, ℕ, true, false, List, ◌++◌, Ok, Err, Some, Result, refl, sym, ap, subst}
+use Rattle.std.proofs.Common.{◌≡◌, ℕ, true, false, List, ◌++◌, Ok, Err, Some, None, Result, refl, sym, ap, subst}
 use Rattle.std.specs.Prelude.{IfOk}
 use Rattle.std.specs.Option.{unwrap_or}
 use Rattle.std.specs.declared.option.Option.{Option}
+use Rattle.mesh_values.specs.declared.values.Cell.{Cell}
+use Rattle.mesh_values.specs.declared.values.Name.{Name}
 use Rattle.mesh_io.specs.declared.files.File.{File}
 use Rattle.mesh_house.specs.declared.memory.MemHouse.{MemHouse}
 use Rattle.mesh_house.specs.declared.world.Change.{Change}
@@ -11,12 +13,14 @@ use Rattle.mesh_house.specs.Memory.{memory_told, memory_world}
 use Rattle.mesh_house.specs.Sources.{are_plain}
 use Rattle.mesh_house.specs.Step.{run}
 use Rattle.mesh_layer.specs.Shows.{Tells}
+use Rattle.mesh_layer.specs.Asked.{lost_view, shown_view}
 use Rattle.mesh_printed.specs.declared.refusals.Refusal.{Refusal}
+use Rattle.mesh_printed.specs.declared.refusals.Refusal.TheVariants.{ObjectMissing}
 use Rattle.mesh_printed.specs.Refusals.{refusal_line}
 use Rattle.mesh_commands.specs.Answers.{Answers, is_fault}
 use Rattle.mesh_house.specs.House.{Told}
 use Rattle.mesh_house.specs.World.{empty_world}
-use Rattle.mesh_demo.specs.Demos.{IsDemo, Loaded, Then, done, refused}
+use Rattle.mesh_demo.specs.Demos.{Counted, IsCounted, IsDemo, Loaded, Then, done, refused, shown_or, totals_view}
 use Rattle.mesh_demo.specs.Lines.{head_line}
 use Rattle.mesh_demo.specs.Shop.{shop}
 
@@ -49,6 +53,15 @@ module _ {outside : Type 0} (makes : World → List Change → Type 0) (gives : 
       → IfOk text (λ t. (is_fault r ≡ false) × (t ≡ refusal_line r)) → IfOk text (Then makes gives line rest (memory_world a))
   ended_by r (Ok text) by is = subst (Then makes gives line rest (memory_world a)) (sym is.1) (refused r is.0 (by.given (memory_world a) (tells a plain) is.0))
   ended_by r (Err e) by is = tt
+
+-- the totals can't be counted, since an object is missing: the text ends with that
+pub not_counted : {E : Type 0} (w : World) (object v : Name) (text : Result (List ℕ) E) → v ≡ totals_view → (shown_view w v ≡ None) × (lost_view w v ≡ Some object)
+    → IfOk text (λ t. (is_fault (ObjectMissing object) ≡ false) × (t ≡ refusal_line (ObjectMissing object))) → IfOk text (Counted w)
+not_counted w object v (Ok text) is missing by =
+    let none : shown_view w totals_view ≡ None = subst (λ (n : Name). shown_view w n ≡ None) is missing.0 in
+    let lost : lost_view w totals_view ≡ Some object = subst (λ (n : Name). lost_view w n ≡ Some object) is missing.1 in
+    subst (λ (o : Option (Option (List (List Cell)))). IsCounted (shown_or o (lost_view w totals_view)) text) (sym none) (subst (λ (o : Option Name). IsCounted (shown_or None o) text) (sym lost) by)
+not_counted w object v (Err e) is missing by = tt
 
 -- what comes of the same files
 pub still : {E : Type 0} (P : Option (List File) → World → List ℕ → Type 0) (files now : Option (List File)) (w : World) (text : Result (List ℕ) E) → now ≡ files → IfOk text (P now w) → IfOk text (P files w)
