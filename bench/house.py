@@ -99,7 +99,7 @@ def asked(rows):
     lines = "".join(f"{n},{n}\n" for n in range(rows))
     files = {
         "project/seeds/l.csv": "k,v\n" + lines,
-        "project/models/l.sql": "MODEL (name a.s, kind SEED (path '../seeds/l.csv'))\n",
+        "project/models/l.sql": "MODEL (name a.s, kind SEED (path '../seeds/l.csv'));\n",
         "project/models/m.sql": "MODEL (name a.l, kind FULL); SELECT k, v FROM a.s\n",
     }
     question = 'mesh fetchdf "SELECT COUNT(DISTINCT v) AS n FROM a.l"'
