@@ -16,11 +16,11 @@ SEED_LIMIT = 4_194_304
 APPLY = "apply --execution-time 2024-01-03T00:30\n"
 
 
-def ran(program, folder, script):
+def ran(program, folder, script, warehouse=":memory:"):
     """The least seconds of processor of three runs of a script over the project in a folder, and the most memory in MB."""
     best, peak = None, 0
     for _ in range(3):
-        child = subprocess.Popen([program, "--warehouse", ":memory:", "batch"], stdin=subprocess.PIPE, stdout=subprocess.DEVNULL, cwd=folder)
+        child = subprocess.Popen([program, "--warehouse", warehouse, "batch"], stdin=subprocess.PIPE, stdout=subprocess.DEVNULL, cwd=folder)
         child.stdin.write(script.encode())
         child.stdin.close()
         _, status, used = os.wait4(child.pid, 0)

@@ -1,7 +1,8 @@
 #!/usr/bin/env python3
 """Times the suite `queries` of `mesh_answers` on queries over tables of many rows, and the same queries in SQLite, in memory:
-a join, a left join of which half the rows have no partner, groups, DISTINCT, COUNT(DISTINCT), a filter and a CASE of ten
-branches, each over 1,000,000, 100,000 and 50,000 rows. Prints seconds of processor of one evaluation, growth from 50,000 to
+joins, a left join of which half the rows have no partner, groups, sums and maxima of 1,000 groups, DISTINCT, COUNT(DISTINCT), a
+filter, a CASE of ten branches, ten columns, arithmetic, functions of texts, UNION ALL and a CTE that is read twice, each over
+1,000,000, 100,000 and 50,000 rows. Prints seconds of processor of one evaluation, growth from 50,000 to
 100,000 rows, and beside them SQLite's seconds for the same rows, all of which it hands over. Last it prints the most memory
 that a run took, and that of the tables alone. The program reads its cases where it runs, so each run gets a folder with a
 file of its own.
@@ -25,6 +26,12 @@ QUERIES = {
     "number": "SELECT COUNT(DISTINCT v) FROM l",
     "filter": "SELECT k FROM l WHERE v < {half}",
     "case": f"SELECT CASE {WHENS} ELSE 9 END FROM l",
+    "sums": "SELECT k % 1000 AS g, SUM(v) AS s, MAX(v) AS m FROM l GROUP BY k % 1000",
+    "columns": "SELECT k, v, k, v, k, v, k, v, k, v FROM l",
+    "arithmetic": "SELECT (k + v) * 2 - v % 7 + ABS(3 - v) FROM l",
+    "text": "SELECT LENGTH(UPPER(CAST(v AS TEXT)) || 'x') FROM l",
+    "union": "SELECT k FROM l UNION ALL SELECT v FROM l",
+    "cte": "WITH c AS (SELECT k, v FROM l WHERE v % 2 = 0) SELECT COUNT(*) AS n, SUM(y.v) AS s FROM c AS x JOIN c AS y ON x.k = y.k",
 }
 
 # The same in canonical text.
@@ -37,11 +44,19 @@ RIGHT = "(rel 1:a 1:r)"
 BRANCHES = " ".join(f"(when (eq (rem {V} (int 10)) (int {n})) (int {n}))" for n in range(9))
 
 
-def select(items, more="", where="none", keys="", how="all plain"):
-    """A SELECT from the left table and more."""
-    return f"(select {how} [{items}] [{LEFT}{more}] {where} [{keys}] none)"
+def select(items, more="", where="none", keys="", how="all plain", first=LEFT):
+    """A SELECT from the left table, or what comes first, and more."""
+    return f"(select {how} [{items}] [{first}{more}] {where} [{keys}] none)"
 
 
+TEN = " ".join(f"(as 2:c{n} int {K if n % 2 == 0 else V})" for n in range(10))
+SUM = f"(add (sub (mul (add {K} {V}) (int 2)) (rem {V} (int 7))) (call abs [(sub (int 3) {V})]))"
+LENGTH = f"(call length [(cat (call upper [(cast text {V})]) (text 1:x))])"
+GROUP = f"(rem {K} (int 1000))"
+EVEN = f"(eq (rem {V} (int 2)) (int 0))"
+CTE = f"(cte [{select(f'(as 1:k int {K}) (as 1:v int {V})', where=EVEN)}])"
+
+# Of the query alone, its SELECTs; with a CTE before them where it has one.
 SELECTS = {
     "join": select(BOTH, f" (item inner {RIGHT} {SAME})", how="all grouped"),
     "where": select(BOTH, f" (item cross {RIGHT} none)", SAME, how="all grouped"),
@@ -51,7 +66,14 @@ SELECTS = {
     "number": select(f"(as 1:n int (agg countd {V}))", how="all grouped"),
     "filter": select(f"(as 1:k int {K})", where=f"(lt {V} (int {{half}}))"),
     "case": select(f"(as 1:n int (case [{BRANCHES}] (int 9)))"),
+    "sums": select(f"(as 1:g int {GROUP}) (as 1:s int (agg sum {V})) (as 1:m int (agg max {V}))", keys=GROUP, how="all grouped"),
+    "columns": select(TEN),
+    "arithmetic": select(f"(as 1:n int {SUM})"),
+    "text": select(f"(as 1:n int {LENGTH})"),
+    "union": f"{select(f'(as 1:k int {K})')} {select(f'(as 1:k int {V})')}",
+    "cte": select(BOTH, f" (item inner (cte 0) {SAME})", how="all grouped", first="(item first (cte 0) none)"),
 }
+CTES = {"cte": CTE}
 
 
 def table(name, rows, step):
@@ -70,7 +92,7 @@ def cases(what, rows, times):
     block = f"table 1:b | (seed [(column 1:n int)] [{numbers}])"
     tables = [table("l", rows, 1), table("r", rows, 2 if what == "left" else 1)]
     query = SELECTS[what].format(half=rows // 2)
-    return [block, *tables] + [f"sum {what} | (query [] [{query}])"] * times
+    return [block, *tables] + [f"sum {what} | (query [{CTES.get(what, '')}] [{query}])"] * times
 
 
 def run(suite, what, rows, times, runs=1):

@@ -3,8 +3,8 @@
 then 100,000 changes that each record an hour of one version after another; for 2,048 tables and for 4,096. Then one change
 that forgets 200,000 units of a version, which adjoin or are every second one; and one that gives 10,000 snapshots other
 fingerprints, which are of as many models or of one. Their seconds are those of a file that makes the changes at once and
-counts what is then there, without one that has the same changes and makes none. Last the suite `rows`: the views of a further
-environment of many models, by `apply` without those of `plan`, and a janitor's sweep of the snapshots and tables of
+counts what is then there, without one that has the same changes and makes none. Last the suite `rows`: the promotion of a
+further environment of many models, by `apply` without one that is stopped before it, and a janitor's sweep of the snapshots and tables of
 environments that are over; and a question over a view of 100,000 rows, beside the evaluation of its query alone, as the suite
 `queries` makes it. Prints seconds of processor and growth.
 
@@ -20,6 +20,7 @@ CHANGES = 100_000
 UNITS = 200_000
 SNAPSHOTS = 10_000
 TIMES = 20
+STOPPED = 3
 MOVES = 5
 HOUR = 3_600
 OWN = "own m (own 1:a 1:m (view) 9:0 0 * * * hour none [] (query [] []))"
@@ -81,11 +82,14 @@ def migrated(suite, count, models):
 
 
 def promoted(count):
-    """The seconds of pointing an environment's views: those of further environments of a project without those of their plans."""
+    """The seconds of promoting an environment: those of applies of further environments of a project without those of applies
+    that are stopped once the snapshots are put, which is before the environment is."""
     files, front = played.star(count), played.applied(1)
-    apply = played.each(played.PROGRAM, files, front, [f"mesh apply e{n} --execution-time 2024-01-03T00:30" for n in range(TIMES)])
-    plan = played.each(played.PROGRAM, files, front, [f"mesh plan e{n} --execution-time 2024-01-03T00:30" for n in range(TIMES)])
-    return apply - plan
+    applies = [f"mesh apply e{n:02} --execution-time 2024-01-03T00:30" for n in range(TIMES)]
+    # The moment and the snapshots are made, and the next change fails.
+    stopped = [step for apply in applies for step in (f"fail before {1 + count}", apply)]
+    whole = played.seconds(played.PROGRAM, files, front + applies, TIMES)
+    return (whole - played.seconds(played.PROGRAM, files, front + stopped, TIMES, STOPPED)) / TIMES
 
 
 def swept(count):
