@@ -33,11 +33,12 @@ use Rattle.mesh_changes.specs.Changes.{ascending}
 use Rattle.mesh_wave.specs.Waves.{counts, job_rows}
 use Rattle.mesh_lineage.specs.Joinable.{is_joinable}
 use Rattle.mesh_works.specs.Executable.{is_due_of}
+use Rattle.mesh_works.specs.Fronts.{pool_at}
 use Rattle.mesh_works.specs.Written.{written}
 use Rattle.mesh_works.specs.Plain.{model_of}
 use Rattle.mesh_works.specs.Works.{seed_rows}
 use Rattle.mesh_exec.specs.Executed.{filled, part_rows}
-use Rattle.mesh_exec.specs.Fills.{each_with, fillings, first_pool, run_fillings, run_rows, span_rows, zipped}
+use Rattle.mesh_exec.specs.Fills.{each_with, fillings, run_fillings, run_rows, span_rows, zipped}
 use Rattle.mesh_exec.specs.Jobs.{due_job, jobs_of, span_job}
 use Rattle.mesh_exec.specs.Runs.{AreRunsOf, are_fit_runs, dues_in, is_fit_run, is_run, spanned}
 use Rattle.mesh_exec.specs.declared.runs.Run.{Run}
@@ -48,13 +49,13 @@ at_most : (o : Option Job) → length (option_to_list o) ≤ 1
 at_most None = omega arith
 at_most (Some j) = omega arith
 
-one_job : (k : Kind) (b : Defn) (ds : List Due) → length (span_job 0 k b ds) ≤ 1
-one_job k b [] = omega arith
-one_job k b (d ∷ ds) = at_most (due_job 0 k b (spanned d ds))
+one_job : (pool : ℕ) (k : Kind) (b : Defn) (ds : List Due) → length (span_job pool k b ds) ≤ 1
+one_job pool k b [] = omega arith
+one_job pool k b (d ∷ ds) = at_most (due_job pool k b (spanned d ds))
 
-pub few_jobs : (k : Kind) (b : Defn) (runs : List Run) → length (jobs_of 0 k b runs) ≤ length runs
-few_jobs k b [] = omega arith
-few_jobs k b (r ∷ rs) = omega (arith, one_job k b (dues_in r), few_jobs k b rs, length-append (span_job 0 k b (dues_in r)) (jobs_of 0 k b rs))
+pub few_jobs : (pool : ℕ) (k : Kind) (b : Defn) (runs : List Run) → length (jobs_of pool k b runs) ≤ length runs
+few_jobs pool k b [] = omega arith
+few_jobs pool k b (r ∷ rs) = omega (arith, one_job pool k b (dues_in r), few_jobs pool k b rs, length-append (span_job pool k b (dues_in r)) (jobs_of pool k b rs))
 
 -- each row counts
 all_count : (columns : List Column) (u : Bounds) (rows : List (List Cell)) → filter (counts None columns u) rows ≡ rows
@@ -75,19 +76,19 @@ span_matches b (Whole place marks) ds h = h
 span_matches b (OfUnit place start end) ds h = h
 
 -- a run of a computed model has one job, whose rows are those of the run
-module _ (n : Node) (e : Entry) (pools : List (List Input)) where
+module _ (n : Node) (e : Entry) (pools : List (List Input)) (pool : ℕ) where
   abbrev p : Planned
   p = model_of n e
 
   one : (d : Due) (k : Kind) (b : Defn) → n.own.kind ≡ k → n.own.defn ≡ b → is_computed k ≡ true → is_body_of k b ≡ true → matches (is_incremental n.own.kind) d ≡ true
-      → map (job_rows pools) (option_to_list (due_job 0 k b d)) ≡ ascending (part_rows p (first_pool pools) d) ∷ []
+      → map (job_rows pools) (option_to_list (due_job pool k b d)) ≡ ascending (part_rows p (pool_at pools pool) d) ∷ []
   unfolding job_rows
   one (Whole place marks) Full (Sql q) kind defn computed body fit =
-      ap (λ (rows : List (List Cell)). ascending rows ∷ []) (all_count (select_columns q.selects) no_bounds (Sel q (first_pool pools) no_bounds) ∙ ap (λ (b : Defn). defn_rows b (first_pool pools) no_bounds) (sym defn))
+      ap (λ (rows : List (List Cell)). ascending rows ∷ []) (all_count (select_columns q.selects) no_bounds (Sel q (pool_at pools pool) no_bounds) ∙ ap (λ (b : Defn). defn_rows b (pool_at pools pool) no_bounds) (sym defn))
   one (OfUnit place start end) Full (Sql q) kind defn computed body fit = absurd (let j : is_incremental n.own.kind ≡ false = ap is_incremental kind in cc)
   one (OfUnit place start end) (Incremental time lookback) (Sql q) kind defn computed body fit =
       let u : Bounds = record { start = start; end = end } in
-      λ i. ascending (filter (λ row. lies_by (time_column (sym kind i)) (defn_columns (sym defn i)) u row) (defn_rows (sym defn i) (first_pool pools) u)) ∷ []
+      λ i. ascending (filter (λ row. lies_by (time_column (sym kind i)) (defn_columns (sym defn i)) u row) (defn_rows (sym defn i) (pool_at pools pool) u)) ∷ []
   one (Whole place marks) (Incremental time lookback) (Sql q) kind defn computed body fit = absurd (let j : is_incremental n.own.kind ≡ true = ap is_incremental kind in let f : not (is_incremental n.own.kind) ≡ true = fit in let g : not true ≡ true = ap not (sym j) ∙ f in cc)
   one d Full (Seed columns rows) kind defn computed body fit = absurd (let f : false ≡ true = body in cc)
   one d (Incremental time lookback) (Seed columns rows) kind defn computed body fit = absurd (let f : false ≡ true = body in cc)
@@ -95,26 +96,26 @@ module _ (n : Node) (e : Entry) (pools : List (List Input)) where
   one d SeedKind b kind defn computed body fit = absurd (let f : false ≡ true = computed in cc)
 
   one_run : (ds : List Due) → is_computed n.own.kind ≡ true → is_body_of n.own.kind n.own.defn ≡ true → is_run (is_joinable n.own) ds ≡ true → list_all (is_due_of (Some n)) ds ≡ true
-      → map (job_rows pools) (span_job 0 n.own.kind n.own.defn ds) ≡ span_rows p (first_pool pools) ds ∷ []
+      → map (job_rows pools) (span_job pool n.own.kind n.own.defn ds) ≡ span_rows p (pool_at pools pool) ds ∷ []
   one_run [] computed body run fit = absurd (let f : false ≡ true = run in cc)
   one_run (d ∷ ds) computed body run fit =
       one (spanned d ds) n.own.kind n.own.defn refl refl computed body (span_matches (is_incremental n.own.kind) d ds (fit_matches n d (is_both (is_due_of (Some n) d) (list_all (is_due_of (Some n)) ds) fit).0))
 
-  pub jobs_rows : (runs : List Run) → is_computed n.own.kind ≡ true → is_body_of n.own.kind n.own.defn ≡ true → are_fit_runs n runs ≡ true → map (job_rows pools) (jobs_of 0 n.own.kind n.own.defn runs) ≡ map (run_rows p (first_pool pools)) runs
+  pub jobs_rows : (runs : List Run) → is_computed n.own.kind ≡ true → is_body_of n.own.kind n.own.defn ≡ true → are_fit_runs n runs ≡ true → map (job_rows pools) (jobs_of pool n.own.kind n.own.defn runs) ≡ map (run_rows p (pool_at pools pool)) runs
   jobs_rows [] computed body fit = refl
   jobs_rows (r ∷ rs) computed body fit =
       let f = is_both (is_fit_run n r) (are_fit_runs n rs) fit in
       let g = is_both (is_run (is_joinable n.own) (dues_in r)) (list_all (is_due_of (Some n)) (dues_in r)) f.0 in
-      map-append (job_rows pools) (span_job 0 n.own.kind n.own.defn (dues_in r)) (jobs_of 0 n.own.kind n.own.defn rs)
+      map-append (job_rows pools) (span_job pool n.own.kind n.own.defn (dues_in r)) (jobs_of pool n.own.kind n.own.defn rs)
       ∙ (λ i. one_run (dues_in r) computed body g.0 g.1 i ++ jobs_rows rs computed body f.1 i)
 
   -- what fills the runs
-  pub zip_fills : (runs : List Run) → are_fit_runs n runs ≡ true → zipped p runs (map (run_rows p (first_pool pools)) runs) ≡ run_fillings p (first_pool pools) runs
+  pub zip_fills : (runs : List Run) → are_fit_runs n runs ≡ true → zipped p runs (map (run_rows p (pool_at pools pool)) runs) ≡ run_fillings p (pool_at pools pool) runs
   zip_fills [] fit = refl
   zip_fills (r ∷ rs) fit =
       let f = is_both (is_fit_run n r) (are_fit_runs n rs) fit in
       let g = is_both (is_run (is_joinable n.own) (dues_in r)) (list_all (is_due_of (Some n)) (dues_in r)) f.0 in
-      λ i. cut_run n e (first_pool pools) (dues_in r) g.0 g.1 i ++ zip_fills rs f.1 i
+      λ i. cut_run n e (pool_at pools pool) (dues_in r) g.0 g.1 i ++ zip_fills rs f.1 i
 
 module _ (n : Node) (e : Entry) (ts : List Input) where
   abbrev m : Planned
@@ -198,27 +199,27 @@ pub ok_at : {X Y E : Type 0} (P : X → Y → Type 0) (r : Result X E) (y : Y) �
 ok_at P (Ok x) y h = h y
 ok_at P (Err e) y h = tt
 
--- all jobs are over the first pool
-module _ (n : ℕ) (le : 1 ≤ n) where
+-- all jobs are over one pool
+module _ (n pool : ℕ) (lt : pool < n) where
   abbrev There : Job → Type 0
   There j = j.pool < n
 
-  zero_one : (k : Kind) (b : Defn) (d : Due) → All There (option_to_list (due_job 0 k b d))
-  zero_one (Incremental time lookback) (Sql q) (OfUnit place start end) = All-cons There _ [] (omega (arith, le)) (All-nil There)
-  zero_one (Incremental time lookback) (Sql q) (Whole place marks) = All-nil There
-  zero_one Full (Sql q) (Whole place marks) = All-cons There _ [] (omega (arith, le)) (All-nil There)
-  zero_one Full (Sql q) (OfUnit place start end) = All-nil There
-  zero_one View (Sql q) d = All-nil There
-  zero_one SeedKind (Sql q) d = All-nil There
-  zero_one k (Seed columns rows) d = All-nil There
+  one_there : (k : Kind) (b : Defn) (d : Due) → All There (option_to_list (due_job pool k b d))
+  one_there (Incremental time lookback) (Sql q) (OfUnit place start end) = All-cons There _ [] lt (All-nil There)
+  one_there (Incremental time lookback) (Sql q) (Whole place marks) = All-nil There
+  one_there Full (Sql q) (Whole place marks) = All-cons There _ [] lt (All-nil There)
+  one_there Full (Sql q) (OfUnit place start end) = All-nil There
+  one_there View (Sql q) d = All-nil There
+  one_there SeedKind (Sql q) d = All-nil There
+  one_there k (Seed columns rows) d = All-nil There
 
-  zero_run : (k : Kind) (b : Defn) (ds : List Due) → All There (span_job 0 k b ds)
-  zero_run k b [] = All-nil There
-  zero_run k b (d ∷ ds) = zero_one k b (spanned d ds)
+  run_there : (k : Kind) (b : Defn) (ds : List Due) → All There (span_job pool k b ds)
+  run_there k b [] = All-nil There
+  run_there k b (d ∷ ds) = one_there k b (spanned d ds)
 
-  all_zero : (k : Kind) (b : Defn) (runs : List Run) → All There (jobs_of 0 k b runs)
-  all_zero k b [] = All-nil There
-  all_zero k b (r ∷ rs) = All-append There (span_job 0 k b (dues_in r)) (jobs_of 0 k b rs) (zero_run k b (dues_in r)) (all_zero k b rs)
+  pub all_there : (k : Kind) (b : Defn) (runs : List Run) → All There (jobs_of pool k b runs)
+  all_there k b [] = All-nil There
+  all_there k b (r ∷ rs) = All-append There (span_job pool k b (dues_in r)) (jobs_of pool k b rs) (run_there k b (dues_in r)) (all_there k b rs)
 
-  pub pools_there : (k : Kind) (b : Defn) (runs : List Run) (jobs : List Job) → jobs ≡ jobs_of 0 k b runs → All There jobs
-  pools_there k b runs jobs is = subst (All There) (sym is) (all_zero k b runs)
+  pub pools_there : (k : Kind) (b : Defn) (runs : List Run) (jobs : List Job) → jobs ≡ jobs_of pool k b runs → All There jobs
+  pools_there k b runs jobs is = subst (All There) (sym is) (all_there k b runs)

@@ -8,6 +8,12 @@ pub mod Filling
 pub mod Stepping
 -- Models: a model is made and filled, and then the next one.
 pub mod Models
+-- Fronting: the rows of models that are computed side by side, and the changes that are made of them.
+pub mod Fronting
+-- Leading: what makes and fills models over tables that were found before.
+pub mod Leading
+-- Nexts: the first of some models are made and filled, and then the next ones.
+pub mod Nexts
 -- Ranks: the models of a plan stand by rank.
 pub mod Ranks
 -- Fitting: what is due in a plan fits its models.

@@ -36,12 +36,12 @@ use Rattle.mesh_exec.specs.declared.faults.ExecFault.TheVariants as fault
 use Rattle.mesh_exec.specs.Answers.{of_house, of_show}
 use Rattle.mesh_exec.specs.Executed.{executes, fills, filled, part_fills, part_filling, part_outline, parts_outline}
 use Rattle.mesh_exec.specs.Fills.{fillings}
-use Rattle.mesh_exec.specs.Steps.{IsPartMade, MakesPart, MakesParts, Tries, or_nothing}
+use Rattle.mesh_exec.specs.Steps.{IsPartMade, MakesPart, MakesParts, Reached, Tries, or_nothing}
 use Rattle.mesh_exec.proofs.Running.{is_both}
 use Rattle.mesh_exec.proofs.Stepping.{each_many, each_sources, making_sources, none_made, prefix_more, prefix_then, run_then, whole_prefix, written_many, written_sources}
 
 -- the tables that a part finds are those that its fills are over
-found_fills : (w : World) (all : List Planned) (m : Planned) (dues : List Due) (ts : List Input) → tables_if (is_any dues) w all m ≡ Some ts → fills w all m dues ≡ Some (fillings m ts dues)
+pub found_fills : (w : World) (all : List Planned) (m : Planned) (dues : List Due) (ts : List Input) → tables_if (is_any dues) w all m ≡ Some ts → fills w all m dues ≡ Some (fillings m ts dues)
 found_fills w all m [] ts h = refl
 found_fills w all m (d ∷ ds) ts h = ap (option_map (λ (tables : List Input). flat_map (filled m tables) (d ∷ ds))) h
 
@@ -54,15 +54,15 @@ house_err e = Err e
 abbrev show_err : ShowFault → Result (List Input) ShowFault
 show_err e = Err e
 
-no_model : {f : ExecFault} (e : WhFail) → f ≡ of_house e → (name : Name) (kind : FaultKind) → err f ≡ err (fault.Model name kind) → ⊥
+pub no_model : {f : ExecFault} (e : WhFail) → f ≡ of_house e → (name : Name) (kind : FaultKind) → err f ≡ err (fault.Model name kind) → ⊥
 no_model house.Failed is name kind k = cc
 no_model house.Memory is name kind k = cc
 
-no_dangling : {f : ExecFault} (e : WhFail) → f ≡ of_house e → (o : Name) → err f ≡ err (fault.Dangling o) → ⊥
+pub no_dangling : {f : ExecFault} (e : WhFail) → f ≡ of_house e → (o : Name) → err f ≡ err (fault.Dangling o) → ⊥
 no_dangling house.Failed is o k = cc
 no_dangling house.Memory is o k = cc
 
-same_fault : {f : ExecFault} (e : WhFail) → f ≡ of_house e → err f ≡ err fault.Warehouse → house_err e ≡ house_err house.Failed
+pub same_fault : {f : ExecFault} (e : WhFail) → f ≡ of_house e → err f ≡ err fault.Warehouse → house_err e ≡ house_err house.Failed
 same_fault house.Failed is k = refl
 same_fault house.Memory is k = absurd (cc)
 
@@ -74,10 +74,10 @@ module _ (all : List Planned) (p : Part) where
   pub fillings_many : (ts : List Input) → length (fillings m ts p.dues) ≡ length (part_filling p)
   fillings_many ts = each_many (filled m ts) (λ d. written m p.node.own.kind d []) (λ d. written_many m p.node.own.kind d _ []) p.dues
 
-  fillings_sources : (ts : List Input) (w : World) → (run w (fillings m ts p.dues)).sources ≡ w.sources
+  pub fillings_sources : (ts : List Input) (w : World) → (run w (fillings m ts p.dues)).sources ≡ w.sources
   fillings_sources ts w = each_sources (filled m ts) (λ v d. written_sources v m p.node.own.kind d _) w p.dues
 
-  making_keeps : (w : World) → (run w (making all p)).sources ≡ w.sources
+  pub making_keeps : (w : World) → (run w (making all p)).sources ≡ w.sources
   making_keeps w = making_sources w all m p.node.own.kind p.entry.made (is_any p.dues)
 
   pub tells_later : (list : List Change) (a b : Told) (w : World) → Tells a w → IsRun list w a.calls b → (run w list).sources ≡ w.sources → Tells b (run w list)
@@ -286,13 +286,6 @@ module _ (all : List Planned) (p : Part) where
   sum_stops a b c x y (Err f) made tried is = sum_err all p a b c x y f made tried is
 
 -- some models were made, and the others are left
-pub record Reached (all : List Planned) (done : List Part) (w : World) (before : ℕ) (now : Told) : Type 0 where
-  pub list : List Change
-  pub first : (more : List Part) → executes all (done ++ more) w ≡ list ++ executes all more (run w list)
-  pub made : IsRun list w before now
-  pub sources : (run w list).sources ≡ w.sources
-  pub many : length list ≡ length (parts_outline all done)
-
 pub record SoFar (all : List Planned) (parts done rest : List Part) (number : ℕ) (old now : Told) : Type 0 where
   pub faults : old.faults ≤ now.faults
   pub split : parts ≡ done ++ rest

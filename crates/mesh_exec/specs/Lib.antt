@@ -14,3 +14,7 @@ pub mod Fills
 pub mod Steps
 -- Planned: a plan beside the plan of a project's nodes in a book.
 pub mod Planned
+-- Cuts: models that may be computed side by side.
+pub mod Cuts
+-- Fronts: models whose rows are computed side by side, before any of them is made.
+pub mod Fronts

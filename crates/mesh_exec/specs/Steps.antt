@@ -1,5 +1,5 @@
 -- What the models of a plan make of a house, one after another.
-use Rattle.std.specs.Prelude.{◌≡◌, ◌≤◌, ℕ, List, [], ◌∷◌, ◌++◌, length, Some, None, Err, Result, OnOk, OnErr, IfOk, IsErrOf}
+use Rattle.std.specs.Prelude.{◌≡◌, ◌<◌, ◌≤◌, ℕ, List, [], ◌∷◌, ◌++◌, length, take, Some, None, Err, Result, OnOk, OnErr, IfOk, IsErrOf}
 use Rattle.std.specs.Option.{ForSome}
 use Rattle.std.specs.declared.option.Option.{Option}
 use Rattle.mesh_list.specs.Counts.{risen, Rose}
@@ -18,6 +18,7 @@ use Rattle.mesh_works.specs.Plain.{making, models, opened}
 use Rattle.mesh_works.specs.Works.{Part, parts}
 use Rattle.mesh_exec.specs.declared.faults.ExecFault.{ExecFault}
 use Rattle.mesh_exec.specs.declared.faults.ExecFault.TheVariants as fault
+use Rattle.mesh_exec.specs.declared.making.Next.{Next}
 use Rattle.mesh_exec.specs.Executed.{executed, executes, outline, part_outline, parts_outline}
 use Rattle.mesh_exec.specs.Sources.{first_lack}
 
@@ -85,6 +86,27 @@ pub record MakesParts (all : List Planned) (parts : List Part) (old new : Told) 
   pub failed : IsErrOf result fault.Warehouse → Rose old.faults new.faults
   pub number : IfOk result (λ made. made ≡ length (parts_outline all parts))
   pub calls : IfOk result (λ made. new.calls ≡ risen made old.calls)
+
+-- some models were made, and the others come next
+pub record Reached (all : List Planned) (done : List Part) (w : World) (before : ℕ) (now : Told) : Type 0 where
+  pub list : List Change
+  pub first : (more : List Part) → executes all (done ++ more) w ≡ list ++ executes all more (run w list)
+  pub made : IsRun list w before now
+  pub sources : (run w list).sources ≡ w.sources
+  pub many : length list ≡ length (parts_outline all done)
+
+-- a call that is to make and fill the objects of the first of some models
+pub record MakesNext (all : List Planned) (parts : List Part) (old new : Told) (result : Result Next ExecFault) : Type 0 where
+  pub faults : old.faults ≤ new.faults
+  pub any : IfOk result (λ next. 0 < next.models)
+  pub within : IfOk result (λ next. next.models ≤ length parts)
+  pub ok : IfOk result (λ next. (w : World) → Tells old w → Reached all (take next.models parts) w old.calls new)
+  pub err : OnErr result ((w : World) → Tells old w → IsPrefixRun (executes all parts w) w old.calls new)
+  pub unmade : (name : Name) (kind : FaultKind) → result ≡ Err (fault.Model name kind) → ⊥
+  pub dangling : (object : Name) → result ≡ Err (fault.Dangling object) → (w : World) → Tells old w → ForSome new.world (λ v. IsLost all parts w v object)
+  pub failed : IsErrOf result fault.Warehouse → Rose old.faults new.faults
+  pub number : IfOk result (λ next. next.changes ≡ length (parts_outline all (take next.models parts)))
+  pub calls : IfOk result (λ next. new.calls ≡ risen next.changes old.calls)
 
 -- a call that is to look at the sources of some models
 pub record Looks {T : Type 0} (parts : List Part) (old new : Told) (result : Result T ExecFault) : Type 0 where

@@ -72,7 +72,7 @@ fn push_run(
 }
 
 /// Each run with the rows at its place.
-fn push_zipped(
+pub(crate) fn push_zipped(
     alloc: Global,
     changes: &mut Changes,
     node: &Node,
@@ -293,7 +293,7 @@ fn fill_computed<R: Threads + Sync, W: Warehouse, G: Gate>(
 }
 
 /// What fills the due parts of a view or a seed, over whatever tables.
-fn changes_of(alloc: Global, node: &Node, entry: &Entry, dues: &[Due]) -> Result<Changes, Memory>
+pub(crate) fn changes_of(alloc: Global, node: &Node, entry: &Entry, dues: &[Due]) -> Result<Changes, Memory>
     requires fit { is_fit node.now dues.now ≡ true }
     requires kind { is_computed node.now.own.kind ≡ false }
     ensures { IfOk result (λ changes. (tables : List Input) → changes ≡ fillings (model_of node.now entry.now) tables dues.now) }
@@ -324,7 +324,7 @@ fn fill_kept<W: Warehouse>(
     make_counted(alloc, house, changes.as_slice())
 }
 
-fn is_computed(kind: &Kind) -> bool
+pub(crate) fn is_computed(kind: &Kind) -> bool
     ensures { result ≡ is_computed kind.now }
 {
     match kind {

@@ -65,13 +65,21 @@ fn push_run(jobs: &mut Jobs, pool: u32, node: &Node, run: &Run) -> Result<(), Me
     }
 }
 
+/// The jobs of some runs, all over one pool.
+pub(crate) fn push_jobs(jobs: &mut Jobs, pool: u32, node: &Node, runs: &[Run]) -> Result<(), Memory>
+    ensures { OnOk result (jobs.new ≡ jobs.old ++ jobs_of pool node.now.own.kind node.now.own.defn runs.now) }
+{
+    for run in runs {
+        push_run(jobs, pool, node, run)?;
+    }
+    Ok(())
+}
+
 /// The jobs of some runs, all over the first pool.
 pub(crate) fn jobs_of(alloc: Global, node: &Node, runs: &[Run]) -> Result<Jobs, Memory>
     ensures { IfOk result (λ jobs. jobs ≡ jobs_of 0 node.now.own.kind node.now.own.defn runs.now) }
 {
     let mut jobs = Seq::new(alloc);
-    for run in runs {
-        push_run(&mut jobs, 0, node, run)?;
-    }
+    push_jobs(&mut jobs, 0, node, runs)?;
     Ok(jobs)
 }

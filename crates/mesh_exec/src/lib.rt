@@ -8,9 +8,11 @@
 mod executing;
 mod faults;
 mod fills;
+mod fronts;
 mod jobs;
 mod laws;
 mod making;
+mod ready;
 mod runs;
 mod sources;
 

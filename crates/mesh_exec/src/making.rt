@@ -1,21 +1,23 @@
 // The models of a plan are made and filled, one after another.
-ghost use Rattle.std.specs.Prelude.{◌≡◌, ◌≤◌, ◌∷◌, [], IfOk, length, map, true};
+ghost use Rattle.std.specs.Prelude.{◌≡◌, ◌<◌, ◌≤◌, ◌∷◌, [], IfOk, length, map, true};
 ghost use Rattle.mesh_list.specs.Counts.{risen};
 ghost use Rattle.mesh_house.specs.Runs.{Makes};
 ghost use Rattle.mesh_works.specs.Lost.{lost_part};
 ghost use Rattle.mesh_works.specs.Plain.{making, plain_models};
 ghost use Rattle.mesh_works.specs.Works.{are_fit, is_fit, part_of};
 ghost use Rattle.mesh_exec.specs.Executed.{part_fills, part_filling};
-ghost use Rattle.mesh_exec.specs.Steps.{MakesPart, MakesParts, Tries};
+ghost use Rattle.mesh_exec.specs.Steps.{MakesNext, MakesPart, MakesParts, Tries};
 
 use crate::faults::ExecFault;
 use crate::fills::{added, fill_all};
+use crate::fronts::make_front;
+use crate::ready::ready_of;
 use mesh_base::{Entry, Inputs, Node, Pools};
 use mesh_house::{Warehouse, WhFail};
 use mesh_list::{Memory, Seq};
 use mesh_making::make_counted;
 use mesh_wave::Gate;
-use mesh_works::{Work, part_tables, push_making};
+use mesh_works::{Work, part_tables, pools_ahead, push_making};
 use std::alloc::Global;
 use std::thread::Threads;
 
@@ -89,6 +91,70 @@ fn make_part<R: Threads + Sync, W: Warehouse, G: Gate>(
     Ok(sum)
 }
 
+/// How many models were made and filled, and by how many changes.
+#[derive(Clone, Copy)]
+pub(crate) struct Next {
+    pub(crate) models: usize,
+    pub(crate) changes: u64,
+}
+
+/// Makes and fills the object of the first of some models.
+fn make_first<R: Threads + Sync, W: Warehouse, G: Gate>(
+    rt: &R,
+    alloc: Global,
+    house: &mut W,
+    nodes: &[Node],
+    entries: &[Entry],
+    works: &[Work],
+    workers: u32,
+    gate: &G,
+) -> Result<Next, ExecFault>
+    requires workers { (1 ≤ workers) × (workers ≤ 64) }
+    requires any { 0 < length works.now }
+    requires fit { are_fit (map part_of works.now) ≡ true }
+    ensures { MakesNext (plain_models nodes.now entries.now) (map part_of works.now) (W.told house.old) (W.told house.new) result }
+{
+    let changes = make_part(rt, alloc, house, nodes, entries, &works[0], workers, gate)?;
+    Ok(Next { models: 1, changes })
+}
+
+/// How many models are computed side by side: a few for each of so many workers.
+fn most_of(workers: u32) -> usize
+    requires { workers ≤ 64 }
+    ensures { result ≤ 256 }
+{
+    workers as usize * 4
+}
+
+/// Makes and fills the objects of the first of some models: of those whose tables are all there before, side by side.
+fn make_next<R: Threads + Sync, W: Warehouse, G: Gate>(
+    rt: &R,
+    alloc: Global,
+    house: &mut W,
+    nodes: &[Node],
+    entries: &[Entry],
+    works: &[Work],
+    workers: u32,
+    gate: &G,
+) -> Result<Next, ExecFault>
+    requires workers { (1 ≤ workers) × (workers ≤ 64) }
+    requires any { 0 < length works.now }
+    requires fit { are_fit (map part_of works.now) ≡ true }
+    ensures { MakesNext (plain_models nodes.now entries.now) (map part_of works.now) (W.told house.old) (W.told house.new) result }
+{
+    let cuts = ready_of(alloc, works, most_of(workers))?;
+    let pooled = pools_ahead(alloc, house, nodes, entries, &works[..cuts.len()])?;
+    let models = pooled.numbers.len();
+    if models == 0 {
+        return make_first(rt, alloc, house, nodes, entries, works, workers, gate);
+    }
+    let (front, _) = cuts.as_slice().split_at(models);
+    let changes = make_front(
+        rt, alloc, house, nodes, entries, front, &pooled, workers, gate,
+    )?;
+    Ok(Next { models, changes })
+}
+
 /// Makes and fills the objects of some models, one after another.
 pub(crate) fn make_parts<R: Threads + Sync, W: Warehouse, G: Gate>(
     rt: &R,
@@ -105,9 +171,12 @@ pub(crate) fn make_parts<R: Threads + Sync, W: Warehouse, G: Gate>(
     ensures { MakesParts (plain_models nodes.now entries.now) (map part_of works.now) (W.told house.old) (W.told house.new) result }
 {
     let mut made: u64 = 0;
-    for work in works {
-        let more = make_part(rt, alloc, house, nodes, entries, work, workers, gate)?;
-        made = added(made, more)?;
+    let mut at: usize = 0;
+    while at < works.len() {
+        let (_, rest) = works.split_at(at);
+        let next = make_next(rt, alloc, house, nodes, entries, rest, workers, gate)?;
+        made = added(made, next.changes)?;
+        at += next.models;
     }
     Ok(made)
 }

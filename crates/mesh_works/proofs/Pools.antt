@@ -1,15 +1,21 @@
 -- The tables of the first of some models, one model after another.
-use Rattle.std.proofs.Common.{◌≡◌, ◌+◌, ◌<◌, ◌≤◌, ℕ, zero, suc, List, [], ◌∷◌, ◌++◌, length, take, drop, map, get_or, Some, None, refl, sym, ap, ◌∙◌, subst, arith, append_assoc, add-one}
+use Rattle.std.proofs.Common.{◌≡◌, ◌+◌, ◌<◌, ◌≤◌, ℕ, zero, suc, Bool, true, false, ◌&&◌, List, [], ◌∷◌, ◌++◌, length, length-append, take, drop, map, get_or, Some, None, refl, sym, ap, ◌∙◌, subst, arith, append_assoc, add-one}
 use Rattle.std.specs.Option.{option_and_then, option_map}
 use Rattle.std.specs.declared.option.Option.{Option}
-use Rattle.std.proofs.lemmas.List.{append-nil, drop_all}
+use Rattle.std.specs.Prelude.{nat_lt}
+use Rattle.std.specs.List.{list_all}
+use Rattle.std.proofs.lemmas.Bool.{lt-ltb, ltb-true}
+use Rattle.std.proofs.lemmas.List.{append-nil, drop_all, get_or_append_left, map-append}
+use Rattle.std.proofs.lemmas.List.Folds.{list_all-append}
+use Rattle.std.proofs.Math.Seq.{get_or-append_seam}
 use Rattle.mesh_base.specs.declared.jobs.Input.{Input}
 use Rattle.mesh_scratch.specs.Sources.{declared, inputs}
 use Rattle.mesh_house.specs.declared.world.World.{World}
 use Rattle.mesh_shown.specs.Shown.{each_there}
 use Rattle.mesh_due.specs.Plans.{Planned}
 use Rattle.mesh_works.specs.declared.works.Work.{Work}
-use Rattle.mesh_works.specs.Fronts.{or_end, pool_now, pools_from, table_now, tables_now, work_now}
+use Rattle.mesh_works.specs.Fronts.{are_there, each_pool, or_end, pool_at, pool_now, pools_from, table_now, tables_now, work_now}
+use Rattle.mesh_works.specs.declared.fronts.Pooled.{Pooled}
 use Rattle.mesh_works.specs.Plain.{work_model}
 use Rattle.mesh_works.specs.Works.{Part, part_of}
 
@@ -95,3 +101,40 @@ all_come w all works i pools target le so_far =
     sym (append-nil pools)
     ∙ sym (ap (λ (l : List Work). pools ++ pools_from w all (map part_of (take i works)) (map part_of l)) (drop_all i works le))
     ∙ so_far
+
+-- one more pool, which is that of one more model
+module _ (pools : List (List Input)) (t : List Input) where
+  abbrev more : List (List Input)
+  more = pools ++ t ∷ []
+
+  both : (a b : Bool) → (a && b) ≡ true → (a ≡ true) × (b ≡ true)
+  both true true h = (refl, refl)
+  both true false h = cc
+  both false b h = cc
+
+  same_pools : (numbers : List ℕ) → list_all (λ n. nat_lt n (length pools)) numbers ≡ true → map (pool_at more) numbers ≡ map (pool_at pools) numbers
+  same_pools [] h = refl
+  same_pools (n ∷ ns) h =
+      let b = both (nat_lt n (length pools)) (list_all (λ k. nat_lt k (length pools)) ns) h in
+      λ i. get_or_append_left pools (t ∷ []) [] n (ltb-true n (length pools) b.0) i ∷ same_pools ns b.1 i
+
+  still_there : (numbers : List ℕ) → list_all (λ n. nat_lt n (length pools)) numbers ≡ true → list_all (λ n. nat_lt n (length more)) numbers ≡ true
+  still_there [] h = refl
+  still_there (n ∷ ns) h =
+      let b = both (nat_lt n (length pools)) (list_all (λ k. nat_lt k (length pools)) ns) h in
+      let lt : n < length more = omega (arith, ltb-true n (length pools) b.0, length-append pools (t ∷ [])) in
+      rw (lt-ltb n (length more) lt) (still_there ns b.1)
+
+module _ (p q : Pooled) (t : List Input) (there : are_there p ≡ true) (pools : q.pools ≡ p.pools ++ t ∷ []) (numbers : q.numbers ≡ p.numbers ++ length p.pools ∷ []) where
+  pub pool_more : each_pool q ≡ each_pool p ++ t ∷ []
+  pool_more =
+      (λ i. map (pool_at (pools i)) (numbers i))
+      ∙ map-append (pool_at (p.pools ++ t ∷ [])) p.numbers (length p.pools ∷ [])
+      ∙ (λ i. same_pools p.pools t p.numbers there i ++ get_or-append_seam p.pools t [] [] i ∷ [])
+
+  pub there_more : are_there q ≡ true
+  there_more =
+      let lt : length p.pools < length (p.pools ++ t ∷ []) = omega (arith, length-append p.pools (t ∷ [])) in
+      (λ i. list_all (λ n. nat_lt n (length (pools i))) (numbers i))
+      ∙ list_all-append (λ n. nat_lt n (length (p.pools ++ t ∷ []))) p.numbers (length p.pools ∷ [])
+      ∙ rw (still_there p.pools t p.numbers there) (rw (lt-ltb (length p.pools) (length (p.pools ++ t ∷ [])) lt) refl)

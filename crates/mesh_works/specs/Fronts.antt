@@ -1,7 +1,7 @@
 -- Which models of a plan may be computed before any of those that come before them in a list is made: those whose tables are
 -- there, and are none of the objects that are made and filled up to them.
-use Rattle.std.specs.Prelude.{Bool, true, false, ◌||◌, if◌then◌else◌, List, [], ◌∷◌, ◌++◌, map, Some, None}
-use Rattle.std.specs.List.{list_any}
+use Rattle.std.specs.Prelude.{ℕ, nat_lt, Bool, true, false, ◌||◌, if◌then◌else◌, List, [], ◌∷◌, ◌++◌, length, map, Some, None}
+use Rattle.std.specs.List.{list_all, list_any, slice_index_or}
 use Rattle.std.specs.Option.{option_map}
 use Rattle.std.specs.Ordering.{is_eq}
 use Rattle.std.specs.declared.option.Option.{Option}
@@ -16,6 +16,7 @@ use Rattle.mesh_house.specs.declared.world.World.{World}
 use Rattle.mesh_house.specs.World.{object_at, body_of, rows_of}
 use Rattle.mesh_shown.specs.Shown.{each_there}
 use Rattle.mesh_due.specs.Plans.{Planned}
+use Rattle.mesh_works.specs.declared.fronts.Pooled.{Pooled}
 use Rattle.mesh_works.specs.declared.works.Work.{Work}
 use Rattle.mesh_works.specs.Lost.{reads}
 use Rattle.mesh_works.specs.Plain.{model_of, parents_at, work_model}
@@ -63,3 +64,14 @@ or_end (Some tables) pools = tables ∷ pools
 abbrev pub pools_from : World → List Planned → List Part → List Part → List (List Input)
 pools_from w all before [] = []
 pools_from w all before (p ∷ ps) = or_end (pool_now w all (before ++ p ∷ []) p) (pools_from w all (before ++ p ∷ []) ps)
+
+abbrev pub pool_at : List (List Input) → ℕ → List Input
+pool_at pools n = slice_index_or pools n []
+
+-- the pool of each model by its number
+abbrev pub each_pool : Pooled → List (List Input)
+each_pool p = map (pool_at p.pools) p.numbers
+
+-- each number is that of a pool
+abbrev pub are_there : Pooled → Bool
+are_there p = list_all (λ n. nat_lt n (length p.pools)) p.numbers

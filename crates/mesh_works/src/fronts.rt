@@ -1,23 +1,38 @@
 // The tables of models that may be computed before any of them is made.
-ghost use Rattle.std.specs.Prelude.{◌≡◌, ◌≤◌, [], IfOk, IsTrue, length, map, None};
+ghost use Rattle.std.specs.Prelude.{◌≡◌, ◌<◌, ◌≤◌, ◌++◌, ◌∷◌, [], IfOk, OnOk, IsTrue, length, map, None, true};
 ghost use Rattle.mesh_house.specs.House.{Reads};
 ghost use Rattle.mesh_house.specs.Sources.{are_plain};
 ghost use Rattle.mesh_house.specs.World.{body_of, object_at, rows_of};
 ghost use Rattle.mesh_shown.specs.Shown.{each_there};
 ghost use Rattle.mesh_layer.specs.Shows.{Finds};
-ghost use Rattle.mesh_works.specs.Fronts.{are_read_later, has_object, is_read_later, is_view, parents_now, pool_now, pools_from, table_now, tables_now, work_now};
+ghost use Rattle.mesh_works.specs.Fronts.{are_read_later, are_there, each_pool, has_object, is_read_later, is_view, parents_now, pool_now, pools_from, table_now, tables_now, work_now};
 ghost use Rattle.mesh_works.specs.Lost.{reads};
 ghost use Rattle.mesh_works.specs.Plain.{model_of, plain_models, work_model};
 ghost use Rattle.mesh_works.specs.Works.{part_of};
 
 use crate::tables::table_of;
 use crate::works::{Work, parents_of};
-use mesh_base::{Entry, Input, Inputs, Node, Pools};
+use mesh_base::{Entry, Indexes, Input, Inputs, Node, Pools};
 use mesh_house::{Body, Warehouse, WhFail};
 use mesh_layer::{ShowFault, source_tables};
-use mesh_list::Seq;
+use mesh_list::{Memory, Seq};
 use mesh_values::{Kind, Name, Rows, has_two_underscores};
 use std::alloc::Global;
+
+/// Some pools, and for each of some models the number of its own.
+pub struct Pooled {
+    pub pools: Pools,
+    pub numbers: Indexes,
+}
+
+impl Drop for Pooled {
+    fn drop(self) {
+        let Pooled {
+            pools: _,
+            numbers: _,
+        } = self;
+    }
+}
 
 fn rows_of(body: Option<Body>) -> Option<Rows>
     ensures { result ≡ rows_of body }
@@ -189,6 +204,17 @@ fn pool_now<W: Warehouse>(
     }
 }
 
+/// One more model with a pool of its own.
+fn add_pool(made: &mut Pooled, pool: Inputs) -> Result<(), Memory>
+    requires { length made.old.pools < 4096 }
+    ensures pools { OnOk result (made.new.pools ≡ made.old.pools ++ pool ∷ []) }
+    ensures numbers { OnOk result (made.new.numbers ≡ made.old.numbers ++ length made.old.pools ∷ []) }
+{
+    let number = made.pools.len() as u32;
+    made.pools.push(pool)?;
+    made.numbers.push(number)
+}
+
 /// The tables of the first of some models, each with its own, as far as they are there before any of these models is made.
 pub fn pools_ahead<W: Warehouse>(
     alloc: Global,
@@ -196,19 +222,24 @@ pub fn pools_ahead<W: Warehouse>(
     nodes: &[Node],
     entries: &[Entry],
     works: &[Work],
-) -> Result<Pools, ShowFault>
-    ensures few { IfOk result (λ pools. length pools ≤ length works.now) }
+) -> Result<Pooled, ShowFault>
+    requires { length works.now ≤ 4096 }
+    ensures few { IfOk result (λ pooled. length pooled.numbers ≤ length works.now) }
+    ensures there { IfOk result (λ pooled. are_there pooled ≡ true) }
     ensures finds { Finds (λ w. IsTrue (are_plain w.sources))
-        (λ w pools. pools ≡ pools_from w (plain_models nodes.now entries.now) [] (map part_of works.now))
+        (λ w pooled. each_pool pooled ≡ pools_from w (plain_models nodes.now entries.now) [] (map part_of works.now))
         (λ w. None) (W.told house.old) (W.told house.new) result }
 {
-    let mut pools = Seq::new(alloc);
+    let mut made = Pooled {
+        pools: Seq::new(alloc),
+        numbers: Seq::new(alloc),
+    };
     for (i, work) in works.iter().enumerate() {
         let pool = pool_now(alloc, house, nodes, entries, &works[..i + 1], work)?;
         let Some(pool) = pool else {
-            return Ok(pools);
+            return Ok(made);
         };
-        pools.push(pool)?;
+        add_pool(&mut made, pool)?;
     }
-    Ok(pools)
+    Ok(made)
 }

@@ -14,6 +14,6 @@ mod works;
 
 pub use changes::{opening, push_making, push_written};
 pub use cuts::{Seconds, cut_to, seconds_of};
-pub use fronts::pools_ahead;
+pub use fronts::{Pooled, pools_ahead};
 pub use tables::part_tables;
 pub use works::{Work, Works, works_of};

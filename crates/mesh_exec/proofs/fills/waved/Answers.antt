@@ -11,4 +11,4 @@ returns g c =
     c.in_ok-push_zipped.ensures
     ∙ ap (λ (l : List Change). l ++ zipped m c.args.runs.now c.as_slice.result.now) c.new-changes.ensures
     ∙ ap (zipped m c.args.runs.now) (c.as_slice.ensures ∙ c.in_ok-made.ensures c.args.entry.now)
-    ∙ zip_fills c.args.node.now c.args.entry.now c.args.pools.now c.args.runs.now c.requires.fit
+    ∙ zip_fills c.args.node.now c.args.entry.now c.args.pools.now 0 c.args.runs.now c.requires.fit

@@ -1,0 +1,18 @@
+use Rattle.std.proofs.Common.{List, [], subst, refl, ◌∙◌, map}
+use Rattle.mesh_house.specs.declared.world.Change.{Change}
+use Rattle.mesh_house.specs.Runs.{Makes}
+use Rattle.mesh_house.proofs.Runs.{memory_then, ran_nothing}
+use Rattle.mesh_works.specs.Fronts.{each_pool}
+use Rattle.mesh_works.specs.Plain.{plain_models}
+use Rattle.mesh_exec.specs.Cuts.{cut_part}
+use Rattle.mesh_exec.specs.Fronts.{front_changes}
+use Rattle.mesh_exec.proofs.fronts.make_front.Goals as goal
+
+pub returns-in_err-changes-clause-makes : goal.returns-in_err-changes-clause-makes
+returns-in_err-changes-clause-makes g c =
+    let list = front_changes (plain_models c.args.nodes.now c.args.entries.now) (map cut_part c.args.cuts.now) (each_pool c.args.pooled.now) in
+    memory_then (λ w. []) (λ w. list) (λ w. list) _ _ c.from_residual.result (ran_nothing _) c.from_residual.ensures.1 (λ w told. refl)
+
+pub returns-clause-makes : goal.returns-clause-makes
+returns-clause-makes g c =
+    subst (λ (l : List Change). Makes (λ w. l) (g.W.Warehouse.told c.args.house.now) (g.W.Warehouse.told c.make_counted.new.house) c.make_counted.result) (c.as_slice.ensures ∙ c.in_ok-changes.ensures) c.make_counted.ensures.makes
