@@ -1,5 +1,5 @@
 -- The tables of the first of some models, one model after another.
-use Rattle.std.proofs.Common.{◌≡◌, ◌+◌, ◌<◌, ◌≤◌, ℕ, zero, suc, Bool, true, false, ◌&&◌, List, [], ◌∷◌, ◌++◌, length, length-append, take, drop, map, get_or, Some, None, refl, sym, ap, ◌∙◌, subst, arith, append_assoc, add-one}
+use Rattle.std.proofs.Common.{◌≡◌, ◌+◌, ◌-◌, ◌<◌, ◌≤◌, ℕ, zero, suc, Bool, true, false, cond, ◌&&◌, List, [], ◌∷◌, ◌++◌, length, length-append, take, drop, map, get_or, Some, None, refl, sym, ap, ◌∙◌, subst, arith, append_assoc, add-one}
 use Rattle.std.specs.Option.{option_and_then, option_map}
 use Rattle.std.specs.declared.option.Option.{Option}
 use Rattle.std.specs.Prelude.{nat_lt}
@@ -14,9 +14,10 @@ use Rattle.mesh_house.specs.declared.world.World.{World}
 use Rattle.mesh_shown.specs.Shown.{each_there}
 use Rattle.mesh_due.specs.Plans.{Planned}
 use Rattle.mesh_works.specs.declared.works.Work.{Work}
-use Rattle.mesh_works.specs.Fronts.{are_there, each_pool, or_end, pool_at, pool_now, pools_from, table_now, tables_now, work_now}
+use Rattle.mesh_works.specs.Fronts.{AreAlike, FindsSame, GoesOn, are_read_later, are_there, each_pool, last_pool, or_end, parents_now, pool_at, pool_now, pools_from, table_now, tables_now, work_now}
 use Rattle.mesh_works.specs.declared.fronts.Pooled.{Pooled}
-use Rattle.mesh_works.specs.Plain.{work_model}
+use Rattle.mesh_works.specs.Lost.{reads}
+use Rattle.mesh_works.specs.Plain.{model_of, parents_at, work_model}
 use Rattle.mesh_works.specs.Works.{Part, part_of}
 
 -- where one of them isn't there, not all are
@@ -138,3 +139,60 @@ module _ (p q : Pooled) (t : List Input) (there : are_there p ≡ true) (pools :
       (λ i. list_all (λ n. nat_lt n (length (pools i))) (numbers i))
       ∙ list_all-append (λ n. nat_lt n (length (p.pools ++ t ∷ []))) p.numbers (length p.pools ∷ [])
       ∙ rw (still_there p.pools t p.numbers there) (rw (lt-ltb (length p.pools) (length (p.pools ++ t ∷ [])) lt) refl)
+
+-- one more model has the last pool
+module _ (p q : Pooled) (any : 0 < length p.pools) (there : are_there p ≡ true) (pools : q.pools ≡ p.pools) (numbers : q.numbers ≡ p.numbers ++ (length p.pools - 1) ∷ []) where
+  pub pool_again : each_pool q ≡ each_pool p ++ last_pool p ∷ []
+  pool_again = (λ i. map (pool_at (pools i)) (numbers i)) ∙ map-append (pool_at p.pools) p.numbers ((length p.pools - 1) ∷ [])
+
+  pub there_again : are_there q ≡ true
+  there_again =
+      let lt : length p.pools - 1 < length p.pools = omega (arith, any) in
+      (λ i. list_all (λ n. nat_lt n (length (pools i))) (numbers i))
+      ∙ list_all-append (λ n. nat_lt n (length p.pools)) p.numbers ((length p.pools - 1) ∷ [])
+      ∙ rw there (rw (lt-ltb (length p.pools - 1) (length p.pools) lt) refl)
+
+  pub last_again : last_pool q ≡ last_pool p
+  last_again = λ i. pool_at (pools i) (length (pools i) - 1)
+
+pub last_added : (p q : Pooled) (t : List Input) → q.pools ≡ p.pools ++ t ∷ [] → last_pool q ≡ t
+last_added p q t pools =
+    let n : length (p.pools ++ t ∷ []) - 1 ≡ length p.pools = omega (arith, length-append p.pools (t ∷ [])) in
+    (λ i. pool_at (pools i) (length (pools i) - 1)) ∙ ap (pool_at (p.pools ++ t ∷ [])) n ∙ get_or-append_seam p.pools t [] []
+
+-- two parts that read the same find the same
+module _ (all : List Planned) (parts : List Part) (b p : Part) where
+  abbrev m : Planned
+  m = model_of p.node p.entry
+
+  abbrev n : Planned
+  n = model_of b.node b.entry
+
+  abbrev ps : List Planned
+  ps = parents_at all p.node.parents
+
+  abbrev qs : List Planned
+  qs = parents_at all b.node.parents
+
+  same : (w : World) → AreAlike b.node p.node → tables_now w m ps ≡ tables_now w n qs
+  same w alike = sym (λ i. option_map (λ (ts : List Input). map (declared w.sources) (alike.0 i) ++ ts) (each_there (map (table_now w) (parents_at all (alike.1 i)))))
+
+  pub finds_alike : reads b ≡ true → reads p ≡ true → AreAlike b.node p.node → are_read_later parts ps ≡ false → FindsSame all parts b p
+  finds_alike first second alike later w others tables found =
+      ap (λ (r : Bool). cond r (parents_now w parts m ps) (Some [])) second
+      ∙ ap (λ (l : Bool). cond l None (tables_now w m ps)) later
+      ∙ same w alike
+      ∙ by (are_read_later others qs) (ap (λ (r : Bool). cond r (parents_now w others n qs) (Some [])) (sym first) ∙ found)
+    where
+      by : (l : Bool) → cond l None (tables_now w n qs) ≡ Some tables → tables_now w n qs ≡ Some tables
+      by true h = absurd (let no : None ≡ Some tables = h in cc)
+      by false h = h
+
+pub goes_some : (all : List Planned) (parts : List Part) (o : Option Work) (p : Part) → GoesOn all parts o p → (b : Work) × (o ≡ Some b) × FindsSame all parts (part_of b) p
+goes_some all parts None p goes = absurd goes
+goes_some all parts (Some b) p goes = (b, refl, goes)
+
+pub at_last : (w : World) (all : List Planned) (parts : List Part) (x b : Work) (tables last : List Input) → Some x ≡ Some b → pool_now w all parts (part_of x) ≡ Some tables → last ≡ tables → pool_now w all parts (part_of b) ≡ Some last
+at_last w all parts x b tables last is found same =
+    let here : x ≡ b = (let k : Some x ≡ Some b = is in cc) in
+    ap (λ (y : Work). pool_now w all parts (part_of y)) (sym here) ∙ found ∙ ap Some (sym same)

@@ -1,6 +1,6 @@
 -- Which models of a plan may be computed before any of those that come before them in a list is made: those whose tables are
 -- there, and are none of the objects that are made and filled up to them.
-use Rattle.std.specs.Prelude.{ℕ, nat_lt, Bool, true, false, ◌||◌, if◌then◌else◌, List, [], ◌∷◌, ◌++◌, length, map, Some, None}
+use Rattle.std.specs.Prelude.{◌≡◌, ◌-◌, ℕ, nat_lt, Bool, true, false, ◌||◌, if◌then◌else◌, List, [], ◌∷◌, ◌++◌, length, map, Some, None}
 use Rattle.std.specs.List.{list_all, list_any, slice_index_or}
 use Rattle.std.specs.Option.{option_map}
 use Rattle.std.specs.Ordering.{is_eq}
@@ -10,6 +10,7 @@ use Rattle.mesh_values.specs.declared.kinds.Kind.{Kind}
 use Rattle.mesh_values.specs.declared.kinds.Kind.TheVariants.{View}
 use Rattle.mesh_values.specs.declared.values.Name.{Name}
 use Rattle.mesh_base.specs.declared.jobs.Input.{Input}
+use Rattle.mesh_base.specs.declared.snapshots.Node.{Node}
 use Rattle.mesh_scratch.specs.Scratch.{table_of}
 use Rattle.mesh_scratch.specs.Sources.{inputs}
 use Rattle.mesh_house.specs.declared.world.World.{World}
@@ -20,7 +21,7 @@ use Rattle.mesh_works.specs.declared.fronts.Pooled.{Pooled}
 use Rattle.mesh_works.specs.declared.works.Work.{Work}
 use Rattle.mesh_works.specs.Lost.{reads}
 use Rattle.mesh_works.specs.Plain.{model_of, parents_at, work_model}
-use Rattle.mesh_works.specs.Works.{Part}
+use Rattle.mesh_works.specs.Works.{Part, part_of}
 
 -- a model as a table, where its object is one
 abbrev pub table_now : World → Planned → Option Input
@@ -75,3 +76,18 @@ each_pool p = map (pool_at p.pools) p.numbers
 -- each number is that of a pool
 abbrev pub are_there : Pooled → Bool
 are_there p = list_all (λ n. nat_lt n (length p.pools)) p.numbers
+
+abbrev pub last_pool : Pooled → List Input
+last_pool p = pool_at p.pools (length p.pools - 1)
+
+-- two models declare the same sources and have the same parents
+abbrev pub AreAlike : Node → Node → Type 0
+AreAlike a b = (a.own.sources ≡ b.own.sources) × (a.parents ≡ b.parents)
+
+-- the tables of a part are those of another one, where that has some
+abbrev pub FindsSame : List Planned → List Part → Part → Part → Type 0
+FindsSame all parts before p = (w : World) (others : List Part) (tables : List Input) → pool_now w all others before ≡ Some tables → pool_now w all parts p ≡ Some tables
+
+abbrev pub GoesOn : List Planned → List Part → Option Work → Part → Type 0
+GoesOn all parts None p = ⊥
+GoesOn all parts (Some before) p = FindsSame all parts (part_of before) p

@@ -1,11 +1,12 @@
 // The tables of models that may be computed before any of them is made.
-ghost use Rattle.std.specs.Prelude.{◌≡◌, ◌<◌, ◌≤◌, ◌++◌, ◌∷◌, [], IfOk, OnOk, IsTrue, length, map, None, true};
+ghost use Rattle.std.specs.Prelude.{◌≡◌, ◌-◌, ◌<◌, ◌≤◌, ◌++◌, ◌∷◌, [], IfOk, OnOk, IsTrue, length, map, None, true};
+ghost use Rattle.std.specs.Option.{option_copied};
 ghost use Rattle.mesh_house.specs.House.{Reads};
 ghost use Rattle.mesh_house.specs.Sources.{are_plain};
 ghost use Rattle.mesh_house.specs.World.{body_of, object_at, rows_of};
 ghost use Rattle.mesh_shown.specs.Shown.{each_there};
 ghost use Rattle.mesh_layer.specs.Shows.{Finds};
-ghost use Rattle.mesh_works.specs.Fronts.{are_read_later, are_there, each_pool, has_object, is_read_later, is_view, parents_now, pool_now, pools_from, table_now, tables_now, work_now};
+ghost use Rattle.mesh_works.specs.Fronts.{AreAlike, FindsSame, GoesOn, are_read_later, are_there, each_pool, has_object, is_read_later, is_view, parents_now, pool_now, pools_from, table_now, tables_now, work_now};
 ghost use Rattle.mesh_works.specs.Lost.{reads};
 ghost use Rattle.mesh_works.specs.Plain.{model_of, plain_models, work_model};
 ghost use Rattle.mesh_works.specs.Works.{part_of};
@@ -15,7 +16,7 @@ use crate::works::{Work, parents_of};
 use mesh_base::{Entry, Indexes, Input, Inputs, Node, Pools};
 use mesh_house::{Body, Warehouse, WhFail};
 use mesh_layer::{ShowFault, source_tables};
-use mesh_list::{Memory, Seq};
+use mesh_list::{Memory, Same, Seq};
 use mesh_values::{Kind, Name, Rows, has_two_underscores};
 use std::alloc::Global;
 
@@ -204,6 +205,49 @@ fn pool_now<W: Warehouse>(
     }
 }
 
+/// Whether two models declare the same sources and have the same parents.
+fn are_alike(a: &Node, b: &Node) -> bool
+    ensures { IsTrue result → AreAlike a.now b.now }
+{
+    a.own.sources.same(&b.own.sources) && a.parents.same(&b.parents)
+}
+
+/// Whether a part's tables are those of the part before it.
+fn finds_same(
+    alloc: Global,
+    nodes: &[Node],
+    entries: &[Entry],
+    works: &[Work],
+    before: &Work,
+    work: &Work,
+) -> Result<bool, Memory>
+    ensures { IfOk result (λ yes. IsTrue yes → FindsSame (plain_models nodes.now entries.now) (map part_of works.now) (part_of before.now) (part_of work.now)) }
+{
+    if reads(before) && reads(work) && are_alike(before.node, work.node) {
+        let parents = parents_of(alloc, nodes, entries, work.node.parents.as_slice())?;
+        Ok(!are_read_later(works, parents.as_slice()))
+    } else {
+        Ok(false)
+    }
+}
+
+/// The same, where there is a part before it.
+fn goes_on(
+    alloc: Global,
+    nodes: &[Node],
+    entries: &[Entry],
+    works: &[Work],
+    before: Option<&Work>,
+    work: &Work,
+) -> Result<bool, Memory>
+    ensures { IfOk result (λ yes. IsTrue yes → GoesOn (plain_models nodes.now entries.now) (map part_of works.now) (option_copied before.entry) (part_of work.now)) }
+{
+    match before {
+        None => Ok(false),
+        Some(before) => finds_same(alloc, nodes, entries, works, before, work),
+    }
+}
+
 /// One more model with a pool of its own.
 fn add_pool(made: &mut Pooled, pool: Inputs) -> Result<(), Memory>
     requires { length made.old.pools < 4096 }
@@ -215,7 +259,19 @@ fn add_pool(made: &mut Pooled, pool: Inputs) -> Result<(), Memory>
     made.numbers.push(number)
 }
 
+/// One more model with the last pool.
+fn add_same(made: &mut Pooled) -> Result<(), Memory>
+    requires any { 0 < length made.old.pools }
+    requires few { length made.old.pools ≤ 4096 }
+    ensures pools { OnOk result (made.new.pools ≡ made.old.pools) }
+    ensures numbers { OnOk result (made.new.numbers ≡ made.old.numbers ++ (length made.old.pools - 1) ∷ []) }
+{
+    let number = (made.pools.len() - 1) as u32;
+    made.numbers.push(number)
+}
+
 /// The tables of the first of some models, each with its own, as far as they are there before any of these models is made.
+/// Models that stand side by side and read the same have one pool.
 pub fn pools_ahead<W: Warehouse>(
     alloc: Global,
     house: &mut W,
@@ -234,12 +290,18 @@ pub fn pools_ahead<W: Warehouse>(
         pools: Seq::new(alloc),
         numbers: Seq::new(alloc),
     };
+    let mut before: Option<&Work> = None;
     for (i, work) in works.iter().enumerate() {
-        let pool = pool_now(alloc, house, nodes, entries, &works[..i + 1], work)?;
-        let Some(pool) = pool else {
-            return Ok(made);
-        };
-        add_pool(&mut made, pool)?;
+        if goes_on(alloc, nodes, entries, &works[..i + 1], before, work)? {
+            add_same(&mut made)?;
+        } else {
+            let pool = pool_now(alloc, house, nodes, entries, &works[..i + 1], work)?;
+            let Some(pool) = pool else {
+                return Ok(made);
+            };
+            add_pool(&mut made, pool)?;
+        }
+        before = Some(work);
     }
     Ok(made)
 }

@@ -1,7 +1,10 @@
-use Rattle.std.proofs.Common.{◌≡◌, ◌≤◌, ◌++◌, [], drop, length, take, map, IsTrue, true}
+use Rattle.std.proofs.Common.{◌≡◌, ◌<◌, ◌≤◌, ◌++◌, [], drop, length, take, map, IsTrue, true, Some}
+use Rattle.std.specs.Option.{option_copied}
+use Rattle.mesh_house.specs.declared.world.World.{World}
+use Rattle.mesh_works.specs.declared.works.Work.{Work}
 use Rattle.mesh_house.specs.Sources.{are_plain}
 use Rattle.mesh_layer.proofs.Finding.{Has}
-use Rattle.mesh_works.specs.Fronts.{are_there, each_pool, pools_from}
+use Rattle.mesh_works.specs.Fronts.{are_there, each_pool, last_pool, pool_now, pools_from}
 use Rattle.mesh_works.specs.Plain.{plain_models}
 use Rattle.mesh_works.specs.Works.{part_of}
 use Rattle.mesh_works.proofs.fronts.pools_ahead.Given as goal
@@ -15,4 +18,7 @@ invariant-loop-i g l = record {
   told : Has (λ w. IsTrue (are_plain w.sources))
       (λ w. each_pool l.made ++ pools_from w (plain_models l.nodes l.entries) (map part_of (take l.i l.works)) (map part_of (drop l.i l.works)) ≡ pools_from w (plain_models l.nodes l.entries) [] (map part_of l.works))
       (g.W.Warehouse.told l.fn.house) (g.W.Warehouse.told l.house);
+  any : (b : Work) → option_copied l.before ≡ Some b → 0 < length l.made.pools;
+  last : (w : World) → (g.W.Warehouse.told l.fn.house).world ≡ Some w → IsTrue (are_plain w.sources) → (b : Work) → option_copied l.before ≡ Some b
+      → pool_now w (plain_models l.nodes l.entries) (map part_of (take l.i l.works)) (part_of b) ≡ Some (last_pool l.made);
 }
