@@ -1,9 +1,9 @@
 -- The rows of models that are computed side by side, and the changes that are made of them.
-use Rattle.std.proofs.Common.{◌≡◌, ◌≤◌, ◌<◌, ◌+◌, ℕ, zero, suc, Bool, true, false, ◌&&◌, List, [], ◌∷◌, ◌++◌, length, take, drop, get_or, map, Some, Ok, Err, Result, OnOk, refl, sym, ap, ◌∙◌, subst, arith, add-one, length-append, append_assoc}
+use Rattle.std.proofs.Common.{◌≡◌, ◌≤◌, ◌<◌, ◌+◌, ℕ, zero, suc, Bool, true, false, List, [], ◌∷◌, ◌++◌, length, take, drop, get_or, map, Some, Ok, Err, Result, OnOk, refl, sym, ap, ◌∙◌, subst, arith, add-one, length-append, append_assoc}
 use Rattle.std.specs.Prelude.{min, nat_lt}
 use Rattle.std.specs.List.{All, list_all}
 use Rattle.std.proofs.lemmas.Bool.{ltb-true}
-use Rattle.std.proofs.lemmas.List.{append-nil, length-map, map-append}
+use Rattle.std.proofs.lemmas.List.{length-map, map-append}
 use Rattle.std.proofs.lemmas.List.Elements.{All-append, All-nil}
 use Rattle.mesh_values.specs.declared.values.Cell.{Cell}
 use Rattle.mesh_base.specs.declared.jobs.Input.{Input}

@@ -7,7 +7,6 @@ use Rattle.mesh_values.specs.declared.values.Name.{Name}
 use Rattle.mesh_tokens.specs.declared.faults.FaultKind.{FaultKind}
 use Rattle.mesh_base.specs.declared.jobs.Input.{Input}
 use Rattle.mesh_house.specs.declared.house.WhFail.{WhFail}
-use Rattle.mesh_house.specs.declared.house.WhFail.TheVariants as house
 use Rattle.mesh_house.specs.declared.world.Change.{Change}
 use Rattle.mesh_house.specs.declared.world.World.{World}
 use Rattle.mesh_house.specs.House.{Told}
@@ -17,7 +16,7 @@ use Rattle.mesh_house.specs.Sources.{are_plain}
 use Rattle.mesh_house.specs.Step.{run}
 use Rattle.mesh_house.proofs.Runs.{run-append}
 use Rattle.mesh_due.specs.Plans.{Planned}
-use Rattle.mesh_layer.specs.Shows.{Finds, IsUntouched, Tells}
+use Rattle.mesh_layer.specs.Shows.{Finds, Tells}
 use Rattle.mesh_layer.specs.declared.faults.ShowFault.{ShowFault}
 use Rattle.mesh_layer.specs.declared.faults.ShowFault.TheVariants as show
 use Rattle.mesh_works.specs.declared.fronts.Pooled.{Pooled}
@@ -34,11 +33,11 @@ use Rattle.mesh_exec.specs.Cuts.{IsReady, cut_part, work_of}
 use Rattle.mesh_exec.specs.declared.ready.Cut.{Cut}
 use Rattle.mesh_exec.specs.Executed.{executes, part_outline, parts_outline}
 use Rattle.mesh_exec.specs.Fronts.{front_changes, part_changes}
-use Rattle.mesh_exec.specs.Steps.{IsLost, MakesNext, MakesPart, MakesParts, Reached}
+use Rattle.mesh_exec.specs.Steps.{MakesNext, MakesPart, MakesParts, Reached}
 use Rattle.mesh_exec.proofs.Leading.{front_many, front_sources, leads}
 use Rattle.mesh_exec.proofs.Models.{SoFar, count_stops, no_dangling, no_model, same_fault}
 use Rattle.mesh_exec.proofs.Running.{all_take}
-use Rattle.mesh_exec.proofs.Stepping.{none_made, prefix_more, prefix_then, run_then, whole_prefix}
+use Rattle.mesh_exec.proofs.Stepping.{none_made, prefix_more, prefix_then, run_then}
 
 abbrev count_err : ExecFault → Result ℕ ExecFault
 count_err f = Err f

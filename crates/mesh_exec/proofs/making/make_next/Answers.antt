@@ -1,4 +1,4 @@
-use Rattle.std.proofs.Common.{length, take, map, sym, ap, subst, ◌∙◌, ◌≡◌, List, true, arith}
+use Rattle.std.proofs.Common.{take, map, sym, ap, subst, ◌∙◌, List, arith}
 use Rattle.mesh_works.specs.Plain.{plain_models}
 use Rattle.mesh_works.specs.Works.{are_fit}
 use Rattle.mesh_exec.specs.Cuts.{AreCuts, count_runs, cut_part}
