@@ -1,0 +1,2 @@
+MODEL (name a.late, kind FULL);
+SELECT COUNT(*) AS n FROM a.days

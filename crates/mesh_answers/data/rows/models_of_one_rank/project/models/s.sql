@@ -1,0 +1,1 @@
+MODEL (name a.s, kind SEED (path '../seeds/s.csv'));

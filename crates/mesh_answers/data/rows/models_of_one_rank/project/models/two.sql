@@ -1,0 +1,2 @@
+MODEL (name a.two, kind FULL);
+SELECT v FROM a.s WHERE k = 'x'
