@@ -22,3 +22,7 @@ pub mod Nodes
 pub mod Examples
 -- Named: the columns of a node, from those of its parts.
 pub mod Named
+-- Alike: lists that have the same items.
+pub mod Alike
+-- Orders: readings in order, of lists with the same items, and of a list that ascends.
+pub mod Orders

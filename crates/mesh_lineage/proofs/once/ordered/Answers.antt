@@ -1,7 +1,7 @@
 use Rattle.std.proofs.Common.{sym, ap, ◌∙◌}
 use Rattle.mesh_lineage.specs.Pairs.{as_readings}
 use Rattle.mesh_lineage.proofs.Onto.{onto, one_more}
-use Rattle.mesh_lineage.proofs.readings.in_order.Goals as goal
+use Rattle.mesh_lineage.proofs.once.ordered.Goals as goal
 
 pub loop-reading-preserved : goal.loop-reading-preserved
 loop-reading-preserved c =

@@ -2,7 +2,7 @@ use Rattle.std.proofs.Common.{◌≡◌, length}
 use Rattle.mesh_laws.specs.Reads.{in_order}
 use Rattle.mesh_lineage.specs.Pairs.{as_readings}
 use Rattle.mesh_lineage.proofs.Onto.{onto}
-use Rattle.mesh_lineage.proofs.readings.in_order.Given as goal
+use Rattle.mesh_lineage.proofs.once.ordered.Given as goal
 
 abbrev pub invariant-loop-reading : goal.invariant-loop-reading
 invariant-loop-reading l = onto l.rest.items (as_readings l.set.keys) ≡ in_order l.initial.rest.items
