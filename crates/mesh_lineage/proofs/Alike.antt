@@ -1,5 +1,5 @@
 -- Lists that have the same items: put behind one another, and gathered one by one.
-use Rattle.std.proofs.Common.{◌≡◌, ℕ, ◌+◌, ◌<◌, ◌≤◌, ◌⊎◌, inl, inr, List, [], ◌∷◌, ◌++◌, length, take, sym, ap, ◌∙◌, subst, append-nil, append_assoc}
+use Rattle.std.proofs.Common.{◌≡◌, ℕ, ◌+◌, ◌<◌, ◌≤◌, ◌⊎◌, inl, inr, List, [], ◌∷◌, ◌++◌, length, map, take, sym, ap, ◌∙◌, subst, append-nil, append_assoc}
 use Rattle.std.specs.List.{flat_map, slice_index_or}
 use Rattle.std.specs.Cmp.{IsTotalOrder}
 use Rattle.std.specs.declared.cmp.Ordering.{Ordering}
@@ -13,7 +13,7 @@ use Rattle.std.proofs.lemmas.Map.Views.{btree_set_contains_from_list, btree_set_
 use Rattle.mesh_values.specs.Names.{text_cmp}
 use Rattle.mesh_values.specs.NameOrder.{texts_total}
 use Rattle.mesh_meaning.specs.Named.{Place}
-use Rattle.mesh_laws.proofs.Has.{Has, Has_from, Has_to, Has_left, Has_right, Has_cases, Has_flat, Has_flat_from}
+use Rattle.mesh_laws.proofs.Has.{Has, Has_from, Has_to, Has_left, Has_right, Has_cases, Has_flat, Has_flat_from, Has_map, Has_map_from}
 use Rattle.mesh_lineage.specs.Alike.{IsAlike}
 
 -- what stands in one list stands in another
@@ -38,6 +38,12 @@ then_within a b c d f g x h = go (Has_cases x a c h)
 
 each_within : {X Y : Type 0} (f : X → List Y) (xs ys : List X) → Within xs ys → Within (flat_map f xs) (flat_map f ys)
 each_within f xs ys w y h = let (x, i, k) = Has_flat_from f xs y h in Has_flat f ys x y (w x i) k
+
+pub map_alike : {X Y : Type 0} (f : X → Y) (xs ys : List X) → IsAlike xs ys → IsAlike (map f xs) (map f ys)
+map_alike f xs ys a = alike (map f xs) (map f ys) (map_within f xs ys (there xs ys a)) (map_within f ys xs (back xs ys a))
+  where
+    map_within : {X Y : Type 0} (f : X → Y) (xs ys : List X) → Within xs ys → Within (map f xs) (map f ys)
+    map_within f xs ys w y h = let (x, i, e) = Has_map_from f xs y h in Has_map f ys x y (w x i) e
 
 module _ {Y : Type 0} where
   -- more is put behind what was alike
@@ -74,6 +80,13 @@ module _ {Y : Type 0} where
   pub two_parts : (none now next one two : List Y) → none ≡ [] → IsAlike now (none ++ one) → IsAlike next (now ++ two) → IsAlike next (one ++ two)
   two_parts none now next one two is a b = behind next now one two b (subst (λ l. IsAlike now (l ++ one)) is a)
 
+-- a set that was made of a list has what stands in it
+pub set_alike : {K : Type 0} (R : K → K → Ordering) → IsTotalOrder R → CmpEqualImpliesEq R → (given : List K) (set : BTreeSet K) → IsFromIterResult R given set → IsAlike set.keys given
+set_alike R total exact given set made k =
+    let keys = btree_set_contains_iff total exact set k in
+    let all = btree_set_contains_from_list total exact given set made k in
+    (λ c. all.0 (keys.1 c), λ c. keys.0 (all.1 c))
+
 -- places by item, and then by column
 abbrev pub place_cmp : Place → Place → Ordering
 place_cmp a b = ordering_then (nat_cmp a.0 b.0) (text_cmp a.1 b.1)
@@ -84,9 +97,5 @@ places_total = then_total (on_total (λ (p : Place). p.0) nat_cmp_total) (on_tot
 places_exact : CmpEqualImpliesEq place_cmp
 places_exact = exact_pairs nat_cmp text_cmp exact_unsigned exact_bytes
 
--- a set that was made of a list has what stands in it
-pub set_alike : (places : List Place) (set : BTreeSet Place) → IsFromIterResult place_cmp places set → IsAlike set.keys places
-set_alike places set made p =
-    let keys = btree_set_contains_iff places_total places_exact set p in
-    let given = btree_set_contains_from_list places_total places_exact places set made p in
-    (λ c. given.0 (keys.1 c), λ c. keys.0 (given.1 c))
+pub places_alike : (places : List Place) (set : BTreeSet Place) → IsFromIterResult place_cmp places set → IsAlike set.keys places
+places_alike places set made = set_alike place_cmp places_total places_exact places set made

@@ -1,23 +1,29 @@
 -- Readings in order: the same for lists with the same items, and of a list that ascends the list itself.
-use Rattle.std.proofs.Common.{◌≡◌, Bool, true, false, cond, inl, inr, List, [], ◌∷◌, Some, None, refl, sym, ap, ◌∙◌, subst}
+use Rattle.std.proofs.Common.{◌≡◌, Bool, true, false, cond, inl, inr, ℕ, List, [], ◌∷◌, Some, None, refl, sym, ap, ◌∙◌, subst}
 use Rattle.std.specs.declared.cmp.Ordering.{Ordering}
 use Rattle.std.specs.declared.cmp.Ordering.TheVariants.{Less, Equal, Greater}
 use Rattle.std.specs.declared.option.Option.{Option}
-use Rattle.std.specs.Ordering.{is_eq, is_lt, ordering_reverse}
+use Rattle.std.specs.Ordering.{is_eq, is_lt, ordering_reverse, ordering_then}
+use Rattle.std.specs.BTreeSet.{BTreeSet, IsFromIterResult}
+use Rattle.std.specs.List.{AllByRecursion}
+use Rattle.std.specs.List.Sorted.{IsStrictlySortedBy}
 use Rattle.std.specs.Cmp.{IsTotalOrder}
 use Rattle.std.proofs.lemmas.Cmp.{on_total, then_total, tied_itself}
-use Rattle.std.proofs.lemmas.Map.Lookups.{exact_bytes, CmpEqualImpliesEq}
+use Rattle.std.proofs.lemmas.Map.Keys.{sorted_head, sorted_tail}
+use Rattle.std.proofs.lemmas.Map.Lookups.{exact_bytes, exact_pairs, CmpEqualImpliesEq}
 use Rattle.mesh_list.specs.Keyed.{ascends, below_first, found, placed, put_by}
-use Rattle.mesh_list.proofs.Ascends.{and_left, and_right, ascends-placed}
+use Rattle.mesh_list.proofs.Ascends.{and_both, and_left, and_right, ascends-placed}
 use Rattle.mesh_list.proofs.Each.{found-above, found-behind, found-itself, lt_is}
 use Rattle.mesh_list.proofs.Found.{found-placed}
+use Rattle.mesh_values.specs.declared.values.Name.{Name}
 use Rattle.mesh_values.specs.Names.{name_cmp, text_cmp}
 use Rattle.mesh_values.specs.NameOrder.{names_exact, names_total, texts_total, then_equal}
 use Rattle.mesh_base.specs.declared.definitions.Reading.{Reading}
 use Rattle.mesh_laws.specs.Reads.{in_order, reading_cmp, reading_itself}
 use Rattle.mesh_laws.proofs.Has.{Has}
 use Rattle.mesh_lineage.specs.Alike.{IsAlike}
-use Rattle.mesh_lineage.proofs.Alike.{Within, there, back}
+use Rattle.mesh_lineage.specs.Pairs.{as_reading, as_readings}
+use Rattle.mesh_lineage.proofs.Alike.{Within, back, map_alike, set_alike, there}
 
 readings_total : IsTotalOrder reading_cmp
 readings_total = then_total (on_total (λ (r : Reading). r.relation) names_total) (on_total (λ (r : Reading). r.column) texts_total)
@@ -122,3 +128,34 @@ stays [] up = refl
 stays (x ∷ xs) up =
     ap (placed reading_cmp reading_itself x) (stays xs (and_right (below_first reading_cmp reading_itself x xs) (ascends reading_cmp reading_itself xs) up))
     ∙ in_front x xs (and_left _ _ up)
+
+-- readings as pairs, which have their order
+abbrev pub Pair : Type 0
+Pair = Name × List ℕ
+
+abbrev pub pair_cmp : Pair → Pair → Ordering
+pair_cmp a b = ordering_then (name_cmp a.0 b.0) (text_cmp a.1 b.1)
+
+pairs_total : IsTotalOrder pair_cmp
+pairs_total = then_total (on_total (λ (p : Pair). p.0) names_total) (on_total (λ (p : Pair). p.1) texts_total)
+
+pairs_exact : CmpEqualImpliesEq pair_cmp
+pairs_exact = exact_pairs name_cmp text_cmp names_exact exact_bytes
+
+first_below : (x : Pair) (xs : List Pair) → AllByRecursion (λ y. pair_cmp x y ≡ Less) xs → below_first reading_cmp reading_itself (as_reading x) (as_readings xs) ≡ true
+first_below x [] h = refl
+first_below x (z ∷ zs) h = ap is_lt h.0
+
+pairs_up : (ks : List Pair) → IsStrictlySortedBy pair_cmp ks → Up (as_readings ks)
+pairs_up [] s = refl
+pairs_up (x ∷ xs) s = and_both _ _ (first_below x xs (sorted_head pair_cmp x xs s)) (pairs_up xs (sorted_tail pair_cmp x xs s))
+
+-- the keys of a set of such pairs
+pub set_order : (pairs : List Pair) (set : BTreeSet Pair) (all : List Reading) → IsFromIterResult pair_cmp pairs set → as_readings pairs ≡ all → as_readings set.keys ≡ in_order all
+set_order pairs set all made is =
+    let keys : List Reading = as_readings set.keys in
+    let given : List Reading = as_readings pairs in
+    let a : IsAlike keys given = map_alike as_reading set.keys pairs (set_alike pair_cmp pairs_total pairs_exact pairs set made) in
+    one_list keys (in_order given) (pairs_up set.keys made.1) (in_order_ascends given)
+    (λ k. same_found k keys given (there keys given a) (back keys given a) ∙ sym (found_in_order k given))
+    ∙ ap in_order is

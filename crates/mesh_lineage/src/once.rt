@@ -21,17 +21,23 @@ pub(crate) fn each_once(alloc: Global, places: Places) -> Result<BTreeSet<(u32, 
     Ok(set)
 }
 
+fn as_pairs(alloc: Global, all: Reads) -> Result<Vec<(Name, Str)>, Memory>
+    ensures { IfOk result (λ made. as_readings made.items ≡ all) }
+{
+    let mut made = Vec::new(alloc);
+    for reading in all.into_vec() {
+        let Reading { relation, column } = reading;
+        made.push((relation, column))?;
+    }
+    Ok(made)
+}
+
 // By relation and then by column.
-#[tactic(auto, using(crate::proofs::Onto::onto_none))]
 fn ordered(alloc: Global, all: Reads) -> Result<BTreeSet<(Name, Str)>, Memory>
     ensures { IfOk result (λ set. as_readings set.keys ≡ in_order all) }
 {
-    let mut rest = all.into_vec();
-    let mut set = BTreeSet::new(alloc);
-    while let Some(reading) = rest.pop() {
-        let Reading { relation, column } = reading;
-        set.insert((relation, column))?;
-    }
+    let pairs = as_pairs(alloc, all)?;
+    let set: BTreeSet<(Name, Str)> = pairs.into_iter().collect(alloc)?;
     Ok(set)
 }
 
