@@ -1,5 +1,3 @@
--- Onto: readings that are put in order from the last one on.
-pub mod Onto
 -- Gathered: the columns of a SELECT, part by part.
 pub mod Gathered
 -- Bindings: the equations of `binds`.
@@ -22,3 +20,7 @@ pub mod Nodes
 pub mod Examples
 -- Named: the columns of a node, from those of its parts.
 pub mod Named
+-- Alike: lists that have the same items.
+pub mod Alike
+-- Orders: readings in order, of lists with the same items, of a list that ascends, and as a set has them.
+pub mod Orders

@@ -1,17 +1,22 @@
 -- One place more, and one source more.
-use Rattle.std.proofs.Common.{◌≡◌, ℕ, ◌+◌, ◌<◌, ◌&&◌, List, [], ◌∷◌, ◌++◌, length, take, map, refl, sym, ap, ◌∙◌, get_or, append-nil}
+use Rattle.std.proofs.Common.{◌≡◌, Bool, true, false, cond, Some, ℕ, ◌+◌, ◌<◌, ◌&&◌, List, [], ◌∷◌, ◌++◌, length, take, map, refl, sym, ap, ◌∙◌, get_or, append-nil}
 use Rattle.std.specs.Prelude.{filter}
 use Rattle.std.specs.List.{slice_get}
-use Rattle.std.specs.Option.{option_to_list}
+use Rattle.std.specs.Option.{option_map, option_to_list}
+use Rattle.std.specs.Ordering.{is_eq}
 use Rattle.std.proofs.lemmas.List.{map-append, take_more}
 use Rattle.std.proofs.lemmas.List.Elements.{filter-append}
 use Rattle.std.proofs.lemmas.List.Folds.{list_all-append}
 use Rattle.std.proofs.lemmas.Grind.{flat_map-append}
+use Rattle.mesh_list.specs.Keyed.{found}
+use Rattle.mesh_values.specs.Names.{name_cmp}
+use Rattle.mesh_values.specs.declared.values.Name.{Name}
 use Rattle.mesh_base.specs.declared.definitions.Decl.{Decl}
 use Rattle.mesh_steady.specs.Steady.{is_timed_source}
+use Rattle.mesh_lineage.specs.declared.reaches.Near.{Near}
 use Rattle.mesh_lineage.specs.declared.reaches.Reach.{Reach}
 use Rattle.mesh_lineage.specs.Unsteady.{decl_name, least, lesser, timed_names_of}
-use Rattle.mesh_lineage.specs.Reaches.{are_timeless, least_reached, parent_links, reaches_at}
+use Rattle.mesh_lineage.specs.Reaches.{are_timeless, least_reached, link_named, near_link, near_links, parent_links, reaches_at}
 use Rattle.mesh_lineage.proofs.Least.{least_append, lesser_assoc}
 
 module _ (reaches : List Reach) (places : List ℕ) (i d : ℕ) (inside : i < length places) where
@@ -40,3 +45,13 @@ timed_more sources i d inside =
     ∙ ap (λ l. least (map decl_name l)) (filter-append is_timed_source (take i sources) (get_or sources i d ∷ []))
     ∙ ap least (map-append decl_name (filter is_timed_source (take i sources)) (filter is_timed_source (get_or sources i d ∷ [])))
     ∙ least_append (timed_names_of (take i sources)) (timed_names_of (get_or sources i d ∷ []))
+
+-- what is found among links that lie elsewhere
+pub near_found : (k : Name) (ns : List Near) → link_named (near_links ns) k ≡ option_map near_link (found name_cmp (λ (n : Near). n.link.now.name) k ns)
+near_found k [] = refl
+near_found k (n ∷ ns) = at (is_eq (name_cmp n.link.now.name k)) (near_found k ns)
+  where
+    at : (b : Bool) → link_named (near_links ns) k ≡ option_map near_link (found name_cmp (λ (n : Near). n.link.now.name) k ns)
+        → cond b (Some n.link.now) (link_named (near_links ns) k) ≡ option_map near_link (cond b (Some n) (found name_cmp (λ (n : Near). n.link.now.name) k ns))
+    at true e = refl
+    at false e = e

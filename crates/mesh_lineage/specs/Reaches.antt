@@ -23,6 +23,7 @@ use Rattle.mesh_steady.specs.Steady.{are_ends, bounds, has_timed_source, is_and,
 use Rattle.mesh_lineage.specs.declared.reaches.Bound.{Bound}
 use Rattle.mesh_lineage.specs.declared.reaches.Bound.TheVariants.{Free, Never, By}
 use Rattle.mesh_lineage.specs.declared.reaches.Link.{Link}
+use Rattle.mesh_lineage.specs.declared.reaches.Near.{Near}
 use Rattle.mesh_lineage.specs.declared.reaches.Reach.{Reach}
 use Rattle.mesh_lineage.specs.Unsteady.{Test, defn_breakers, least, lesser, pair_with, timed_names, timed_reached}
 
@@ -93,6 +94,13 @@ link_name l = l.name
 
 abbrev pub link_named : List Link → Name → Option Link
 link_named links name = found name_cmp link_name name links
+
+-- links that lie elsewhere
+abbrev pub near_link : Near → Link
+near_link n = n.link.now
+
+abbrev pub near_links : List Near → List Link
+near_links ns = map near_link ns
 
 -- a source, or else a parent
 abbrev pub or_link : Option Link → Option Link → Option Link

@@ -1,12 +1,16 @@
 // FROM items that are bound to the unit.
-ghost use Rattle.std.specs.Prelude.{◌≡◌};
+ghost use Rattle.std.specs.Prelude.{◌≡◌, IfOk, OnOk};
 ghost use Rattle.mesh_base.specs.declared.expressions.Expr.{out-Expr};
-ghost use Rattle.mesh_steady.specs.Steady.{bounds, bounds_in, is_bound};
+ghost use Rattle.mesh_steady.specs.Steady.{bounds, bounds_in, is_bound, is_column};
+ghost use Rattle.mesh_lineage.specs.Bound.{AreBound, Gains, has_place};
 ghost use Rattle.mesh_lineage.specs.Reaches.{bounds_parts};
 
+use crate::columns::Places;
 use crate::ends::{are_ends, is_and, is_column};
 use mesh_base::{Expr, FromItem, Join, Select};
-use mesh_values::Str;
+use mesh_list::{Duplicate, Memory, Seq};
+use mesh_values::{Str, same_text};
+use std::alloc::Global;
 
 // A condition has, among the conjuncts at its top, one that binds this column to the unit. The right side is looked at
 // first, which is mostly one conjunct, and the left one all those before it.
@@ -53,13 +57,118 @@ fn bounds_in(condition: &Option<Expr>, place: usize, time: &Str) -> bool
     }
 }
 
+fn add_column(e: &Expr, places: &mut Places) -> Result<(), Memory>
+    ensures { OnOk result (Gains places.old places.new (λ item name. is_column item name e.now)) }
+{
+    match e {
+        Expr::Col { item, name } => places.push((*item, name.copy()?)),
+        Expr::Literal(_)
+        | Expr::Macro(_)
+        | Expr::Binary { .. }
+        | Expr::Neg(_)
+        | Expr::Not(_)
+        | Expr::IsNull(_)
+        | Expr::Between { .. }
+        | Expr::OneOf { .. }
+        | Expr::Cast { .. }
+        | Expr::Call { .. }
+        | Expr::Case { .. }
+        | Expr::CountAll
+        | Expr::Agg { .. } => Ok(()),
+    }
+}
+
+// Each column that a condition binds to the unit, put behind others.
+#[tactic(auto, using(crate::proofs::Tops::bounds_out))]
+#[cycle(bound)]
+fn add_bound(e: &Expr, places: &mut Places) -> Result<(), Memory>
+    ensures { OnOk result (Gains places.old places.new (λ item name. bounds item name e.now)) }
+{
+    add_bound_parts(e, places)
+}
+
+#[cycle(bound)]
+fn add_bound_parts(e: &Expr, places: &mut Places) -> Result<(), Memory>
+    ensures { OnOk result (Gains places.old places.new (λ item name. bounds_parts item name (out-Expr e.now))) }
+{
+    match e {
+        Expr::Binary { op, left, right } => {
+            if !is_and(*op) {
+                return Ok(());
+            }
+            add_bound(left.get(), places)?;
+            add_bound(right.get(), places)?;
+            Ok(())
+        }
+        Expr::Between { value, low, high } => {
+            if !are_ends(low.get(), high.get()) {
+                return Ok(());
+            }
+            add_column(value.get(), places)?;
+            Ok(())
+        }
+        Expr::Literal(_)
+        | Expr::Col { .. }
+        | Expr::Macro(_)
+        | Expr::Neg(_)
+        | Expr::Not(_)
+        | Expr::IsNull(_)
+        | Expr::OneOf { .. }
+        | Expr::Cast { .. }
+        | Expr::Call { .. }
+        | Expr::Case { .. }
+        | Expr::CountAll
+        | Expr::Agg { .. } => Ok(()),
+    }
+}
+
+/// The columns that a WHERE binds to the unit.
+pub(crate) fn bound_by(alloc: Global, filter: &Option<Expr>) -> Result<Places, Memory>
+    ensures { IfOk result (λ places. AreBound places filter.now) }
+{
+    let mut places = Seq::new(alloc);
+    if let Some(e) = filter {
+        add_bound(e, &mut places)?;
+    }
+    Ok(places)
+}
+
+fn has_place(places: &[(u32, Str)], item: usize, name: &Str) -> bool
+    ensures { result ≡ has_place places.now item name.now }
+{
+    for p in places {
+        if p.0 as usize == item && same_text(p.1.as_slice(), name.as_slice()) {
+            return true;
+        }
+    }
+    false
+}
+
+/// A SELECT, and the columns that its WHERE binds to the unit.
+pub(crate) struct Filtered<'a> {
+    pub select: &'a Select,
+    pub bound: Places,
+}
+
+impl<'a> Drop for Filtered<'a> {
+    fn drop(self) {
+        let Filtered {
+            select: _,
+            bound: _,
+        } = self;
+    }
+}
+
 /// The FROM item at a place of a SELECT is bound to the unit by this column.
-pub(crate) fn is_bound(s: &Select, place: usize, f: &FromItem, time: &Str) -> bool
-    ensures { result ≡ is_bound s.now place f.now time.now }
+pub(crate) fn is_bound(s: &Filtered, place: usize, f: &FromItem, time: &Str) -> bool
+    requires { AreBound s.now.bound s.now.select.now.filter }
+    ensures { result ≡ is_bound s.now.select.now place f.now time.now }
 {
     match f.join {
-        Join::First | Join::Cross => bounds_in(&s.filter, place, time),
-        Join::Inner => bounds_in(&s.filter, place, time) || bounds_in(&f.on, place, time),
+        Join::First | Join::Cross => has_place(s.bound.as_slice(), place, time),
+        Join::Inner => {
+            has_place(s.bound.as_slice(), place, time) || bounds_in(&f.on, place, time)
+        }
         Join::Left => bounds_in(&f.on, place, time),
     }
 }

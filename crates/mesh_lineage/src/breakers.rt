@@ -3,22 +3,23 @@ ghost use Rattle.std.specs.Prelude.{◌≡◌, ◌++◌, ℕ, IfOk, OnOk, map};
 ghost use Rattle.std.specs.List.{flat_map, slice_get};
 ghost use Rattle.std.specs.Option.{option_copied, option_to_list};
 ghost use Rattle.mesh_lineage.specs.Unsteady.{defn_breakers, item_breakers, least, select_breakers, selects_breakers};
-ghost use Rattle.mesh_lineage.specs.Reaches.{bound_test, link_named, link_test, may_read_links, or_link, parent_links, reaches_at, source_link};
+ghost use Rattle.mesh_lineage.specs.Bound.{AreBound};
+ghost use Rattle.mesh_lineage.specs.Reaches.{bound_test, link_named, link_test, may_read_links, near_links, or_link, parent_links, reaches_at, source_link};
 
-use crate::bounds::is_bound;
-use crate::reaches::{Bound, Link, Reach, lesser, reach_at};
+use crate::bounds::{Filtered, bound_by, is_bound};
+use crate::reaches::{Bound, Link, Near, Reach, lesser, reach_at};
 use mesh_base::{Decl, Defn, FromItem, Own, Rel, Select, Selects};
 use mesh_list::{Duplicate, Memory, Register};
 use mesh_values::Name;
 use std::alloc::Global;
 
 /// What a query may name.
-pub struct Links {
+pub struct Links<'a> {
     pub sources: Register<Link>,
-    pub parents: Register<Link>,
+    pub parents: Register<Near<'a>>,
 }
 
-impl Drop for Links {
+impl<'a> Drop for Links<'a> {
     fn drop(self) {
         let Links {
             sources: _,
@@ -48,20 +49,24 @@ fn source_links(alloc: Global, sources: &[Decl]) -> Result<Vec<Link>, Memory>
     Ok(made)
 }
 
-fn add_link(made: &mut Vec<Link>, reaches: &[Reach], place: u32) -> Result<(), Memory>
-    ensures { OnOk result (made.new.items ≡ made.old.items ++ parent_links (option_to_list (slice_get reaches.now place))) }
+fn add_link<'a>(made: &mut Vec<Near<'a>>, reaches: &'a [Reach], place: u32) -> Result<(), Memory>
+    ensures { OnOk result (near_links made.new.items ≡ near_links made.old.items ++ parent_links (option_to_list (slice_get reaches.now place))) }
 {
     match reach_at(reaches, place) {
         None => Ok(()),
         Some(r) => {
-            made.push(r.link.copy()?)?;
+            made.push(Near { link: &r.link })?;
             Ok(())
         }
     }
 }
 
-fn parent_links(alloc: Global, reaches: &[Reach], places: &[u32]) -> Result<Vec<Link>, Memory>
-    ensures { IfOk result (λ made. made.items ≡ parent_links (reaches_at reaches.now places.now)) }
+fn parent_links<'a>(
+    alloc: Global,
+    reaches: &'a [Reach],
+    places: &[u32],
+) -> Result<Vec<Near<'a>>, Memory>
+    ensures { IfOk result (λ made. near_links made.items ≡ parent_links (reaches_at reaches.now places.now)) }
 {
     let mut made = Vec::new(alloc);
     for place in places {
@@ -71,14 +76,14 @@ fn parent_links(alloc: Global, reaches: &[Reach], places: &[u32]) -> Result<Vec<
 }
 
 /// What the query of a model may name, whose parents stand at these places.
-pub(crate) fn links_of(
+pub(crate) fn links_of<'a>(
     alloc: Global,
     own: &Own,
-    reaches: &[Reach],
+    reaches: &'a [Reach],
     places: &[u32],
-) -> Result<Links, Memory>
+) -> Result<Links<'a>, Memory>
     ensures sources { IfOk result (λ made. made.sources ≡ map source_link own.now.sources) }
-    ensures parents { IfOk result (λ made. made.parents ≡ parent_links (reaches_at reaches.now places.now)) }
+    ensures parents { IfOk result (λ made. near_links made.parents ≡ parent_links (reaches_at reaches.now places.now)) }
 {
     let sources = source_links(alloc, own.sources.as_slice())?;
     let parents = parent_links(alloc, reaches, places)?;
@@ -88,17 +93,28 @@ pub(crate) fn links_of(
     })
 }
 
-fn link_of<'a>(links: &'a Links, name: &Name) -> Option<&'a Link>
-    ensures { option_copied result ≡ or_link (link_named links.now.sources name.now) (link_named links.now.parents name.now) }
+#[tactic(auto, using(crate::proofs::Places::near_found))]
+fn parent_of<'a>(parents: &Register<Near<'a>>, name: &Name) -> Option<&'a Link>
+    ensures { option_copied result ≡ link_named (near_links parents.now) name.now }
 {
-    match links.sources.find(name) {
-        Some(l) => Some(l),
-        None => links.parents.find(name),
+    match parents.find(name) {
+        Some(n) => Some(n.link),
+        None => None,
     }
 }
 
-fn may_read(links: &Links, s: &Select, place: usize, f: &FromItem, name: &Name) -> bool
-    ensures { result ≡ may_read_links links.now.sources links.now.parents s.now place f.now name.now }
+fn link_of<'a>(links: &'a Links, name: &Name) -> Option<&'a Link>
+    ensures { option_copied result ≡ or_link (link_named links.now.sources name.now) (link_named (near_links links.now.parents) name.now) }
+{
+    match links.sources.find(name) {
+        Some(l) => Some(l),
+        None => parent_of(&links.parents, name),
+    }
+}
+
+fn may_read(links: &Links, s: &Filtered, place: usize, f: &FromItem, name: &Name) -> bool
+    requires { AreBound s.now.bound s.now.select.now.filter }
+    ensures { result ≡ may_read_links links.now.sources (near_links links.now.parents) s.now.select.now place f.now name.now }
 {
     match link_of(links, name) {
         None => false,
@@ -110,8 +126,9 @@ fn may_read(links: &Links, s: &Select, place: usize, f: &FromItem, name: &Name) 
     }
 }
 
-fn item_breaker<'a>(links: &Links, s: &Select, place: usize, f: &'a FromItem) -> Option<&'a Name>
-    ensures { option_copied result ≡ least (item_breakers (may_read_links links.now.sources links.now.parents) s.now place f.now f.now.rel) }
+fn item_breaker<'a>(links: &Links, s: &Filtered, place: usize, f: &'a FromItem) -> Option<&'a Name>
+    requires { AreBound s.now.bound s.now.select.now.filter }
+    ensures { option_copied result ≡ least (item_breakers (may_read_links links.now.sources (near_links links.now.parents)) s.now.select.now place f.now f.now.rel) }
 {
     match &f.rel {
         Rel::Cte(_) => None,
@@ -126,48 +143,58 @@ fn item_breaker<'a>(links: &Links, s: &Select, place: usize, f: &'a FromItem) ->
 }
 
 #[tactic(auto, using(crate::proofs::Broken::items_more))]
-fn select_breaker<'a>(links: &Links, s: &'a Select) -> Option<&'a Name>
-    ensures { option_copied result ≡ least (select_breakers (may_read_links links.now.sources links.now.parents) s.now) }
+fn items_breaker<'a>(links: &Links, s: &Filtered<'a>) -> Option<&'a Name>
+    requires { AreBound s.now.bound s.now.select.now.filter }
+    ensures { option_copied result ≡ least (select_breakers (may_read_links links.now.sources (near_links links.now.parents)) s.now.select.now) }
 {
     let mut found = None;
-    for (i, f) in s.from.as_slice().iter().enumerate() {
+    for (i, f) in s.select.from.as_slice().iter().enumerate() {
         found = lesser(found, item_breaker(links, s, i, f));
     }
     found
 }
 
+fn select_breaker<'a>(links: &Links, s: &'a Select) -> Result<Option<&'a Name>, Memory>
+    ensures { IfOk result (λ found. option_copied found ≡ least (select_breakers (may_read_links links.now.sources (near_links links.now.parents)) s.now)) }
+{
+    let bound = bound_by(links.parents.alloc(), &s.filter)?;
+    let filtered = Filtered { select: s, bound };
+    Ok(items_breaker(links, &filtered))
+}
+
 #[tactic(auto, using(crate::proofs::Broken::selects_more))]
-fn selects_breaker<'a>(links: &Links, selects: &'a [Select]) -> Option<&'a Name>
-    ensures { option_copied result ≡ least (selects_breakers (may_read_links links.now.sources links.now.parents) selects.now) }
+fn selects_breaker<'a>(links: &Links, selects: &'a [Select]) -> Result<Option<&'a Name>, Memory>
+    ensures { IfOk result (λ found. option_copied found ≡ least (selects_breakers (may_read_links links.now.sources (near_links links.now.parents)) selects.now)) }
 {
     let mut found = None;
     for s in selects {
-        found = lesser(found, select_breaker(links, s));
+        found = lesser(found, select_breaker(links, s)?);
     }
-    found
+    Ok(found)
 }
 
 #[tactic(auto, using(crate::proofs::Broken::ctes_more))]
-fn ctes_breaker<'a>(links: &Links, ctes: &'a [Selects]) -> Option<&'a Name>
-    ensures { option_copied result ≡ least (flat_map (selects_breakers (may_read_links links.now.sources links.now.parents)) ctes.now) }
+fn ctes_breaker<'a>(links: &Links, ctes: &'a [Selects]) -> Result<Option<&'a Name>, Memory>
+    ensures { IfOk result (λ found. option_copied found ≡ least (flat_map (selects_breakers (may_read_links links.now.sources (near_links links.now.parents))) ctes.now)) }
 {
     let mut found = None;
     for c in ctes {
-        found = lesser(found, selects_breaker(links, c.as_slice()));
+        found = lesser(found, selects_breaker(links, c.as_slice())?);
     }
-    found
+    Ok(found)
 }
 
 /// The least relation of a FROM item that may not read it as it does.
 #[tactic(auto, using(crate::proofs::Least::least_append))]
-pub(crate) fn defn_breaker<'a>(links: &Links, defn: &'a Defn) -> Option<&'a Name>
-    ensures { option_copied result ≡ least (defn_breakers (may_read_links links.now.sources links.now.parents) defn.now) }
+pub(crate) fn defn_breaker<'a>(links: &Links, defn: &'a Defn) -> Result<Option<&'a Name>, Memory>
+    ensures { IfOk result (λ found. option_copied found ≡ least (defn_breakers (may_read_links links.now.sources (near_links links.now.parents)) defn.now)) }
 {
     match defn {
-        Defn::Seed { .. } => None,
-        Defn::Sql(q) => lesser(
-            ctes_breaker(links, q.ctes.as_slice()),
-            selects_breaker(links, q.selects.as_slice()),
-        ),
+        Defn::Seed { .. } => Ok(None),
+        Defn::Sql(q) => {
+            let first = ctes_breaker(links, q.ctes.as_slice())?;
+            let second = selects_breaker(links, q.selects.as_slice())?;
+            Ok(lesser(first, second))
+        }
     }
 }

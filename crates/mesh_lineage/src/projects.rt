@@ -29,7 +29,7 @@ fn breaker_of(
         Kind::View | Kind::Seed => Ok(None),
         Kind::Incremental { .. } => {
             let links = links_of(alloc, own, reaches, places)?;
-            copied(defn_breaker(&links, &own.defn))
+            copied(defn_breaker(&links, &own.defn)?)
         }
     }
 }

@@ -9,7 +9,7 @@ ghost use Rattle.mesh_lineage.specs.Unsteady.{least, lesser, timed_names, timed_
 ghost use Rattle.mesh_lineage.specs.Reaches.{are_timeless, least_reached, model_bound, reach_over, reaches_at, timed_over, timeless_over};
 
 use mesh_base::{Decl, Own};
-use mesh_list::{Duplicate, Keyed, Memory, both};
+use mesh_list::{Duplicate, Keyed, Memory};
 use mesh_values::{Kind, Name, Str, is_incremental};
 use std::cmp::Ordering;
 
@@ -57,23 +57,6 @@ impl Drop for Reach {
     }
 }
 
-impl Duplicate for Bound {
-    fn copy(&self) -> Result<Bound, Memory> {
-        match self {
-            Bound::Free => Ok(Bound::Free),
-            Bound::Never => Ok(Bound::Never),
-            Bound::By(time) => Ok(Bound::By(time.copy()?)),
-        }
-    }
-}
-
-impl Duplicate for Link {
-    fn copy(&self) -> Result<Link, Memory> {
-        let (name, bound) = both(&self.name, &self.bound)?;
-        Ok(Link { name, bound })
-    }
-}
-
 impl Keyed for Link {
     type Key = Name;
 
@@ -87,6 +70,32 @@ impl Keyed for Link {
 
     fn against(&self, other: &Link) -> Ordering {
         self.name.compare(&other.name)
+    }
+
+    ghost total = { names_total };
+
+    ghost exact = { names_exact };
+}
+
+/// A link that lies elsewhere.
+#[derive(Drop)]
+pub struct Near<'a> {
+    pub link: &'a Link,
+}
+
+impl<'a> Keyed for Near<'a> {
+    type Key = Name;
+
+    ghost key = { λ n. n.link.now.name };
+
+    ghost order = { name_cmp };
+
+    fn compare(&self, other: &Name) -> Ordering {
+        self.link.name.compare(other)
+    }
+
+    fn against(&self, other: &Near<'a>) -> Ordering {
+        self.link.name.compare(&other.link.name)
     }
 
     ghost total = { names_total };

@@ -3,15 +3,16 @@ ghost use Rattle.std.specs.Prelude.{◌≡◌, ◌++◌, IfOk, OnOk, map, flat_m
 ghost use Rattle.std.specs.Option.{option_to_list};
 ghost use Rattle.mesh_base.specs.declared.queries.Item.{Item};
 ghost use Rattle.mesh_meaning.specs.Named.{columns};
-ghost use Rattle.mesh_laws.specs.Reads.{expressions, in_order, on_of, query_readings, reading_at, readings, rel_reading, select_readings, selects_readings};
-ghost use Rattle.mesh_lineage.specs.Pairs.{as_readings};
+ghost use Rattle.mesh_laws.specs.Reads.{expressions, on_of, query_readings, reading_at, readings, rel_reading, select_readings, selects_readings};
+ghost use Rattle.mesh_lineage.specs.Alike.{IsAlike};
 
 use crate::columns::{Places, add_all_columns, add_columns};
+use crate::once::{each_once, in_order};
 use mesh_base::{
     Defn, Expr, FromItem, Froms, Item, Own, Query, Reading, Reads, Rel, Select, Selects,
 };
 use mesh_list::{Duplicate, Memory, Seq};
-use mesh_values::{Name, Str};
+use mesh_values::Str;
 use std::alloc::Global;
 use std::collections::BTreeSet;
 
@@ -74,18 +75,28 @@ fn add_reading(from: &Froms, item: u32, column: Str, made: &mut Reads) -> Result
     }
 }
 
-fn add_select_reads(s: &Select, made: &mut Reads) -> Result<(), Memory>
-    ensures { OnOk result (made.new ≡ made.old ++ select_readings s.now) }
+fn add_readings(from: &Froms, places: BTreeSet<(u32, Str)>, made: &mut Reads) -> Result<(), Memory>
+    ensures { OnOk result (made.new ≡ made.old ++ flat_map (reading_at from.now) places.keys) }
 {
-    let places = select_columns(made.alloc(), s)?;
-    for (item, column) in places.into_vec() {
-        add_reading(&s.from, item, column, made)?;
+    for (item, column) in places {
+        add_reading(from, item, column, made)?;
     }
     Ok(())
 }
 
+// Each once, so that a relation's name is copied no oftener.
+fn add_select_reads(s: &Select, made: &mut Reads) -> Result<(), Memory>
+    ensures { OnOk result (IsAlike made.new (made.old ++ select_readings s.now)) }
+{
+    let alloc = made.alloc();
+    let all = select_columns(alloc, s)?;
+    let places = each_once(alloc, all)?;
+    add_readings(&s.from, places, made)?;
+    Ok(())
+}
+
 fn add_selects_reads(selects: &[Select], made: &mut Reads) -> Result<(), Memory>
-    ensures { OnOk result (made.new ≡ made.old ++ selects_readings selects.now) }
+    ensures { OnOk result (IsAlike made.new (made.old ++ selects_readings selects.now)) }
 {
     for s in selects {
         add_select_reads(s, made)?;
@@ -94,7 +105,7 @@ fn add_selects_reads(selects: &[Select], made: &mut Reads) -> Result<(), Memory>
 }
 
 fn add_ctes_reads(ctes: &[Selects], made: &mut Reads) -> Result<(), Memory>
-    ensures { OnOk result (made.new ≡ made.old ++ flat_map selects_readings ctes.now) }
+    ensures { OnOk result (IsAlike made.new (made.old ++ flat_map selects_readings ctes.now)) }
 {
     for c in ctes {
         add_selects_reads(c.as_slice(), made)?;
@@ -102,9 +113,9 @@ fn add_ctes_reads(ctes: &[Selects], made: &mut Reads) -> Result<(), Memory>
     Ok(())
 }
 
-// What a query reads, as often as it names it.
+// What a query reads, as often as it names it in different SELECTs or FROM items.
 fn query_reads(alloc: Global, q: &Query) -> Result<Reads, Memory>
-    ensures { IfOk result (λ made. made ≡ query_readings q.now) }
+    ensures { IfOk result (λ made. IsAlike made (query_readings q.now)) }
 {
     let mut made = Seq::new(alloc);
     add_ctes_reads(q.ctes.as_slice(), &mut made)?;
@@ -112,31 +123,8 @@ fn query_reads(alloc: Global, q: &Query) -> Result<Reads, Memory>
     Ok(made)
 }
 
-// Each once, by relation and then by column.
-#[tactic(auto, using(crate::proofs::Onto::onto_none))]
-fn in_order(alloc: Global, all: Reads) -> Result<BTreeSet<(Name, Str)>, Memory>
-    ensures { IfOk result (λ set. as_readings set.keys ≡ in_order all) }
-{
-    let mut rest = all.into_vec();
-    let mut set = BTreeSet::new(alloc);
-    while let Some(reading) = rest.pop() {
-        let Reading { relation, column } = reading;
-        set.insert((relation, column))?;
-    }
-    Ok(set)
-}
-
-fn as_reads(alloc: Global, set: BTreeSet<(Name, Str)>) -> Result<Reads, Memory>
-    ensures { IfOk result (λ made. made ≡ as_readings set.keys) }
-{
-    let mut made = Seq::new(alloc);
-    for (relation, column) in set {
-        made.push(Reading { relation, column })?;
-    }
-    Ok(made)
-}
-
 /// The columns of models and sources that a definition names, by relation and then by column, each once. A seed names none.
+#[tactic(auto, using(crate::proofs::Orders::one_order))]
 pub fn reads(m: &Own) -> Result<Reads, Memory>
     ensures { IfOk result (λ made. made ≡ readings m.now) }
 {
@@ -145,8 +133,7 @@ pub fn reads(m: &Own) -> Result<Reads, Memory>
         Defn::Seed { .. } => Ok(Seq::new(alloc)),
         Defn::Sql(q) => {
             let all = query_reads(alloc, q)?;
-            let set = in_order(alloc, all)?;
-            as_reads(alloc, set)
+            in_order(alloc, all)
         }
     }
 }
