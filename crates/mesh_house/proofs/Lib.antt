@@ -3,6 +3,8 @@ pub mod Each
 pub mod After
 pub mod Lists
 pub mod Runs
+pub mod Settled
 pub mod Tested
+pub mod Thinned
 pub mod Undone
 pub mod Written
