@@ -1,6 +1,7 @@
 pub mod Along
 pub mod Each
 pub mod After
+pub mod Known
 pub mod Lists
 pub mod Runs
 pub mod Settled

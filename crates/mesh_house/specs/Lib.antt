@@ -4,6 +4,8 @@ pub mod Fails
 pub mod Gone
 -- House: what a house tells of itself, and what its calls do.
 pub mod House
+-- Latest: what is known of the table that was written last.
+pub mod Latest
 -- Memory: what a house in memory tells and lists.
 pub mod Memory
 -- Objects: the names that objects have.

@@ -2,9 +2,10 @@
 ghost use Rattle.std.specs.Prelude.{◌≡◌, IfOk, OnOk, OnErr};
 ghost use Rattle.mesh_book.specs.Changes.{delete_snapshot, forget_version};
 ghost use Rattle.mesh_house.specs.World.{head, body, book};
-ghost use Rattle.mesh_house.specs.Step.{drop_object, step, with_book};
+ghost use Rattle.mesh_house.specs.Step.{drop_object, step, with_book, write_range};
 
-use crate::gone::{Gone, settle};
+use crate::gone::Gone;
+use crate::latest::{Latest, settle_known as settle, step, write};
 use crate::objects::Body;
 use crate::outside::may_wait;
 use crate::sources::SourceTables;
@@ -12,7 +13,7 @@ use crate::world::{Change, ViewOf, World};
 use mesh_base::Ref;
 use mesh_book::Book;
 use mesh_list::{Duplicate, Memory, Sorted};
-use mesh_values::{Columns, Name};
+use mesh_values::{Columns, Name, Rows, Str};
 use std::alloc::Global;
 use std::marker::Model;
 
@@ -20,11 +21,16 @@ use std::marker::Model;
 pub(crate) struct Buffered {
     world: World,
     gone: Gone,
+    latest: Option<Latest>,
 }
 
 impl Drop for Buffered {
     fn drop(self) {
-        let Buffered { world: _, gone: _ } = self;
+        let Buffered {
+            world: _,
+            gone: _,
+            latest: _,
+        } = self;
     }
 }
 
@@ -32,7 +38,9 @@ impl Model for Buffered {
     ghost use Rattle.std.specs.Coded.{codes};
     ghost use Rattle.mesh_base.specs.contracts.expressions.Expr as expr;
     ghost use Rattle.mesh_house.specs.declared.world.World.{World};
+    ghost use Rattle.std.specs.Prelude.{◌≡◌, true};
     ghost use Rattle.mesh_house.specs.Gone.{MayGo, settled};
+    ghost use Rattle.mesh_house.specs.Latest.{is_known};
 
     ghost Value = { World };
 
@@ -40,7 +48,7 @@ impl Model for Buffered {
 
     ghost view = { λ a. settled a.world a.gone };
 
-    ghost invariant = { λ a. MayGo a.world.book a.gone };
+    ghost invariant = { λ a. MayGo a.world.book a.gone × (is_known a.world a.latest ≡ true) };
 }
 
 impl Buffered {
@@ -51,6 +59,7 @@ impl Buffered {
         Buffered {
             world,
             gone: Gone::new(alloc),
+            latest: None,
         }
     }
 
@@ -59,7 +68,7 @@ impl Buffered {
     pub fn look(&mut self) -> &World
         ensures { result.now ≡ self.old }
     {
-        settle(&mut self.world, &mut self.gone);
+        settle(&mut self.world, &mut self.gone, &mut self.latest);
         &self.world
     }
 
@@ -80,7 +89,7 @@ impl Buffered {
         ensures value { IfOk result (λ columns. columns ≡ head self.old name.now) }
         ensures same { self.new ≡ self.old }
     {
-        settle(&mut self.world, &mut self.gone);
+        settle(&mut self.world, &mut self.gone, &mut self.latest);
         self.world.head(name)
     }
 
@@ -89,7 +98,7 @@ impl Buffered {
         ensures value { IfOk result (λ kept. kept ≡ body self.old name.now) }
         ensures same { self.new ≡ self.old }
     {
-        settle(&mut self.world, &mut self.gone);
+        settle(&mut self.world, &mut self.gone, &mut self.latest);
         self.world.body(name)
     }
 
@@ -98,7 +107,7 @@ impl Buffered {
         ensures value { IfOk result (λ made. made ≡ book self.old) }
         ensures same { self.new ≡ self.old }
     {
-        settle(&mut self.world, &mut self.gone);
+        settle(&mut self.world, &mut self.gone, &mut self.latest);
         self.world.book.copy()
     }
 
@@ -141,14 +150,41 @@ impl Buffered {
         self.gone.objects.place(object.copy()?)
     }
 
+    // Writes a table's rows of these seconds. At `Err` nothing has changed.
+    #[tactic(auto, using(crate::proofs::Settled::settled_nothing, crate::proofs::Settled::may_go_nothing))]
+    fn write_range(
+        &mut self,
+        alloc: Global,
+        object: &Name,
+        time: &Str,
+        start: i64,
+        end: i64,
+        rows: &Rows,
+    ) -> Result<(), Memory>
+        ensures ok { OnOk result (self.new ≡ write_range self.old object.now time.now start end rows.now) }
+        ensures err { OnErr result (self.new ≡ self.old) }
+    {
+        settle(&mut self.world, &mut self.gone, &mut self.latest);
+        write(
+            &mut self.world,
+            &mut self.latest,
+            alloc,
+            object,
+            time,
+            start,
+            end,
+            rows,
+        )
+    }
+
     // Makes the change where nothing is left to go. At `Err` nothing has changed.
     #[tactic(auto, using(crate::proofs::Settled::settled_nothing, crate::proofs::Settled::may_go_nothing))]
     fn settled_step(&mut self, alloc: Global, change: &Change) -> Result<(), Memory>
         ensures ok { OnOk result (self.new ≡ step self.old change.now) }
         ensures err { OnErr result (self.new ≡ self.old) }
     {
-        settle(&mut self.world, &mut self.gone);
-        self.world.step(alloc, change)
+        settle(&mut self.world, &mut self.gone, &mut self.latest);
+        step(&mut self.world, &mut self.latest, alloc, change)
     }
 
     /// Makes the change. At `Err` nothing has changed.
@@ -160,6 +196,13 @@ impl Buffered {
             Change::ForgetVersion { object } => self.forget_version(object),
             Change::DropObject { object } => self.drop_object(object),
             Change::DeleteSnapshot { name, fingerprint } => self.delete_snapshot(name, fingerprint),
+            Change::WriteRange {
+                object,
+                time,
+                start,
+                end,
+                rows,
+            } => self.write_range(alloc, object, time, *start, *end, rows),
             _ => self.settled_step(alloc, change),
         }
     }

@@ -10,6 +10,7 @@ mod copies;
 mod fails;
 mod gone;
 mod house;
+mod latest;
 mod laws;
 mod making;
 mod memory;
