@@ -1,5 +1,5 @@
 -- What is known of the table that was written last, after a write and after other changes.
-use Rattle.std.proofs.Common.{◌≡◌, ℕ, ℤ, Bool, true, false, cond, List, [], ◌∷◌, Some, None, Ok, Err, Result, OnOk, OnErr, IfSome, refl, sym, ◌∙◌, ap}
+use Rattle.std.proofs.Common.{◌≡◌, ℕ, ℤ, Bool, true, false, cond, List, [], ◌∷◌, Some, None, IfSome, refl, sym, ◌∙◌, ap}
 use Rattle.std.specs.declared.option.Option.{Option}
 use Rattle.std.specs.declared.cmp.Ordering.{Ordering}
 use Rattle.std.specs.Ordering.{is_eq}
@@ -19,23 +19,21 @@ use Rattle.mesh_house.specs.declared.latest.Latest.{Latest}
 use Rattle.mesh_house.specs.declared.objects.Body.{Body}
 use Rattle.mesh_house.specs.declared.objects.Body.TheVariants.{Rows, Stored}
 use Rattle.mesh_house.specs.declared.objects.Object.{Object}
-use Rattle.mesh_house.specs.declared.world.Change.{Change}
-use Rattle.mesh_house.specs.declared.world.Change.TheVariants.{Moment, Load, PutSnapshot, MakeTable, MakeView, ReplaceRows, WriteRange, RecordRange, RecordMarks, SetPending, PointView, DropView, Finalize, Expire, ForgetVersion, DropObject, DeleteSnapshot, DeleteEnv, ForgetUnits, Migrate}
 use Rattle.mesh_house.specs.declared.world.World.{World}
 use Rattle.mesh_house.specs.Objects.{object_name, is_physical}
 use Rattle.mesh_house.specs.World.{object_at}
 use Rattle.mesh_house.specs.declared.gone.Gone.{Gone}
 use Rattle.mesh_house.specs.Gone.{settled}
 use Rattle.mesh_house.proofs.Thinned.{outside_empty}
-use Rattle.mesh_house.specs.Latest.{ends_body, ends_object, ends_rows, ends_now, is_known, kept_if, spares_objects}
-use Rattle.mesh_house.specs.Step.{step, written_body, written_object, written_at, write_range}
+use Rattle.mesh_house.specs.Latest.{ends_body, ends_object, ends_rows, ends_now, is_known, kept_if}
+use Rattle.mesh_house.specs.Step.{written_body, written_object, written_at, write_range}
 
 -- what is before a second is before a later one
 later_body : (columns : List Column) (time : List ℕ) (s e : ℤ) (b : Body) → le_z s e ≡ true → ends_body columns time s b ≡ true → ends_body columns time e b ≡ true
 later_body columns time s e (Rows rows) le h = still_before columns time s e le rows h
 later_body columns time s e (Stored own targets) le h = refl
 
-pub later_object : (o : Option Object) (time : List ℕ) (s e : ℤ) → le_z s e ≡ true → ends_object o time s ≡ true → ends_object o time e ≡ true
+later_object : (o : Option Object) (time : List ℕ) (s e : ℤ) → le_z s e ≡ true → ends_object o time s ≡ true → ends_object o time e ≡ true
 later_object None time s e le h = refl
 later_object (Some o) time s e le h = later_body o.columns time s e o.body le h
 
@@ -86,56 +84,16 @@ module _ (w : World) (object : Name) (time : List ℕ) (s e : ℤ) (rows : List 
       ap (λ (u : World). ends_object (object_at u object) time e) is
       ∙ by_object (object_at w object) refl k.0 k.1 (ap (λ (u : World). ends_rows (object_at u object) time e rows) (sym is) ∙ h)
 
--- changes that spare the objects leave what is known of them
-spared : (w : World) (c : Change) → spares_objects c ≡ true → (step w c).objects ≡ w.objects
-spared w (Moment t) h = refl
-spared w (Load name columns rows keep) h = cc
-spared w (PutSnapshot snapshot) h = cc
-spared w (MakeTable object columns) h = cc
-spared w (MakeView object columns own targets) h = cc
-spared w (ReplaceRows object rows) h = cc
-spared w (WriteRange object time start end rows) h = cc
-spared w (RecordRange object start end) h = refl
-spared w (RecordMarks object marks) h = refl
-spared w (SetPending env list expires) h = cc
-spared w (PointView view target) h = cc
-spared w (DropView view) h = cc
-spared w (Finalize env) h = cc
-spared w (Expire env) h = cc
-spared w (ForgetVersion object) h = cc
-spared w (DropObject object) h = cc
-spared w (DeleteSnapshot name fingerprint) h = cc
-spared w (DeleteEnv env) h = cc
-spared w (ForgetUnits list) h = cc
-spared w (Migrate renames) h = cc
-
 -- what is known of a world is known of another with its objects
-pub known_alike : (w v : World) (l : Option Latest) → v.objects ≡ w.objects → is_known w l ≡ true → is_known v l ≡ true
+known_alike : (w v : World) (l : Option Latest) → v.objects ≡ w.objects → is_known w l ≡ true → is_known v l ≡ true
 known_alike w v None same h = refl
 known_alike w v (Some l) same h = ap (λ os. ends_object (cond (is_physical l.object) (found name_cmp object_name l.object os) None) l.time l.end) same ∙ h
-
-pub known_spared : (w v : World) (c : Change) (l : Option Latest) → spares_objects c ≡ true → v ≡ step w c → is_known w l ≡ true → is_known v l ≡ true
-known_spared w v c l h is known = known_alike w v l (ap (λ (u : World). u.objects) is ∙ spared w c h) known
 
 -- what is kept where no objects go
 pub known_settled : (w v : World) (g : Gone) (kept : Bool) (l m : Option Latest) → (kept ≡ true → g.objects ≡ []) → v ≡ settled w g → m ≡ kept_if kept l → is_known w l ≡ true → is_known v m ≡ true
 known_settled w v g true l m none is kept known =
     ap (is_known v) kept ∙ known_alike w v l (ap (λ (u : World). u.objects) is ∙ outside_empty name_cmp object_name g.objects w.objects (none refl)) known
 known_settled w v g false l m none is kept known = ap (is_known v) kept
-
--- what is kept where a change spares the objects
-pub known_after : {E : Type 0} (r : Result (Unit {0}) E) (w v : World) (c : Change) (kept : Bool) (l m : Option Latest) → kept ≡ spares_objects c → m ≡ kept_if kept l → OnOk r (v ≡ step w c) → OnErr r (v ≡ w) → is_known w l ≡ true → is_known v m ≡ true
-known_after (Ok x) w v c true l m spares kept ok err known = ap (is_known v) kept ∙ known_spared w v c l (sym spares) ok known
-known_after (Err e) w v c true l m spares kept ok err known = ap (is_known v) kept ∙ known_alike w v l (ap (λ (u : World). u.objects) err) known
-known_after (Ok x) w v c false l m spares kept ok err known = ap (is_known v) kept
-known_after (Err e) w v c false l m spares kept ok err known = ap (is_known v) kept
-
--- a table that is taken out is known by its name
-pub taken_ends : (w : World) (n : Name) (time : List ℕ) (s : ℤ) (blank : Object) (o : Object) → is_physical n ≡ true → blank.name ≡ n → Some o ≡ found name_cmp object_name blank.name w.objects → ends_object (object_at w n) time s ≡ true → ends_body o.columns time s o.body ≡ true
-taken_ends w n time s blank o physical named is h =
-    ap (λ (f : Option Object). ends_object f time s)
-    (is ∙ ap (λ (k : Name). found name_cmp object_name k w.objects) named ∙ sym (ap (λ (b : Bool). cond b (found name_cmp object_name n w.objects) None) physical))
-    ∙ h
 
 -- what is told of a table is known of a world where it is so
 pub known_made : (w : World) (object : Name) (time : List ℕ) (e : ℤ) (o : Option Latest) → IfSome o (λ l. l ≡ record { object = object; time = time; end = e }) → ends_object (object_at w object) time e ≡ true → is_known w o ≡ true

@@ -15,18 +15,18 @@ use Rattle.mesh_list.proofs.Standing.{has_it, lacks_it, passes_all, where_first,
 use Rattle.mesh_house.specs.Outside.{itself, stays, outside}
 
 -- a comparison that is turned around
-pub gt_turned : (o : Ordering) → is_lt (ordering_reverse o) ≡ is_gt o
+gt_turned : (o : Ordering) → is_lt (ordering_reverse o) ≡ is_gt o
 gt_turned Less = refl
 gt_turned Equal = refl
 gt_turned Greater = refl
 
-pub eq_turned : (o : Ordering) → is_eq (ordering_reverse o) ≡ is_eq o
+eq_turned : (o : Ordering) → is_eq (ordering_reverse o) ≡ is_eq o
 eq_turned Less = refl
 eq_turned Equal = refl
 eq_turned Greater = refl
 
 -- two tests that agree keep the same
-pub filter_alike : {A : Type 0} (p q : A → Bool) → ((x : A) → p x ≡ q x) → (xs : List A) → filter p xs ≡ filter q xs
+filter_alike : {A : Type 0} (p q : A → Bool) → ((x : A) → p x ≡ q x) → (xs : List A) → filter p xs ≡ filter q xs
 filter_alike p q same [] = refl
 filter_alike p q same (x ∷ xs) =
     ap (λ (b : Bool). cond b (x ∷ filter p xs) (filter p xs)) (same x)
@@ -90,7 +90,7 @@ module _ {K : Type 0} (R : K → K → Ordering) (total : IsTotalOrder R) (k x :
   pub is_below : is_gt (R k x) ≡ is_lt (R x k)
   is_below = sym (ap is_lt (total.antisymm x k) ∙ gt_turned (R k x))
 
-  pub is_there : is_eq (R k x) ≡ is_eq (R x k)
+  is_there : is_eq (R k x) ≡ is_eq (R x k)
   is_there = sym (ap is_eq (total.antisymm x k) ∙ eq_turned (R k x))
 
 -- whether a key is found, by what stands at its place
