@@ -1,8 +1,11 @@
 pub mod Along
 pub mod Each
 pub mod After
+pub mod Known
 pub mod Lists
 pub mod Runs
+pub mod Settled
 pub mod Tested
+pub mod Thinned
 pub mod Undone
 pub mod Written

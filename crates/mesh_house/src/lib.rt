@@ -5,13 +5,17 @@
 //! `mesh_values`, `mesh_base`, `mesh_days`, `mesh_time`, `mesh_seconds`, `mesh_book` and `mesh_moves`.
 #![tactic(auto)]
 
+mod buffered;
 mod copies;
 mod fails;
+mod gone;
 mod house;
+mod latest;
 mod laws;
 mod making;
 mod memory;
 mod objects;
+mod outside;
 mod reads;
 mod same;
 mod sources;

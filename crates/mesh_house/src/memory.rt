@@ -4,9 +4,11 @@ ghost use Rattle.mesh_house.specs.World.{empty_world, head, body, view, book};
 ghost use Rattle.mesh_house.specs.House.{Changes, Reads};
 ghost use Rattle.mesh_house.specs.Memory.{memory_told, memory_world, memory_fails, fresh, next_change, next_read, ChangesAsListed, ReadsAsListed};
 
+use crate::buffered::Buffered;
 use crate::fails::{Fails, change_fails, read_fails};
 use crate::house::{Warehouse, WhFail};
 use crate::objects::Body;
+use crate::sources::SourceTables;
 use crate::world::{Change, World};
 use mesh_book::Book;
 use mesh_list::{Duplicate, Seq};
@@ -15,7 +17,7 @@ use std::alloc::Global;
 
 /// A world in memory.
 pub struct MemHouse {
-    world: World,
+    world: Buffered,
     fails: Fails,
     next_change: u64,
     next_read: u64,
@@ -53,7 +55,7 @@ impl MemHouse {
         ensures numbers { (next_change result ≡ 0) × (next_read result ≡ 0) }
     {
         MemHouse {
-            world,
+            world: Buffered::new(fails.alloc(), world),
             fails,
             next_change: 0,
             next_read: 0,
@@ -63,10 +65,17 @@ impl MemHouse {
     }
 
     /// The world as it stands. It counts as no call.
-    pub fn world(&self) -> &World
-        ensures { result.now ≡ memory_world self.now }
+    pub fn world(&mut self) -> &World
+        ensures { result.now ≡ memory_world self.old }
     {
-        &self.world
+        self.world.look()
+    }
+
+    /// The sources of the world as it stands. It counts as no call.
+    pub fn sources(&self) -> &SourceTables
+        ensures { result.now ≡ (memory_world self.now).sources }
+    {
+        self.world.sources()
     }
 
     /// From now on these calls are to fail, and both kinds of calls are numbered from 0 anew.
@@ -138,7 +147,7 @@ impl Warehouse for MemHouse {
         ensures listed { ReadsAsListed self.old self.new result }
     {
         self.reading()?;
-        match self.world.views.find(name) {
+        match self.world.views().find(name) {
             Some(view) => Ok(Some(view.target.copy()?)),
             None => Ok(None),
         }
@@ -149,7 +158,7 @@ impl Warehouse for MemHouse {
         ensures listed { ReadsAsListed self.old self.new result }
     {
         self.reading()?;
-        Ok(self.world.book.copy()?)
+        Ok(self.world.book()?)
     }
 
     fn faults(&self) -> u64 {

@@ -6,9 +6,11 @@ ghost use Rattle.mesh_list.specs.Keyed.{found, placed, exchanged, without, ascen
 ghost use Rattle.mesh_values.specs.NameOrder.{names_exact, names_total};
 ghost use Rattle.mesh_house.specs.World.{rows_of};
 ghost use Rattle.mesh_house.specs.Objects.{object_name, is_physical, are_physical};
+ghost use Rattle.mesh_house.specs.Outside.{itself, outside};
 
+use crate::outside::thin;
 use mesh_base::Own;
-use mesh_list::{Duplicate, Keyed, Memory, Same, Sorted};
+use mesh_list::{Duplicate, Keyed, Memory, Register, Same};
 use mesh_values::{Columns, Name, Pairs, Rows};
 use std::alloc::Global;
 use std::cmp::Ordering;
@@ -81,7 +83,7 @@ impl Keyed for Object {
 
 /// Objects in strictly ascending order of their names, each of a schema where two underscores adjoin.
 pub struct Objects {
-    list: Sorted<Object>,
+    list: Register<Object>,
 }
 
 impl Drop for Objects {
@@ -94,8 +96,10 @@ impl Model for Objects {
     ghost use Rattle.std.specs.Prelude.{List, true, ◌≡◌};
     ghost use Rattle.std.specs.Coded.{codes};
     ghost use Rattle.mesh_base.specs.contracts.expressions.Expr as expr;
+    ghost use Rattle.mesh_values.specs.Names.{name_cmp};
+    ghost use Rattle.mesh_list.specs.Keyed.{ascends};
     ghost use Rattle.mesh_house.specs.declared.objects.Object.{Object};
-    ghost use Rattle.mesh_house.specs.Objects.{are_physical};
+    ghost use Rattle.mesh_house.specs.Objects.{are_physical, object_name};
 
     ghost Value = { List Object };
 
@@ -103,7 +107,7 @@ impl Model for Objects {
 
     ghost view = { λ a. a.list };
 
-    ghost invariant = { λ a. are_physical a.list ≡ true };
+    ghost invariant = { λ a. (ascends name_cmp object_name a.list ≡ true) × (are_physical a.list ≡ true) };
 }
 
 impl Objects {
@@ -112,7 +116,7 @@ impl Objects {
         ensures { result ≡ [] }
     {
         Objects {
-            list: Sorted::new(alloc),
+            list: Register::new(alloc),
         }
     }
 
@@ -157,6 +161,14 @@ impl Objects {
         ensures old { result ≡ found name_cmp object_name name.now self.old }
     {
         self.list.remove(name)
+    }
+
+    /// Takes the objects of these names out, those of them that are there, in one pass and without memory.
+    pub(crate) fn remove_all(&mut self, names: &[Name])
+        requires { ascends name_cmp itself names.now ≡ true }
+        ensures { self.new ≡ outside name_cmp object_name names.now self.old }
+    {
+        thin(&mut self.list, names);
     }
 }
 

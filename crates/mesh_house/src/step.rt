@@ -1,7 +1,9 @@
 // What a change makes of a world.
-ghost use Rattle.std.specs.Prelude.{◌≡◌, [], ◌++◌, true, IfOk, OnOk, OnErr};
+ghost use Rattle.std.specs.Prelude.{◌≡◌, [], ◌++◌, true, IfOk, OnOk, OnErr, IsTrue};
 ghost use Rattle.std.specs.Option.{option_copied};
 ghost use Rattle.mesh_book.specs.Changes.{at_version, put_snapshot, record_marks, set_pending, delete_snapshot};
+ghost use Rattle.mesh_seconds.specs.Rows.{are_before, rewritten};
+ghost use Rattle.mesh_house.specs.Latest.{ends_body, ends_object};
 ghost use Rattle.mesh_house.specs.Objects.{is_physical};
 ghost use Rattle.mesh_house.specs.World.{empty_world, object_at, version_of};
 ghost use Rattle.mesh_house.specs.Step.{with_object, with_book, kept_rows, load, make_table, make_view, replace_rows, written_object, write_range, point_view, drop_view, drop_object, step};
@@ -13,8 +15,8 @@ use mesh_base::{Input, Marks, Own, Ref, Refs, Snapshot};
 use mesh_book::{Book, Version};
 use mesh_list::{Duplicate, Memory, Seq, Sorted, both, together};
 use mesh_moves::{forget_units, migrate};
-use mesh_seconds::rewrite;
-use mesh_values::{Columns, Name, Pairs, Rows, Str, has_two_underscores};
+use mesh_seconds::{add, rewrite};
+use mesh_values::{Column, Columns, Name, Pairs, Rows, Str, has_two_underscores};
 use std::alloc::Global;
 use std::mem::drop;
 
@@ -109,14 +111,45 @@ fn loaded(
     })
 }
 
+// Rows that lie in the range go, and others come after the rest. Where all are known to be before `start`, they are not
+// looked at. At `Err` nothing has changed.
+fn write_rows(
+    old: &mut Rows,
+    rows: Rows,
+    columns: &[Column],
+    time: &Str,
+    start: i64,
+    end: i64,
+    behind: bool,
+) -> Result<(), Memory>
+    requires { IsTrue behind → are_before columns.now time.now start old.old ≡ true }
+    ensures ok { OnOk result (old.new ≡ rewritten columns.now time.now start end rows old.old) }
+    ensures err { OnErr result (old.new ≡ old.old) }
+{
+    if behind {
+        add(old, rows, columns, time, start, end)
+    } else {
+        rewrite(old, rows, columns, time, start, end)
+    }
+}
+
 impl Object {
-    // A table's rows that lie in the range go, and others come after the rest. At `Err` nothing has changed.
-    fn rewrite(&mut self, rows: Rows, time: &Str, start: i64, end: i64) -> Result<(), Memory>
+    // The same of a table's rows; a stored query stays.
+    fn rewrite(
+        &mut self,
+        rows: Rows,
+        time: &Str,
+        start: i64,
+        end: i64,
+        behind: bool,
+    ) -> Result<(), Memory>
+        requires { IsTrue behind → ends_body self.old.columns time.now start self.old.body ≡ true }
         ensures ok { OnOk result (self.new ≡ written_object self.old time.now start end rows) }
         ensures err { OnErr result (self.new ≡ self.old) }
     {
+        let columns = self.columns.as_slice();
         match &mut self.body {
-            Body::Rows(old) => rewrite(old, rows, self.columns.as_slice(), time, start, end),
+            Body::Rows(old) => write_rows(old, rows, columns, time, start, end, behind),
             Body::Stored { .. } => Ok(()),
         }
     }
@@ -247,7 +280,9 @@ impl World {
         self.objects.place(filled)
     }
 
-    fn write_range(
+    /// The table's rows that lie in the range go, and others come after the rest. Where all that are there are known to
+    /// be before `start`, they are not looked at. At `Err` nothing has changed.
+    pub(crate) fn write_range(
         &mut self,
         alloc: Global,
         object: &Name,
@@ -255,7 +290,9 @@ impl World {
         start: i64,
         end: i64,
         rows: &Rows,
+        behind: bool,
     ) -> Result<(), Memory>
+        requires { IsTrue behind → ends_object (object_at self.old object.now) time.now start ≡ true }
         ensures ok { OnOk result (self.new ≡ write_range self.old object.now time.now start end rows.now) }
         ensures err { OnErr result (self.new ≡ self.old) }
     {
@@ -266,7 +303,7 @@ impl World {
         match self.objects.exchange(blank) {
             None => Ok(()),
             Some(mut old) => {
-                let done = old.rewrite(more, time, start, end);
+                let done = old.rewrite(more, time, start, end, behind);
                 drop(self.objects.exchange(old));
                 done
             }
@@ -358,7 +395,7 @@ impl World {
                 start,
                 end,
                 rows,
-            } => self.write_range(alloc, object, time, *start, *end, rows),
+            } => self.write_range(alloc, object, time, *start, *end, rows, false),
             Change::RecordRange { object, start, end } => {
                 self.book.record_range(object, *start, *end)
             }

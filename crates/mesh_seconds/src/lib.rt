@@ -7,4 +7,4 @@ mod laws;
 mod rows;
 
 pub use laws::seconds_are_time_values;
-pub use rows::{is_within, lies_in, rewrite, second_in};
+pub use rows::{add, are_before, is_within, lies_in, rewrite, second_in};

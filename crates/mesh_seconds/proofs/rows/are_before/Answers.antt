@@ -1,0 +1,12 @@
+use Rattle.std.proofs.Common.{◌≡◌, ◌∙◌, ap, rules, to_z, of_z, w64, FitsSigned}
+use Rattle.std.proofs.lemmas.Int.{to_z-of_z}
+use Rattle.mesh_seconds.specs.Rows.{are_by}
+use Rattle.mesh_seconds.proofs.Before.{are_by-is}
+use Rattle.mesh_seconds.proofs.rows.are_before.Goals as goal
+
+pub returns : goal.returns
+returns c =
+    let fits : FitsSigned w64 c.args.end = search rules in
+    c.are_by.ensures
+    ∙ ap (λ e. are_by c.column_at.result e c.args.rows.now) (to_z-of_z w64 c.args.end fits)
+    ∙ are_by-is c.args.columns.now c.args.time.now c.args.end c.column_at.result c.args.rows.now c.column_at.ensures
