@@ -94,7 +94,8 @@ fn make_beside(alloc: Global, house: &mut MemHouse, pen: &mut Pen, change: &Chan
 
 /// Makes a change in the house, and by its step in a copy of the world that it keeps.
 fn make_change(alloc: Global, house: &mut MemHouse, pen: &mut Pen, change: &Change) {
-    match stepped(alloc, house.world(), change) {
+    let stepped = stepped(alloc, house.world(), change);
+    match stepped {
         Ok(twin) => make_beside(alloc, house, pen, change, &twin),
         Err(Memory) => pen.lose(),
     }

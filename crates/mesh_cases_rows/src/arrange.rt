@@ -269,9 +269,10 @@ fn change_book(stage: &mut Stage, what: &Str, tables: &[Str]) -> Result<(), Trou
 }
 
 /// The view that a word names, and what it points at.
-fn view_of(stage: &Stage, word: &Str) -> Result<(Name, Name), Trouble> {
+fn view_of(stage: &mut Stage, word: &Str) -> Result<(Name, Name), Trouble> {
+    let alloc = stage.alloc;
     for view in stage.house.world().views.as_slice() {
-        let mut text = Vec::new(stage.alloc);
+        let mut text = Vec::new(alloc);
         put_name(&mut text, &view.view)?;
         if same_text(text.as_slice(), word.as_slice()) {
             return Ok(both(&view.view, &view.target)?);

@@ -79,13 +79,14 @@ fn command<R: Threads + Sync>(
     beside.command(rt, stage, words, &outcome, report)
 }
 
-fn put_world(stage: &Stage, beside: &mut Beside, report: &mut Vec<u8>) -> Result<(), Trouble> {
+fn put_world(stage: &mut Stage, beside: &mut Beside, report: &mut Vec<u8>) -> Result<(), Trouble> {
+    let alloc = stage.alloc;
     let world = stage.house.world();
-    let mut text = Vec::new(stage.alloc);
-    put_views(stage.alloc, &mut text, world)?;
+    let mut text = Vec::new(alloc);
+    put_views(alloc, &mut text, world)?;
     put(report, text.as_slice())?;
-    put_counts(stage.alloc, report, world)?;
-    beside.look(stage.alloc, world.views.as_slice(), text.as_slice(), report)
+    put_counts(alloc, report, world)?;
+    beside.look(alloc, world.views.as_slice(), text.as_slice(), report)
 }
 
 /// Runs one step, and adds what is to be printed.

@@ -231,9 +231,10 @@ pub fn cuts<R: Threads + Sync>(
     put_tally(stage.alloc, report, &turns, &tally)
 }
 
-fn views_text(stage: &Stage) -> Result<Vec<u8>, Trouble> {
-    let mut text = Vec::new(stage.alloc);
-    put_views(stage.alloc, &mut text, stage.house.world())?;
+fn views_text(stage: &mut Stage) -> Result<Vec<u8>, Trouble> {
+    let alloc = stage.alloc;
+    let mut text = Vec::new(alloc);
+    put_views(alloc, &mut text, stage.house.world())?;
     Ok(text)
 }
 

@@ -41,7 +41,7 @@ fn name(alloc: Global, schema: &[u8], model: &[u8]) -> Result<Name, Memory>
 fn look(house: &MemHouse)
     ensures { are_plain (memory_world house.now).sources ≡ true }
 {
-    let _sources = house.world().sources.as_slice();
+    let _sources = house.sources().as_slice();
 }
 
 /// Whether the warehouse or the outside failed, which they don't in memory, or memory was wanting.

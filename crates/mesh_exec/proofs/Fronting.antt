@@ -178,6 +178,6 @@ module _ (all : List Planned) where
       let left : behind ≡ cut_rows dc dp = behind_is ∙ (λ j. drop (many j) (parted j)) ∙ front_dropped (length x.runs) (part_rows_of x t) (cut_rows dc dp) runs in
       let more_rest : List Change = front_changes all (map cut_part dc) dp in
       let all_is : after ++ more_rest ≡ target =
-          ap (λ (l : List Change). l ++ more_rest) (more t own_rows) ∙ append_assoc before (part_changes all (cut_part x) t) more_rest
-          ∙ sym (λ j. before ++ front_changes all (map cut_part (cs j)) (q.1 j)) ∙ so_far in
+      ap (λ (l : List Change). l ++ more_rest) (more t own_rows) ∙ append_assoc before (part_changes all (cut_part x) t) more_rest
+      ∙ sym (λ j. before ++ front_changes all (map cut_part (cs j)) (q.1 j)) ∙ so_far in
       rw (add-one i) (left, all_is)

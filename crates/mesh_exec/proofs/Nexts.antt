@@ -355,12 +355,12 @@ module _ (all : List Planned) (works : List Work) where
     some_more next n n' a b c so_far made sum =
         let k = next.models in
         let come : done ++ take k (map part_of rest) ≡ map part_of (take (at + k) works) =
-            ap (λ (l : List Work). done ++ take k (map part_of l)) rest_is
-            ∙ ap (λ (l : List Part). done ++ l) (sym (map_take part_of k (drop at works)))
-            ∙ sym (map-append part_of (take at works) (take k (drop at works)))
-            ∙ ap (map part_of) (sym (take_plus at k works)) in
+        ap (λ (l : List Work). done ++ take k (map part_of l)) rest_is
+        ∙ ap (λ (l : List Part). done ++ l) (sym (map_take part_of k (drop at works)))
+        ∙ sym (map-append part_of (take at works) (take k (drop at works)))
+        ∙ ap (map part_of) (sym (take_plus at k works)) in
         let left : drop k (map part_of rest) ≡ map part_of (drop (at + k) works) =
-            ap (λ (l : List Work). drop k (map part_of l)) rest_is ∙ sym (map_drop part_of k (drop at works)) ∙ ap (map part_of) (sym (drop_plus at k works)) in
+        ap (λ (l : List Work). drop k (map part_of l)) rest_is ∙ sym (map_drop part_of k (drop at works)) ∙ ap (map part_of) (sym (drop_plus at k works)) in
         subst (λ (l : List Part). SoFar all ps l (map part_of (drop (at + k) works)) n' a c) come
         (subst (λ (l : List Part). SoFar all ps (done ++ take k (map part_of rest)) l n' a c) left
         (next_more all ps done (map part_of rest) next n n' a b c (at_rest n a b so_far) made sum))

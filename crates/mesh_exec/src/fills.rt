@@ -293,7 +293,12 @@ fn fill_computed<R: Threads + Sync, W: Warehouse, G: Gate>(
 }
 
 /// What fills the due parts of a view or a seed, over whatever tables.
-pub(crate) fn changes_of(alloc: Global, node: &Node, entry: &Entry, dues: &[Due]) -> Result<Changes, Memory>
+pub(crate) fn changes_of(
+    alloc: Global,
+    node: &Node,
+    entry: &Entry,
+    dues: &[Due],
+) -> Result<Changes, Memory>
     requires fit { is_fit node.now dues.now ≡ true }
     requires kind { is_computed node.now.own.kind ≡ false }
     ensures { IfOk result (λ changes. (tables : List Input) → changes ≡ fillings (model_of node.now entry.now) tables dues.now) }

@@ -58,19 +58,21 @@ fn rows_of_all<R: Threads + Sync, G: Gate>(
 }
 
 /// What fills a model, from the rows of its runs where they are computed.
-fn push_fills(
-    alloc: Global,
-    changes: &mut Changes,
-    cut: &Cut,
-    rows: &[Rows],
-) -> Result<(), Memory>
+fn push_fills(alloc: Global, changes: &mut Changes, cut: &Cut, rows: &[Rows]) -> Result<(), Memory>
     requires cut { IsCut cut.now }
     requires fit { is_fit cut.now.work.node.now cut.now.work.dues.now ≡ true }
     ensures { (tables : List Input) → rows.now ≡ part_rows_of cut.now tables → OnOk result (changes.new ≡ changes.old ++ fillings (model_of cut.now.work.node.now cut.now.work.entry.now) tables cut.now.work.dues.now) }
 {
     let work = cut.work;
     if is_computed(&work.node.own.kind) {
-        push_zipped(alloc, changes, work.node, work.entry, cut.runs.as_slice(), rows)
+        push_zipped(
+            alloc,
+            changes,
+            work.node,
+            work.entry,
+            cut.runs.as_slice(),
+            rows,
+        )
     } else {
         changes.append(changes_of(alloc, work.node, work.entry, work.dues)?)
     }

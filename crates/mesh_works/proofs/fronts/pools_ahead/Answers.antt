@@ -17,7 +17,7 @@ loop-i-preserved g c =
     let so_far = c.loop-i.invariant in
     let before = c.loop-i.made in
     elim c.if-branch.branch [
-      then-branch+in_ok-add_same b ↦
+      | then-branch+in_ok-add_same b ↦
           let after = b.add_same.new.made in
           let added = b.in_ok-add_same.ensures in
           let q = goes_some all (map part_of (take (i + 1) works)) (option_copied c.loop-i.before) (part_of x) (c.in_ok-goes_on.ensures b.if-branch.true) in
@@ -38,7 +38,7 @@ loop-i-preserved g c =
                 at_last w all (map part_of (take (i + 1) works)) x k (last_pool before) (last_pool after) is (q.2 w (map part_of (take i works)) (last_pool before) (so_far.last w told plain q.0 q.1))
                 (last_again before after any so_far.there added.pools added.numbers);
           }))
-    | else-branch+in_ok-pool+in-Some+in_ok-add_pool b ↦
+      | else-branch+in_ok-pool+in-Some+in_ok-add_pool b ↦
           let after = b.add_pool.new.made in
           let added = b.in_ok-add_pool.ensures in
           let tables = b.in-Some.pool in
