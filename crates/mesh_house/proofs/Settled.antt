@@ -1,5 +1,5 @@
 -- What is to go out of a world is taken out, or one thing more is to go.
-use Rattle.std.proofs.Common.{◌≡◌, true, List, [], refl, sym, ◌∙◌, ap}
+use Rattle.std.proofs.Common.{◌≡◌, true, List, [], sym, ◌∙◌, ap}
 use Rattle.mesh_list.specs.Keyed.{placed, without, ascends}
 use Rattle.mesh_values.specs.declared.values.Name.{Name}
 use Rattle.mesh_values.specs.Names.{name_cmp}
@@ -7,7 +7,6 @@ use Rattle.mesh_values.specs.NameOrder.{names_total, names_exact}
 use Rattle.mesh_base.specs.declared.snapshots.Ref.{Ref}
 use Rattle.mesh_base.specs.declared.snapshots.Snapshot.{Snapshot}
 use Rattle.mesh_base.specs.Keys.{ref_cmp, refs_total, refs_exact, snapshot_ref}
-use Rattle.mesh_book.specs.declared.book.Book.{Book}
 use Rattle.mesh_book.specs.declared.versions.Version.{Version}
 use Rattle.mesh_book.specs.Changes.{version_object, forget_version, delete_snapshot}
 use Rattle.mesh_house.specs.declared.gone.Gone.{Gone}
@@ -15,7 +14,7 @@ use Rattle.mesh_house.specs.declared.objects.Object.{Object}
 use Rattle.mesh_house.specs.declared.world.World.{World}
 use Rattle.mesh_house.specs.Objects.{object_name}
 use Rattle.mesh_house.specs.Outside.{itself, outside}
-use Rattle.mesh_house.specs.Gone.{nothing_gone, settled, MayGo}
+use Rattle.mesh_house.specs.Gone.{nothing_gone, settled}
 use Rattle.mesh_house.specs.Step.{with_book, drop_object}
 use Rattle.mesh_house.proofs.Thinned.{outside_none, outside_empty, one_more_out}
 
@@ -26,9 +25,6 @@ settled_nothing w =
     let snapshots = outside_none ref_cmp snapshot_ref w.book.snapshots in
     let versions = outside_none name_cmp version_object w.book.versions in
     λ i. record w { objects = objects i; book = record w.book { snapshots = snapshots i; versions = versions i } }
-
-pub may_go_nothing : (b : Book) → MayGo b nothing_gone
-may_go_nothing b = record { snapshots = refl; versions = refl }
 
 -- a version goes later
 pub version_waits : (w : World) (g : Gone) (k : Name) (keys : List Name) → keys ≡ placed name_cmp itself k g.versions → ascends name_cmp version_object w.book.versions ≡ true → settled w (record g { versions = keys }) ≡ with_book (settled w g) (forget_version (settled w g).book k)

@@ -1,5 +1,5 @@
 -- A list that ascends, without the items of some keys.
-use Rattle.std.proofs.Common.{◌≡◌, ℕ, ◌<◌, ◌≤◌, length, get_or, is_some, Bool, true, false, not, cond, ◌&&◌, List, [], ◌∷◌, Some, None, filter, is_none, refl, sym, ◌∙◌, ap, arith}
+use Rattle.std.proofs.Common.{◌≡◌, ℕ, ◌<◌, ◌≤◌, length, get_or, is_some, Bool, true, false, not, cond, ◌&&◌, List, [], ◌∷◌, Some, filter, is_none, refl, sym, ◌∙◌, ap, arith}
 use Rattle.std.specs.List.{list_all}
 use Rattle.std.specs.declared.option.Option.{Option}
 use Rattle.std.specs.declared.cmp.Ordering.{Ordering}

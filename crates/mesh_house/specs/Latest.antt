@@ -3,7 +3,6 @@ use Rattle.std.specs.Prelude.{ℕ, ℤ, Bool, true, false, List, Some, None, if�
 use Rattle.std.specs.declared.option.Option.{Option}
 use Rattle.mesh_values.specs.declared.values.Cell.{Cell}
 use Rattle.mesh_values.specs.declared.values.Column.{Column}
-use Rattle.mesh_values.specs.declared.values.Name.{Name}
 use Rattle.mesh_seconds.specs.Rows.{are_before}
 use Rattle.mesh_house.specs.declared.latest.Latest.{Latest}
 use Rattle.mesh_house.specs.declared.objects.Body.{Body}

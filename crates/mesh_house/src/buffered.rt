@@ -5,7 +5,7 @@ ghost use Rattle.mesh_house.specs.World.{head, body, book};
 ghost use Rattle.mesh_house.specs.Step.{drop_object, step, with_book, write_range};
 
 use crate::gone::Gone;
-use crate::latest::{Latest, settle_known as settle, step, write};
+use crate::latest::{Latest, settle_known, step, write};
 use crate::objects::Body;
 use crate::outside::may_wait;
 use crate::sources::SourceTables;
@@ -64,11 +64,11 @@ impl Buffered {
     }
 
     /// The world as it stands, where nothing is left to go.
-    #[tactic(auto, using(crate::proofs::Settled::settled_nothing, crate::proofs::Settled::may_go_nothing))]
+    #[tactic(auto, using(crate::proofs::Settled::settled_nothing))]
     pub fn look(&mut self) -> &World
         ensures { result.now ≡ self.old }
     {
-        settle(&mut self.world, &mut self.gone, &mut self.latest);
+        settle_known(&mut self.world, &mut self.gone, &mut self.latest);
         &self.world
     }
 
@@ -84,30 +84,30 @@ impl Buffered {
         &self.world.views
     }
 
-    #[tactic(auto, using(crate::proofs::Settled::settled_nothing, crate::proofs::Settled::may_go_nothing))]
+    #[tactic(auto, using(crate::proofs::Settled::settled_nothing))]
     pub fn head(&mut self, name: &Name) -> Result<Option<Columns>, Memory>
         ensures value { IfOk result (λ columns. columns ≡ head self.old name.now) }
         ensures same { self.new ≡ self.old }
     {
-        settle(&mut self.world, &mut self.gone, &mut self.latest);
+        settle_known(&mut self.world, &mut self.gone, &mut self.latest);
         self.world.head(name)
     }
 
-    #[tactic(auto, using(crate::proofs::Settled::settled_nothing, crate::proofs::Settled::may_go_nothing))]
+    #[tactic(auto, using(crate::proofs::Settled::settled_nothing))]
     pub fn body(&mut self, name: &Name) -> Result<Option<Body>, Memory>
         ensures value { IfOk result (λ kept. kept ≡ body self.old name.now) }
         ensures same { self.new ≡ self.old }
     {
-        settle(&mut self.world, &mut self.gone, &mut self.latest);
+        settle_known(&mut self.world, &mut self.gone, &mut self.latest);
         self.world.body(name)
     }
 
-    #[tactic(auto, using(crate::proofs::Settled::settled_nothing, crate::proofs::Settled::may_go_nothing))]
+    #[tactic(auto, using(crate::proofs::Settled::settled_nothing))]
     pub fn book(&mut self) -> Result<Book, Memory>
         ensures value { IfOk result (λ made. made ≡ book self.old) }
         ensures same { self.new ≡ self.old }
     {
-        settle(&mut self.world, &mut self.gone, &mut self.latest);
+        settle_known(&mut self.world, &mut self.gone, &mut self.latest);
         self.world.book.copy()
     }
 
@@ -151,7 +151,7 @@ impl Buffered {
     }
 
     // Writes a table's rows of these seconds. At `Err` nothing has changed.
-    #[tactic(auto, using(crate::proofs::Settled::settled_nothing, crate::proofs::Settled::may_go_nothing))]
+    #[tactic(auto, using(crate::proofs::Settled::settled_nothing))]
     fn write_range(
         &mut self,
         alloc: Global,
@@ -164,7 +164,7 @@ impl Buffered {
         ensures ok { OnOk result (self.new ≡ write_range self.old object.now time.now start end rows.now) }
         ensures err { OnErr result (self.new ≡ self.old) }
     {
-        settle(&mut self.world, &mut self.gone, &mut self.latest);
+        settle_known(&mut self.world, &mut self.gone, &mut self.latest);
         write(
             &mut self.world,
             &mut self.latest,
@@ -178,12 +178,12 @@ impl Buffered {
     }
 
     // Makes the change where nothing is left to go. At `Err` nothing has changed.
-    #[tactic(auto, using(crate::proofs::Settled::settled_nothing, crate::proofs::Settled::may_go_nothing))]
+    #[tactic(auto, using(crate::proofs::Settled::settled_nothing))]
     fn settled_step(&mut self, alloc: Global, change: &Change) -> Result<(), Memory>
         ensures ok { OnOk result (self.new ≡ step self.old change.now) }
         ensures err { OnErr result (self.new ≡ self.old) }
     {
-        settle(&mut self.world, &mut self.gone, &mut self.latest);
+        settle_known(&mut self.world, &mut self.gone, &mut self.latest);
         step(&mut self.world, &mut self.latest, alloc, change)
     }
 

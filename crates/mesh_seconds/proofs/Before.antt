@@ -1,5 +1,5 @@
 -- A row's second by the place of its column, and rows whose seconds are all before a range.
-use Rattle.std.proofs.Common.{◌≡◌, ℕ, zero, suc, ℤ, Bool, true, false, cond, not, ◌&&◌, List, [], ◌∷◌, ◌++◌, filter, Some, None, slice_get, refl, sym, ◌∙◌, ap, arith}
+use Rattle.std.proofs.Common.{◌≡◌, ℕ, suc, ℤ, Bool, true, false, cond, not, ◌&&◌, List, [], ◌∷◌, ◌++◌, filter, Some, None, refl, sym, ◌∙◌, ap, arith}
 use Rattle.std.specs.List.{list_all}
 use Rattle.std.specs.Option.{option_map}
 use Rattle.std.specs.declared.option.Option.{Option}
@@ -7,13 +7,12 @@ use Rattle.std.specs.Int.Signed.{le_z, lt_z}
 use Rattle.std.proofs.lemmas.Int.{ints}
 use Rattle.std.proofs.lemmas.List.Folds.{list_all-append}
 use Rattle.mesh_list.proofs.Ascends.{and_left, and_right, and_both}
-use Rattle.mesh_values.specs.declared.times.Bounds.{Bounds}
 use Rattle.mesh_values.specs.declared.values.Cell.{Cell}
 use Rattle.mesh_values.specs.declared.values.Cell.TheVariants.{Null}
 use Rattle.mesh_values.specs.declared.values.Column.{Column}
 use Rattle.mesh_values.specs.Picked.{same_text, cell_of}
 use Rattle.mesh_seconds.specs.Times.{time_of, is_within}
-use Rattle.mesh_seconds.specs.Rows.{or_null, lies_within, rewritten, column_at, cell_at, is_before, are_by, are_before}
+use Rattle.mesh_seconds.specs.Rows.{lies_within, rewritten, column_at, cell_at, is_before, are_by, are_before}
 
 -- a cell at the place of its column is that of the column
 at_nothing : (o : Option ℕ) → cell_at o [] ≡ Null

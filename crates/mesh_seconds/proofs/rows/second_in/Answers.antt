@@ -1,4 +1,4 @@
-use Rattle.std.proofs.Common.{sym, ap, ◌∙◌}
+use Rattle.std.proofs.Common.{ap, ◌∙◌}
 use Rattle.mesh_seconds.specs.Times.{time_of}
 use Rattle.mesh_seconds.specs.Rows.{cell_at}
 use Rattle.mesh_seconds.proofs.Before.{cell_at-is}
