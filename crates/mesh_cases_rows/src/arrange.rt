@@ -360,7 +360,7 @@ fn arrange_one(stage: &mut Stage, kind: &Str, word: &Str) -> Result<(), Trouble>
     if is(kind, b"delete") {
         stage.folder.delete(word);
         Ok(())
-    } else if is(kind, b"kept") {
+    } else if is(kind, b"kept") || is(kind, b"records") {
         Ok(())
     } else if is(kind, b"clock") {
         set_clock(stage, word)

@@ -4,7 +4,7 @@ use crate::report::{Outcome, put, put_each, put_outcome};
 use crate::stage::Stage;
 use crate::trouble::Trouble;
 use mesh_house::{Fail, Fails, ViewOf, Warehouse};
-use mesh_keep::MapKeeper;
+use mesh_keep::{KeepFail, Keeper, MapKeeper, Record, Records};
 use mesh_kept::{KeepFault, KeptHouse};
 use mesh_list::Seq;
 use mesh_sqlite::{SqliteFault, SqliteHouse, house_over};
@@ -38,12 +38,14 @@ impl Tally {
     }
 }
 
-/// The two warehouses, whether the example is run over each, and what was.
+/// The two warehouses, whether the example is run over each, the kind of the records that are printed at the end, and what
+/// was run.
 pub struct Beside {
     mapped: KeptHouse<MapKeeper>,
     stored: SqliteHouse<MemStore>,
     is_mapped: bool,
     is_stored: bool,
+    printed: Option<u64>,
     tally: Tally,
 }
 
@@ -111,10 +113,10 @@ fn first_word(line: &[u8]) -> &[u8] {
     }
 }
 
-/// The number of the write that is to fail over records in a map, where a step says one.
-fn failing_write(script: &[u8]) -> Result<Option<u64>, Trouble> {
+/// The number that a step says, where there is one that begins so.
+fn said_number(script: &[u8], front: &[u8]) -> Result<Option<u64>, Trouble> {
     for line in script.split(|byte| *byte == b'\n') {
-        if let Some(number) = line.strip_prefix(b"kept ") {
+        if let Some(number) = line.strip_prefix(front) {
             return Ok(Some(number_of(number)?));
         }
     }
@@ -164,6 +166,43 @@ fn put_look<W: Warehouse>(
     put(report, shown.as_slice())
 }
 
+fn put_record(report: &mut Vec<u8>, record: &Record) -> Result<(), Trouble> {
+    put(report, record.name.as_slice())?;
+    put(report, b" ")?;
+    put(report, record.body.as_slice())?;
+    put(report, b"\n")
+}
+
+fn records_in(
+    alloc: Global,
+    keeper: &mut MapKeeper,
+    kind: u64,
+) -> Result<Records, Trouble> {
+    let Ok(kind) = u32::try_from(kind) else {
+        return Err(Trouble::Script);
+    };
+    match keeper.all(alloc, kind) {
+        Ok(records) => Ok(records),
+        Err(KeepFail::Failed) => Err(Trouble::Outside),
+        Err(KeepFail::Memory) => Err(Trouble::Memory),
+    }
+}
+
+/// Adds the records of a kind that the map has, each its name and its body.
+fn put_records(
+    alloc: Global,
+    report: &mut Vec<u8>,
+    keeper: &mut MapKeeper,
+    kind: u64,
+) -> Result<(), Trouble> {
+    let records = records_in(alloc, keeper, kind)?;
+    put(report, b"records in the map:\n")?;
+    for record in records.as_slice() {
+        put_record(report, record)?;
+    }
+    Ok(())
+}
+
 const MAPPED: &[u8] = b"over records in a map:\n";
 
 const STORED: &[u8] = b"over SQLite:\n";
@@ -172,7 +211,8 @@ impl Beside {
     /// Two empty warehouses for an example with this script.
     pub fn new(alloc: Global, script: &[u8]) -> Result<Beside, Trouble> {
         let is_plain = is_plain(script);
-        let write = failing_write(script)?;
+        let write = said_number(script, b"kept ")?;
+        let printed = said_number(script, b"records ")?;
         let mapped = mapped(alloc, write)?;
         match stored(alloc) {
             Ok(stored) => Ok(Beside {
@@ -180,6 +220,7 @@ impl Beside {
                 stored,
                 is_mapped: is_plain || write.is_some(),
                 is_stored: is_plain,
+                printed,
                 tally: Tally::new(),
             }),
             Err(trouble) => {
@@ -229,17 +270,21 @@ impl Beside {
         Ok(())
     }
 
-    /// How much was run over both, which ends them.
-    pub fn close(self) -> Tally {
+    /// How much was run over both, which ends them. The records that are to be printed then are added.
+    pub fn close(self, alloc: Global, report: &mut Vec<u8>) -> Result<Tally, Trouble> {
         let Beside {
             mapped,
             stored,
             is_mapped: _,
             is_stored: _,
+            printed,
             tally,
         } = self;
-        drop(mapped.into_keeper());
         close(stored);
-        tally
+        let mut keeper = mapped.into_keeper();
+        if let Some(kind) = printed {
+            put_records(alloc, report, &mut keeper, kind)?;
+        }
+        Ok(tally)
     }
 }

@@ -34,7 +34,8 @@
 //! is shown, over one of them and isn't the same is printed behind it. At the end it is printed how many commands were run over
 //! each of the two, and how often views were shown. A step `kept N` has the write N of the records in the map fail before its
 //! effect, counted from 0 over the whole example, the first of which makes the book; such an example is run over the map,
-//! whatever fails besides.
+//! whatever fails besides. A step `records KIND` has the records of that kind printed that the map has at the end, each its name
+//! and its body.
 #![tactic(auto)]
 
 mod arrange;
@@ -187,8 +188,10 @@ fn play_beside<R: Threads + Sync>(
 ) -> Result<(), Trouble> {
     let mut beside = Beside::new(stage.alloc, script.as_slice())?;
     let done = play(rt, stage, &mut beside, script, report);
-    tally.add(beside.close());
-    done
+    let ended = beside.close(stage.alloc, report);
+    done?;
+    tally.add(ended?);
+    Ok(())
 }
 
 /// Plays an example.
