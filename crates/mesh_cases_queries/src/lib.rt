@@ -31,7 +31,6 @@
 
 mod asked;
 mod cut;
-mod gates;
 mod jobs;
 mod shown;
 mod stage;

@@ -3,10 +3,10 @@ ghost use Rattle.std.specs.Prelude.{◌≤◌, ◌<◌, length, IsTrue};
 ghost use Rattle.std.specs.List.{All};
 ghost use Rattle.mesh_base.specs.declared.jobs.Job.{Job};
 
-use crate::gates::Holding;
 use crate::jobs::{jobs, pools, query};
 use mesh_base::{Jobs, Pools, Query};
 use mesh_cases::{Trouble, put_count};
+use mesh_cases_gates::Holding;
 use mesh_values::{Cell, RowsList};
 use mesh_wave::{Gate, OpenGate, wave};
 use std::alloc::Global;

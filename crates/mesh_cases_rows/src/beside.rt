@@ -173,11 +173,7 @@ fn put_record(report: &mut Vec<u8>, record: &Record) -> Result<(), Trouble> {
     put(report, b"\n")
 }
 
-fn records_in(
-    alloc: Global,
-    keeper: &mut MapKeeper,
-    kind: u64,
-) -> Result<Records, Trouble> {
+fn records_in(alloc: Global, keeper: &mut MapKeeper, kind: u64) -> Result<Records, Trouble> {
     let Ok(kind) = u32::try_from(kind) else {
         return Err(Trouble::Script);
     };

@@ -27,7 +27,10 @@
 //!   end as with the whole file, and prints the others;
 //! - `stops CALL WORD..` runs a command, and then again from the world before with each call of that kind failing in turn,
 //!   each time followed by the whole command, and prints both statuses, whether the views show the same, and the second text;
-//!   at the end the world is as it was.
+//!   at the end the world is as it was;
+//! - `held MOMENT` makes the plan for production, but for its views, by two workers and with a gate that holds the first unit of
+//!   a wave until the second one has entered, for some turns at most, and prints how many units and changes there were, and
+//!   whether it was held too long; `counted MOMENT` does so with a gate that counts, and prints how often it was entered.
 //!
 //! An example whose warehouse has no other world than its commands make, and of which no call fails, is run over two further
 //! warehouses side by side, records in a map and SQLite in memory, but for one with a step `alone`: what comes of a command, or
@@ -40,6 +43,7 @@
 
 mod arrange;
 mod beside;
+mod gated;
 mod report;
 mod stage;
 mod trouble;
@@ -47,6 +51,7 @@ mod turns;
 
 use crate::arrange::{arrange, is};
 use crate::beside::{Beside, Tally};
+use crate::gated::{put_counted, put_held};
 use crate::report::{put, put_counts, put_outcome, put_targets, put_views};
 use crate::stage::Stage;
 use crate::trouble::Trouble;
@@ -105,6 +110,8 @@ fn perform<R: Threads + Sync>(
         _ if is(first, b"mesh") => command(rt, stage, beside, rest, report),
         [] if is(first, b"show") => put_world(stage, beside, report),
         [] if is(first, b"targets") => put_targets(report, stage.house.world()),
+        [moment] if is(first, b"held") => put_held(rt, stage, moment, report),
+        [moment] if is(first, b"counted") => put_counted(rt, stage, moment, report),
         [path, command @ ..] if is(first, b"cuts") => cuts(rt, stage, path, command, report),
         [kind, command @ ..] if is(first, b"stops") => stops(rt, stage, kind, command, report),
         _ => arrange(stage, first, rest),

@@ -1,4 +1,4 @@
-// A gate that holds a unit.
+// Gates that hold a unit, or count them.
 use mesh_wave::Gate;
 use std::sync::atomic::{AtomicU64, Ordering};
 
@@ -42,5 +42,30 @@ impl Gate for Holding {
         } else if unit == 1 {
             self.second.store(1, Ordering::SeqCst);
         }
+    }
+}
+
+/// Counts the units that enter.
+#[derive(Drop)]
+pub struct Counting {
+    entered: AtomicU64,
+}
+
+impl Counting {
+    pub fn new() -> Counting {
+        Counting {
+            entered: AtomicU64::new(0),
+        }
+    }
+
+    /// How many units entered so far.
+    pub fn entered(&self) -> u64 {
+        self.entered.load(Ordering::SeqCst)
+    }
+}
+
+impl Gate for Counting {
+    fn enter(&self, _unit: u32) {
+        self.entered.fetch_add(1, Ordering::SeqCst);
     }
 }

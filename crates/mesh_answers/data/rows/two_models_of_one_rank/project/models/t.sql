@@ -1,0 +1,1 @@
+MODEL (name a.t, kind SEED (path '../seeds/t.csv'), columns (x INT));

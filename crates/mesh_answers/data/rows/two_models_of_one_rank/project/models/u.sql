@@ -1,0 +1,2 @@
+MODEL (name a.u, kind FULL);
+SELECT x FROM a.t

@@ -1,0 +1,2 @@
+MODEL (name a.v, kind FULL);
+SELECT x FROM a.t
