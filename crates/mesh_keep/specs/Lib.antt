@@ -6,3 +6,5 @@ pub mod Keeping
 pub mod MapKeeper
 -- Holds: when records hold a world.
 pub mod Holds
+-- Said: the world that records say.
+pub mod Said

@@ -6,6 +6,7 @@ use Rattle.mesh_house.specs.declared.fails.Fail.{Fail}
 use Rattle.mesh_house.specs.Fails.{change_fails, raised, read_fails}
 use Rattle.mesh_keep.specs.declared.keeper.KeepFail.{KeepFail}
 use Rattle.mesh_keep.specs.declared.keeper.KeepFail.TheVariants.{Failed}
+use Rattle.mesh_keep.specs.declared.kept.Kept.{Kept}
 use Rattle.mesh_keep.specs.declared.kept.Write.{Write}
 use Rattle.mesh_keep.specs.declared.maps.MapKeeper.{MapKeeper}
 use Rattle.mesh_keep.specs.Keeping.{KeeperTold}
@@ -14,6 +15,10 @@ use Rattle.mesh_keep.specs.Places.{written}
 -- what it tells, which is everything
 abbrev pub map_told : MapKeeper → KeeperTold
 map_told m = record { records = Some m.kept; faults = m.faults }
+
+-- its records
+abbrev pub map_kept : MapKeeper → List Kept
+map_kept m = m.kept
 
 -- the calls that are to fail
 abbrev pub map_fails : MapKeeper → List Fail

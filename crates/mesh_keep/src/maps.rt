@@ -1,8 +1,9 @@
 // A keeper in memory, which tells everything and whose calls fail by a list.
-ghost use Rattle.std.specs.Prelude.{◌≡◌, []};
+ghost use Rattle.std.specs.Prelude.{◌≡◌, true, []};
+ghost use Rattle.mesh_list.specs.Keyed.{ascends};
 ghost use Rattle.mesh_keep.specs.Keeping.{Looks, Writing};
-ghost use Rattle.mesh_keep.specs.MapKeeper.{LooksAsListed, WritesAsListed, map_fails, map_told, next_look, next_write};
-ghost use Rattle.mesh_keep.specs.Places.{body_at, records_of};
+ghost use Rattle.mesh_keep.specs.MapKeeper.{LooksAsListed, WritesAsListed, map_fails, map_kept, map_told, next_look, next_write};
+ghost use Rattle.mesh_keep.specs.Places.{body_at, kept_place, place_cmp, records_of};
 
 use crate::fails::{look_fails, write_fails};
 use crate::keeper::{KeepFail, Keeper};
@@ -50,11 +51,19 @@ impl MapKeeper {
         }
     }
 
+    // The records lie in order.
+    fn tell_order(&self)
+        ensures { ascends place_cmp kept_place (map_kept self.now) ≡ true }
+    {
+        let _records = self.kept.as_slice();
+    }
+
     // Counts a call that only reads, and fails where it is listed.
     fn looking(&mut self) -> Result<(), KeepFail>
         ensures told { Looks (λ _. record {}) (map_told self.old) (map_told self.new) result }
         ensures listed { LooksAsListed self.old self.new result }
     {
+        self.tell_order();
         let number = self.next_look;
         self.next_look = number.saturating_add(1);
         if look_fails(self.fails.as_slice(), number) {
@@ -95,6 +104,7 @@ impl Keeper for MapKeeper {
         ensures told { Writing writes.now (map_told self.old) (map_told self.new) result }
         ensures listed { WritesAsListed writes.now self.old self.new result }
     {
+        self.tell_order();
         let number = self.next_write;
         self.next_write = number.saturating_add(1);
         match write_fails(self.fails.as_slice(), number) {

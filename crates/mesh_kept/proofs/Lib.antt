@@ -1,1 +1,3 @@
--- none
+pub mod Empty
+pub mod Followed
+pub mod Told

@@ -1,39 +1,44 @@
 // A warehouse over a keeper.
-ghost use Rattle.std.specs.Prelude.{◌≡◌};
+ghost use Rattle.std.specs.Prelude.{◌≡◌, ◌≤◌, IfErr, IfOk};
 ghost use Rattle.mesh_house.specs.World.{head, body, view, book};
 ghost use Rattle.mesh_house.specs.House.{Changes, Reads};
-ghost use Rattle.mesh_kept.specs.Counts.{counted};
+ghost use Rattle.mesh_kept.specs.Held.{IsHeld, IsHeld-prop};
+ghost use Rattle.mesh_kept.specs.Kept.{Steps};
+ghost use Rattle.mesh_kept.specs.Refused.{RefusedAs};
 
+use crate::fault::KeepFault;
+use crate::reading::view_of;
+use crate::writing::written;
 use mesh_book::Book;
-use mesh_house::{Body, Change, Warehouse, WhFail};
+use mesh_house::{Body, Change, Warehouse, WhFail, World};
 use mesh_keep::{KeepFail, Keeper};
 use mesh_list::Duplicate;
-use mesh_stored::{Held, LoadFail, begin};
+use mesh_stored::{LoadFail, begin, load};
 use mesh_values::{Columns, Name};
 use std::alloc::Global;
 
-/// A keeper that can't be a warehouse: it failed, or there was not enough memory.
-pub enum KeepFault<K> {
-    Failed(K),
-    Memory(K),
-}
-
-/// The world that a keeper's records say, and the keeper.
+/// The world that a keeper's records say, which is absent until it is read, and the keeper.
 pub struct KeptHouse<K: Keeper> {
     keeper: K,
-    held: Held,
+    world: Option<World>,
     calls: u64,
     unread: u64,
+    ghost held: { IsHeld world (K.told keeper).records } by { IsHeld-prop world (K.told keeper).records },
 }
 
 impl<K: Keeper> KeptHouse<K> {
+    ghost use Rattle.mesh_kept.specs.House.{OnlyKeeperFails, Starts, house_told, keeper_of};
+
     /// The warehouse that a keeper's records say. Where there is no record of the moment, that of an empty book is put.
-    pub fn new(alloc: Global, keeper: K) -> Result<KeptHouse<K>, KeepFault<K>> {
+    pub fn new(alloc: Global, keeper: K) -> Result<KeptHouse<K>, KeepFault<K>>
+        ensures starts { IfOk result (λ house. Starts K.told keeper house) }
+        ensures refused { IfErr result (λ fault. RefusedAs K.told keeper fault) }
+    {
         let mut keeper = keeper;
         match begin(alloc, &mut keeper) {
             Ok(()) => Ok(KeptHouse {
                 keeper,
-                held: Held::new(),
+                world: None,
                 calls: 0,
                 unread: 0,
             }),
@@ -43,23 +48,34 @@ impl<K: Keeper> KeptHouse<K> {
     }
 
     /// The keeper, which ends the warehouse.
-    pub fn into_keeper(self) -> K {
+    pub fn into_keeper(self) -> K
+        ensures { result ≡ keeper_of self }
+    {
         let KeptHouse {
             keeper,
-            held,
+            world,
             calls: _,
             unread: _,
         } = self;
-        held.close();
+        drop(world);
         keeper
     }
 
     // Reads the world where it is absent.
     fn ready(&mut self, alloc: Global) -> Result<(), WhFail>
-        ensures { Reads (λ _. record {}) (counted (K.told self.old.keeper) self.old.calls self.old.unread) (counted (K.told self.new.keeper) self.new.calls self.new.unread) result }
+        ensures told { Reads (λ _. record {}) (house_told K.told self.old) (house_told K.told self.new) result }
+        ensures records { (K.told self.new.keeper).records ≡ (K.told self.old.keeper).records }
+        ensures faults { (K.told self.old.keeper).faults ≤ (K.told self.new.keeper).faults }
+        ensures only { OnlyKeeperFails K.told self.old self.new result }
     {
-        match self.held.ready(alloc, &mut self.keeper) {
-            Ok(()) => Ok(()),
+        if self.world.is_some() {
+            return Ok(());
+        }
+        match load(alloc, &mut self.keeper) {
+            Ok(world) => {
+                drop(std::mem::replace(&mut self.world, Some(world)));
+                Ok(())
+            }
             Err(LoadFail::Failed) => Err(WhFail::Failed),
             Err(LoadFail::Memory) => Err(WhFail::Memory),
             Err(LoadFail::Unread) => {
@@ -68,47 +84,81 @@ impl<K: Keeper> KeptHouse<K> {
             }
         }
     }
+
+    // Makes a change in memory, and then by one write. Where that is refused, the world is absent until it is read anew.
+    fn make(&mut self, alloc: Global, change: &Change) -> Result<(), WhFail>
+        ensures steps { Steps change.now (K.told self.old.keeper) (K.told self.new.keeper) result }
+        ensures counts { (self.new.calls ≡ self.old.calls) × (self.new.unread ≡ self.old.unread) }
+    {
+        let Some(mut world) = std::mem::replace(&mut self.world, None) else {
+            return Err(WhFail::Memory);
+        };
+        match written(alloc, &mut self.keeper, &mut world, change) {
+            Ok(()) => {
+                drop(std::mem::replace(&mut self.world, Some(world)));
+                Ok(())
+            }
+            Err(fail) => {
+                drop(world);
+                Err(fail)
+            }
+        }
+    }
 }
 
 impl<K: Keeper> Warehouse for KeptHouse<K> {
-    ghost told = { λ h. counted (K.told h.keeper) h.calls h.unread };
+    ghost use Rattle.mesh_kept.specs.House.{OnlyKeeperFails, house_told};
 
-    fn change(&mut self, alloc: Global, change: &Change) -> Result<(), WhFail> {
+    ghost told = { house_told K.told };
+
+    fn change(&mut self, alloc: Global, change: &Change) -> Result<(), WhFail>
+        ensures told { Changes change.now (house_told K.told self.old) (house_told K.told self.new) result }
+        ensures only { OnlyKeeperFails K.told self.old self.new result }
+    {
         self.calls = self.calls.saturating_add(1);
         self.ready(alloc)?;
-        self.held.make(alloc, &mut self.keeper, change)
+        self.make(alloc, change)
     }
 
-    fn head(&mut self, alloc: Global, name: &Name) -> Result<Option<Columns>, WhFail> {
+    fn head(&mut self, alloc: Global, name: &Name) -> Result<Option<Columns>, WhFail>
+        ensures told { Reads (λ w. head w name.now) (house_told K.told self.old) (house_told K.told self.new) result }
+        ensures only { OnlyKeeperFails K.told self.old self.new result }
+    {
         self.ready(alloc)?;
-        match self.held.world() {
+        match &self.world {
             Some(world) => Ok(world.head(name)?),
             None => Err(WhFail::Memory),
         }
     }
 
-    fn body(&mut self, alloc: Global, name: &Name) -> Result<Option<Body>, WhFail> {
+    fn body(&mut self, alloc: Global, name: &Name) -> Result<Option<Body>, WhFail>
+        ensures told { Reads (λ w. body w name.now) (house_told K.told self.old) (house_told K.told self.new) result }
+        ensures only { OnlyKeeperFails K.told self.old self.new result }
+    {
         self.ready(alloc)?;
-        match self.held.world() {
+        match &self.world {
             Some(world) => Ok(world.body(name)?),
             None => Err(WhFail::Memory),
         }
     }
 
-    fn view(&mut self, alloc: Global, name: &Name) -> Result<Option<Name>, WhFail> {
+    fn view(&mut self, alloc: Global, name: &Name) -> Result<Option<Name>, WhFail>
+        ensures told { Reads (λ w. view w name.now) (house_told K.told self.old) (house_told K.told self.new) result }
+        ensures only { OnlyKeeperFails K.told self.old self.new result }
+    {
         self.ready(alloc)?;
-        let Some(world) = self.held.world() else {
-            return Err(WhFail::Memory);
-        };
-        match world.views.find(name) {
-            Some(view) => Ok(Some(view.target.copy()?)),
-            None => Ok(None),
+        match &self.world {
+            Some(world) => Ok(view_of(world, name)?),
+            None => Err(WhFail::Memory),
         }
     }
 
-    fn book(&mut self, alloc: Global) -> Result<Book, WhFail> {
+    fn book(&mut self, alloc: Global) -> Result<Book, WhFail>
+        ensures told { Reads book (house_told K.told self.old) (house_told K.told self.new) result }
+        ensures only { OnlyKeeperFails K.told self.old self.new result }
+    {
         self.ready(alloc)?;
-        match self.held.world() {
+        match &self.world {
             Some(world) => Ok(world.book.copy()?),
             None => Err(WhFail::Memory),
         }

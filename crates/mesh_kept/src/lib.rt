@@ -1,10 +1,17 @@
 //! A warehouse over the records of a keeper. It holds the world that the records say in memory: it reads all records once,
 //! at its first call, and makes each change in memory and then by one write of the records that the change is about; after
-//! a refusal the records are read anew. Its contract: it is a warehouse that tells no world, so what is proved of it is
-//! what is counted: each call for a change, and a fault wherever a call failed. It stands on `mesh_stored`, which reads and
-//! writes a world's records, and on `mesh_house` and `mesh_keep`.
+//! a refusal the records are read anew. Its contract: where the keeper tells its records, and these are those of a world,
+//! it tells that world, and is a warehouse of it; and where it tells a world, a call fails only where the keeper fails. It
+//! stands on `mesh_list`, `mesh_values`, `mesh_book`, `mesh_house`, `mesh_record_text`, `mesh_record_reading`, `mesh_keep`,
+//! `mesh_stored`, which reads a world's records, and `mesh_touched`, which writes them.
 #![tactic(auto)]
 
+mod fault;
 mod house;
+mod laws;
+mod reading;
+mod writing;
 
-pub use house::{KeepFault, KeptHouse};
+pub use fault::KeepFault;
+pub use house::KeptHouse;
+pub use laws::empty_records_begin_with_the_empty_world;

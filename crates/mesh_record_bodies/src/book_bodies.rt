@@ -1,27 +1,33 @@
 // The bodies of the records of a book.
-ghost use Rattle.std.specs.Prelude.{◌≡◌, IfOk};
+ghost use Rattle.std.specs.Prelude.{◌≡◌, true, IfOk};
 ghost use Rattle.mesh_canon_text.specs.Text.{own_text};
-ghost use Rattle.mesh_record_text.specs.Records.{env_text, head_text, snapshot_text, version_text};
+ghost use Rattle.mesh_record_text.specs.Records.{env_fits, env_text, head_fits, head_text, snapshot_fits, snapshot_text, version_fits, version_text};
 
 use mesh_base::{Env, Snapshot};
 use mesh_book::Version;
 use mesh_canon_text::{list_text, own_text};
 use mesh_list::{Memory, Seq};
-use mesh_record_text::{BookHead, add, add_both, write_as_list};
+use mesh_record_text::{
+    BookHead, add, add_both, env_rule, head_rule, snapshot_rule, version_rule, write_as_list,
+};
 use mesh_values::Str;
 use std::alloc::Global;
 
 /// The body of the record of what a book has besides its lists.
 pub fn head_body(alloc: Global, head: &BookHead) -> Result<Str, Memory>
-    ensures { IfOk result (λ text. text ≡ head_text head.now) }
+    ensures written { IfOk result (λ text. text ≡ head_text head.now) }
+    ensures fits { head_fits head.now ≡ true }
 {
+    head_rule(head);
     write_as_list(alloc, head)
 }
 
 /// The body of a snapshot's record, with the canonical text of its definition.
 pub fn snapshot_body(alloc: Global, snapshot: &Snapshot) -> Result<Str, Memory>
-    ensures { IfOk result (λ text. text ≡ snapshot_text (own_text snapshot.now.own) snapshot.now) }
+    ensures written { IfOk result (λ text. text ≡ snapshot_text (own_text snapshot.now.own) snapshot.now) }
+    ensures fits { snapshot_fits snapshot.now ≡ true }
 {
+    snapshot_rule(snapshot);
     let own = own_text(alloc, &snapshot.own)?;
     let mut parts = Seq::new(alloc);
     add_both(&mut parts, &snapshot.name, &snapshot.fingerprint)?;
@@ -33,8 +39,10 @@ pub fn snapshot_body(alloc: Global, snapshot: &Snapshot) -> Result<Str, Memory>
 
 /// The body of a version's record.
 pub fn version_body(alloc: Global, version: &Version) -> Result<Str, Memory>
-    ensures { IfOk result (λ text. text ≡ version_text version.now) }
+    ensures written { IfOk result (λ text. text ≡ version_text version.now) }
+    ensures fits { version_fits version.now ≡ true }
 {
+    version_rule(version);
     let mut parts = Seq::new(alloc);
     add_both(&mut parts, &version.object, &version.made)?;
     add_both(&mut parts, &version.ranges, &version.marks)?;
@@ -43,8 +51,10 @@ pub fn version_body(alloc: Global, version: &Version) -> Result<Str, Memory>
 
 /// The body of an environment's record.
 pub fn env_body(alloc: Global, env: &Env) -> Result<Str, Memory>
-    ensures { IfOk result (λ text. text ≡ env_text env.now) }
+    ensures written { IfOk result (λ text. text ≡ env_text env.now) }
+    ensures fits { env_fits env.now ≡ true }
 {
+    env_rule(env);
     let mut parts = Seq::new(alloc);
     add_both(&mut parts, &env.name, &env.pending)?;
     add_both(&mut parts, &env.list, &env.previous)?;

@@ -1,13 +1,13 @@
 // The bodies of the records of views, objects and sources.
-ghost use Rattle.std.specs.Prelude.{◌≡◌, IfOk};
+ghost use Rattle.std.specs.Prelude.{◌≡◌, true, IfOk};
 ghost use Rattle.mesh_canon_text.specs.Text.{list_text};
-ghost use Rattle.mesh_record_text.specs.Records.{body_parts, object_text, source_text, stored_text, view_text};
+ghost use Rattle.mesh_record_text.specs.Records.{body_parts, object_fits, object_text, source_fits, source_text, stored_text, view_text};
 
 use mesh_base::Input;
 use mesh_canon_text::{list_text, own_text};
 use mesh_house::{Body, Object, ViewOf};
 use mesh_list::{Memory, Seq};
-use mesh_record_text::{add, add_both, bytes_text};
+use mesh_record_text::{add, add_both, bytes_text, object_rule, source_rule};
 use mesh_values::Str;
 use std::alloc::Global;
 
@@ -42,8 +42,10 @@ fn kept_text(alloc: Global, body: &Body) -> Result<Str, Memory>
 
 /// The body of an object's record, with the canonical text of its definition where it stores one.
 pub fn object_body(alloc: Global, object: &Object) -> Result<Str, Memory>
-    ensures { IfOk result (λ text. text ≡ object_text (stored_text object.now.body) object.now) }
+    ensures written { IfOk result (λ text. text ≡ object_text (stored_text object.now.body) object.now) }
+    ensures fits { object_fits object.now ≡ true }
 {
+    object_rule(object);
     let kept = kept_text(alloc, &object.body)?;
     let mut parts = Seq::new(alloc);
     add_both(&mut parts, &object.name, &object.columns)?;
@@ -53,8 +55,10 @@ pub fn object_body(alloc: Global, object: &Object) -> Result<Str, Memory>
 
 /// The body of a source's record.
 pub fn source_body(alloc: Global, source: &Input) -> Result<Str, Memory>
-    ensures { IfOk result (λ text. text ≡ source_text source.now) }
+    ensures written { IfOk result (λ text. text ≡ source_text source.now) }
+    ensures fits { source_fits source.now ≡ true }
 {
+    source_rule(source);
     let mut parts = Seq::new(alloc);
     add_both(&mut parts, &source.name, &source.columns)?;
     add(&mut parts, &source.rows)?;

@@ -11,7 +11,6 @@ use Rattle.mesh_values.specs.declared.values.Name.{Name}
 use Rattle.mesh_values.specs.declared.values.Pair.{Pair}
 use Rattle.mesh_values.specs.declared.times.Bounds.{Bounds}
 use Rattle.mesh_time.specs.Ranges.{is_apart}
-use Rattle.mesh_base.specs.declared.definitions.Own.{Own}
 use Rattle.mesh_base.specs.declared.jobs.Input.{Input}
 use Rattle.mesh_base.specs.declared.snapshots.Env.{Env}
 use Rattle.mesh_base.specs.declared.snapshots.Ref.{Ref}

@@ -7,6 +7,7 @@ ghost use Rattle.mesh_canon_words.specs.Words.{Gives};
 ghost use Rattle.mesh_record_text.specs.declared.book_records.BookHead.{BookHead};
 ghost use Rattle.mesh_record_text.specs.Records.{IsSnapshotText, env_fits, env_text, head_fits, head_parts, head_text, newer_parts, snapshot_fits, version_fits, version_text};
 
+use crate::held::{env_rule, head_rule, snapshot_rule, version_rule};
 use crate::part::{Listed, Part, add, add_both, read_as_list};
 use mesh_base::{Env, Marks, Refs, Snapshot};
 use mesh_book::{OLD_VERSION, Version};
@@ -74,20 +75,24 @@ fn newer_head(alloc: Global, texts: &[Str]) -> Result<BookHead, CanonFault>
 /// What a book has besides its lists, by the body of its record.
 pub fn read_head(alloc: Global, text: &[u8]) -> Result<BookHead, CanonFault>
     ensures found { IfOk result (λ h. text.now ≡ head_text h) }
+    ensures fits { IfOk result (λ h. head_fits h ≡ true) }
     ensures only { (h : BookHead) → head_fits h ≡ true → text.now ≡ head_text h → Gives (λ x. x) result (Some h) }
 {
-    read_as_list(alloc, text)
+    let head: BookHead = read_as_list(alloc, text)?;
+    head_rule(&head);
+    Ok(head)
 }
 
 /// The snapshot that has this body.
 pub fn read_snapshot(alloc: Global, text: &[u8]) -> Result<Snapshot, CanonFault>
     ensures found { IfOk result (λ s. IsSnapshotText text.now s) }
+    ensures fits { IfOk result (λ s. snapshot_fits s ≡ true) }
     ensures only { (s : Snapshot) → snapshot_fits s ≡ true → IsSnapshotText text.now s → Gives (λ x. x) result (Some s) }
 {
     let (name, (fingerprint, (definition, (parents, (rank, (object, (expires, ()))))))) =
         read_as_list::<SnapshotFields>(alloc, text)?;
     let own = read_definition(alloc, definition.as_slice())?;
-    Ok(Snapshot {
+    let snapshot = Snapshot {
         name,
         fingerprint,
         own,
@@ -95,36 +100,44 @@ pub fn read_snapshot(alloc: Global, text: &[u8]) -> Result<Snapshot, CanonFault>
         rank,
         object,
         expires,
-    })
+    };
+    snapshot_rule(&snapshot);
+    Ok(snapshot)
 }
 
 /// The version that has this body.
 pub fn read_version(alloc: Global, text: &[u8]) -> Result<Version, CanonFault>
     ensures found { IfOk result (λ v. text.now ≡ version_text v) }
+    ensures fits { IfOk result (λ v. version_fits v ≡ true) }
     ensures only { (v : Version) → version_fits v ≡ true → text.now ≡ version_text v → Gives (λ x. x) result (Some v) }
 {
     let (object, (made, (ranges, (marks, ())))) = read_as_list::<VersionFields>(alloc, text)?;
-    Ok(Version {
+    let version = Version {
         object,
         made,
         ranges,
         marks,
-    })
+    };
+    version_rule(&version);
+    Ok(version)
 }
 
 /// The environment that has this body.
 pub fn read_env(alloc: Global, text: &[u8]) -> Result<Env, CanonFault>
     ensures found { IfOk result (λ e. text.now ≡ env_text e) }
+    ensures fits { IfOk result (λ e. env_fits e ≡ true) }
     ensures only { (e : Env) → env_fits e ≡ true → text.now ≡ env_text e → Gives (λ x. x) result (Some e) }
 {
     let (name, (pending, (list, (previous, (expires, ()))))) = read_as_list::<EnvFields>(
         alloc, text,
     )?;
-    Ok(Env {
+    let env = Env {
         name,
         pending,
         list,
         previous,
         expires,
-    })
+    };
+    env_rule(&env);
+    Ok(env)
 }

@@ -8,11 +8,13 @@ ghost use Rattle.mesh_record_text.specs.Parts.{bool_word, is_count, is_digest};
 ghost use Rattle.mesh_record_text.specs.Records.{moment_fits};
 
 use crate::numbers::{
-    bytes_text, count_text, digits_text, is_same, read_count, read_digits, read_signed, signed_text,
+    bytes_text, count_text, digest_rule, digits_text, is_same, read_count, read_digits,
+    read_signed, signed_text,
 };
 use crate::part::Part;
 use mesh_canon::{cell_text, read_cell, read_type, type_text};
 use mesh_canon_words::CanonFault;
+use mesh_held::{cell_rule, signed_rule};
 use mesh_list::Memory;
 use mesh_values::{Cell, ColType, Str};
 use std::alloc::Global;
@@ -21,6 +23,8 @@ impl Part for Str {
     ghost text = { λ t. t };
 
     ghost fits = { λ _. true };
+
+    fn rule(&self) {}
 
     fn write(&self, alloc: Global) -> Result<Str, Memory> {
         bytes_text(alloc, self.as_slice())
@@ -36,6 +40,8 @@ impl Part for bool {
     ghost text = { bool_word };
 
     ghost fits = { λ _. true };
+
+    fn rule(&self) {}
 
     fn write(&self, alloc: Global) -> Result<Str, Memory> {
         if *self {
@@ -61,6 +67,10 @@ impl Part for i64 {
 
     ghost fits = { moment_fits };
 
+    fn rule(&self) {
+        signed_rule(*self)
+    }
+
     fn write(&self, alloc: Global) -> Result<Str, Memory> {
         signed_text(alloc, self)
     }
@@ -74,6 +84,10 @@ impl Part for u32 {
     ghost text = { decimal };
 
     ghost fits = { is_count };
+
+    fn rule(&self) {
+        let _count = *self;
+    }
 
     fn write(&self, alloc: Global) -> Result<Str, Memory> {
         count_text(alloc, self)
@@ -89,6 +103,10 @@ impl Part for [u8; 32] {
 
     ghost fits = { is_digest };
 
+    fn rule(&self) {
+        digest_rule(self)
+    }
+
     fn write(&self, alloc: Global) -> Result<Str, Memory> {
         digits_text(alloc, self)
     }
@@ -103,6 +121,8 @@ impl Part for ColType {
 
     ghost fits = { λ _. true };
 
+    fn rule(&self) {}
+
     fn write(&self, alloc: Global) -> Result<Str, Memory> {
         type_text(alloc, *self)
     }
@@ -116,6 +136,10 @@ impl Part for Cell {
     ghost text = { cell_text };
 
     ghost fits = { cell_fits };
+
+    fn rule(&self) {
+        cell_rule(self)
+    }
 
     fn write(&self, alloc: Global) -> Result<Str, Memory> {
         cell_text(alloc, self)

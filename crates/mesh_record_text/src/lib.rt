@@ -2,10 +2,11 @@
 //! its body, read. Its contract: what is read is exactly the thing whose body, as `specs/Records.antt` spells it out, a
 //! text is; any other text is refused. A definition in a body has its canonical text or its former one. It stands on
 //! `mesh_list`, `mesh_values`, `mesh_time`, `mesh_base`, `mesh_book`, `mesh_house`, `mesh_canon_text`, `mesh_canon_words`,
-//! `mesh_canon_reading`, `mesh_canon`, `hex` and `itoa`; `mesh_record_bodies` writes bodies.
+//! `mesh_canon_reading`, `mesh_canon`, `mesh_held`, `hex` and `itoa`; `mesh_record_bodies` writes bodies.
 #![tactic(auto)]
 
 mod book_records;
+mod held;
 mod laws;
 mod leaves;
 mod lists;
@@ -18,6 +19,7 @@ mod values;
 mod world_records;
 
 pub use book_records::{BookHead, read_env, read_head, read_snapshot, read_version};
+pub use held::{env_rule, head_rule, object_rule, snapshot_rule, source_rule, version_rule};
 pub use laws::one_body_one_thing;
 pub use names::{env_key, head_key, snapshot_key, thing_key};
 pub use numbers::bytes_text;

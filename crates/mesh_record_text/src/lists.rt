@@ -61,6 +61,13 @@ impl<T: Part> Part for Option<T> {
 
     ghost fits = { option_fits T.fits };
 
+    fn rule(&self) {
+        match self {
+            None => {}
+            Some(value) => value.rule(),
+        }
+    }
+
     fn write(&self, alloc: Global) -> Result<Str, Memory> {
         write_as_list(alloc, self)
     }
@@ -74,6 +81,12 @@ impl<T: Part> Part for Seq<T> {
     ghost text = { λ xs. list_text (map T.text xs) };
 
     ghost fits = { list_all T.fits };
+
+    fn rule(&self) {
+        for value in self.as_slice() {
+            value.rule();
+        }
+    }
 
     fn write(&self, alloc: Global) -> Result<Str, Memory> {
         write_as_list(alloc, self)

@@ -61,6 +61,15 @@ pub(crate) fn digits_text(alloc: Global, value: &[u8; 32]) -> Result<Str, Memory
     }
 }
 
+/// A fingerprint has 32 bytes.
+pub(crate) fn digest_rule(digest: &[u8; 32])
+    ensures { is_digest digest.now ≡ true }
+{
+    for byte in digest {
+        let _byte = *byte;
+    }
+}
+
 // The number that is all of these bytes.
 #[tactic(auto, unfolding(crate::specs::Parts::signed_in))]
 fn whole_signed(bytes: &[u8]) -> Result<i64, CanonFault>

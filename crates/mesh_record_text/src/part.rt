@@ -15,6 +15,10 @@ pub trait Part: Drop {
 
     ghost fits: { Self → Bool };
 
+    /// It fits, since a program holds it.
+    fn rule(&self)
+        ensures { fits self.now ≡ true };
+
     /// Its text.
     fn write(&self, alloc: Global) -> Result<Str, Memory>
         ensures { IfOk result (λ made. made ≡ text self.now) };

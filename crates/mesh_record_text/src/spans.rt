@@ -43,6 +43,10 @@ impl Part for Ranges {
 
     ghost fits = { ranges_fit };
 
+    fn rule(&self) {
+        self.spans().rule()
+    }
+
     fn write(&self, alloc: Global) -> Result<Str, Memory> {
         self.spans().write(alloc)
     }

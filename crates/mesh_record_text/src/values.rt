@@ -6,6 +6,7 @@ ghost use Rattle.mesh_record_text.specs.Records.{bounds_fits, bounds_list, bound
 use crate::part::{Listed, Part, add_both, read_as_list, write_as_list};
 use mesh_base::Ref;
 use mesh_canon_words::CanonFault;
+use mesh_held::{name_rule, text_rule};
 use mesh_list::Memory;
 use mesh_values::{Bounds, ColType, Column, Name, Pair, Str, Strs};
 use std::alloc::Global;
@@ -29,6 +30,8 @@ impl Part for Name {
     ghost text = { name_list };
 
     ghost fits = { λ _. true };
+
+    fn rule(&self) {}
 
     fn write(&self, alloc: Global) -> Result<Str, Memory> {
         write_as_list(alloc, self)
@@ -59,6 +62,10 @@ impl Part for Column {
 
     ghost fits = { column_fits };
 
+    fn rule(&self) {
+        text_rule(self.name.as_slice())
+    }
+
     fn write(&self, alloc: Global) -> Result<Str, Memory> {
         write_as_list(alloc, self)
     }
@@ -87,6 +94,11 @@ impl Part for Pair {
     ghost text = { pair_list };
 
     ghost fits = { pair_fits };
+
+    fn rule(&self) {
+        name_rule(&self.first);
+        name_rule(&self.second)
+    }
 
     fn write(&self, alloc: Global) -> Result<Str, Memory> {
         write_as_list(alloc, self)
@@ -117,6 +129,11 @@ impl Part for Bounds {
 
     ghost fits = { bounds_fits };
 
+    fn rule(&self) {
+        self.start.rule();
+        self.end.rule()
+    }
+
     fn write(&self, alloc: Global) -> Result<Str, Memory> {
         write_as_list(alloc, self)
     }
@@ -145,6 +162,10 @@ impl Part for Ref {
     ghost text = { ref_list };
 
     ghost fits = { ref_fits };
+
+    fn rule(&self) {
+        self.fingerprint.rule()
+    }
 
     fn write(&self, alloc: Global) -> Result<Str, Memory> {
         write_as_list(alloc, self)

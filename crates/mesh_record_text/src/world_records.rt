@@ -7,6 +7,7 @@ ghost use Rattle.mesh_house.specs.declared.world.ViewOf.{ViewOf};
 ghost use Rattle.mesh_canon_words.specs.Words.{Gives};
 ghost use Rattle.mesh_record_text.specs.Records.{AreBodyParts, AreRowParts, AreStoredParts, IsBodyText, IsObjectText, body_fits, object_fits, source_fits, source_text, view_text};
 
+use crate::held::{object_rule, source_rule};
 use crate::numbers::is_same;
 use crate::part::{Listed, parts_of, read_as_list};
 use mesh_base::Input;
@@ -88,26 +89,32 @@ fn read_kept(alloc: Global, text: &[u8]) -> Result<Body, CanonFault>
 /// The object that has this body.
 pub fn read_object(alloc: Global, text: &[u8]) -> Result<Object, CanonFault>
     ensures found { IfOk result (λ o. IsObjectText text.now o) }
+    ensures fits { IfOk result (λ o. object_fits o ≡ true) }
     ensures only { (o : Object) → object_fits o ≡ true → IsObjectText text.now o → Gives (λ x. x) result (Some o) }
 {
     let (name, (columns, (kept, ()))) = read_as_list::<ObjectFields>(alloc, text)?;
     let body = read_kept(alloc, kept.as_slice())?;
-    Ok(Object {
+    let object = Object {
         name,
         columns,
         body,
-    })
+    };
+    object_rule(&object);
+    Ok(object)
 }
 
 /// The source that has this body.
 pub fn read_source(alloc: Global, text: &[u8]) -> Result<Input, CanonFault>
     ensures found { IfOk result (λ s. text.now ≡ source_text s) }
+    ensures fits { IfOk result (λ s. source_fits s ≡ true) }
     ensures only { (s : Input) → source_fits s ≡ true → text.now ≡ source_text s → Gives (λ x. x) result (Some s) }
 {
     let (name, (columns, (rows, ()))) = read_as_list::<SourceFields>(alloc, text)?;
-    Ok(Input {
+    let source = Input {
         name,
         columns,
         rows,
-    })
+    };
+    source_rule(&source);
+    Ok(source)
 }

@@ -1,7 +1,7 @@
 // Why records were not read.
 ghost use Rattle.std.specs.Prelude.{◌≡◌};
 ghost use Rattle.mesh_stored.specs.declared.fault.LoadFail.TheVariants.{Memory as OutOfMemory};
-ghost use Rattle.mesh_stored.specs.Loads.{of_canon, of_keep};
+ghost use Rattle.mesh_stored.specs.Faults.{of_canon, of_keep, of_read};
 
 use mesh_canon_words::CanonFault;
 use mesh_keep::KeepFail;
@@ -42,5 +42,15 @@ impl From<KeepFail> for LoadFail {
             KeepFail::Failed => LoadFail::Failed,
             KeepFail::Memory => LoadFail::Memory,
         }
+    }
+}
+
+/// What was read of a body, as what is read of a record.
+pub(crate) fn as_taken<T: Drop>(read: Result<T, CanonFault>) -> Result<T, LoadFail>
+    ensures { result ≡ of_read read }
+{
+    match read {
+        Ok(thing) => Ok(thing),
+        Err(fault) => Err(LoadFail::from(fault)),
     }
 }

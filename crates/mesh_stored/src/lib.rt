@@ -1,17 +1,18 @@
-//! A world among the records of a keeper: the world that they say, and the writes by which they follow a change. Its
-//! contract: each call leaves the keeper's count of faults no lower, and says that the keeper failed only where that count
-//! rose. It stands on `mesh_list`, `mesh_values`, `mesh_base`, `mesh_book`, `mesh_house`, `mesh_canon_words`,
-//! `mesh_record_text`, `mesh_record_bodies` and `mesh_keep`.
+//! The world that the records of a keeper say, and the records that a warehouse begins with. Its contract: where a keeper
+//! tells its records, what is loaded is the world that they say, and a record that isn't read is one that says no thing of a
+//! world; and where there was no record of the moment, that of the empty book is put. Each call leaves the keeper's count of
+//! faults no lower, and says that the keeper failed only where that count rose. It stands on `mesh_list`, `mesh_values`,
+//! `mesh_base`, `mesh_book`, `mesh_house`, `mesh_canon_words`, `mesh_canon_reading`, `mesh_record_text`,
+//! `mesh_record_reading`, `mesh_record_bodies` and `mesh_keep`.
 #![tactic(auto)]
 
 mod fault;
 mod head;
-mod held;
+mod lists;
 mod loading;
 mod taking;
-mod things;
-mod writes;
+mod thing;
 
 pub use fault::LoadFail;
 pub use head::begin;
-pub use held::Held;
+pub use loading::load;

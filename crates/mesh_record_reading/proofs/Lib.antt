@@ -1,0 +1,3 @@
+pub mod Said
+pub mod Exactly
+pub mod Read

@@ -1,0 +1,2 @@
+-- Reading: the thing that a body says.
+pub mod Reading

@@ -1,0 +1,9 @@
+pub mod Elsewhere
+pub mod Places
+pub mod Right
+pub mod Spared
+pub mod Steps
+pub mod Moved
+pub mod Ordered
+pub mod Follow
+pub mod Listed
