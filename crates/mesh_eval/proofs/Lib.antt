@@ -8,7 +8,5 @@ pub mod Steps
 pub mod Trimmed
 -- Sides: where the columns of a node stand
 pub mod Sides
--- Placed: rows of values where expressions are placed
+-- Placed: rows of values where expressions are bound
 pub mod Placed
--- Compared: values of operators between operands
-pub mod Compared

@@ -6,8 +6,8 @@ use Rattle.mesh_values.specs.declared.values.Cell.{Cell}
 use Rattle.mesh_meaning.specs.Aggregates.{distinct}
 use Rattle.mesh_values.specs.declared.times.Bounds.{Bounds}
 use Rattle.mesh_values.specs.declared.values.Column.{Column}
-use Rattle.mesh_base.specs.declared.queries.Select.{Select}
-use Rattle.mesh_meaning.specs.Sel.{Joined, same_row, key_list, group_of, group_row}
+use Rattle.mesh_base.specs.declared.expressions.Expr.{Expr}
+use Rattle.mesh_meaning.specs.Sel.{Group, Joined, same_row, key_list, group_of}
 use Rattle.mesh_index.specs.Places.{places, places_from}
 use Rattle.mesh_index.proofs.OneOfEach.{distinct-more, same_row-exact}
 
@@ -67,45 +67,51 @@ range-more a (suc n) = ap (λ l. a ∷ l) (range-more (a + 1) n ∙ ap (λ k. ra
 pub plus_0 : (k : ℕ) → k + 0 ≡ k
 plus_0 k = omega arith
 
--- a key that stands nowhere before has a group, of the rows at its places
-pub group-added : (u : Bounds) (cols : List (List Column)) (q : Select) (rows : List Joined) (keys all : List (List Cell)) (at : ℕ) (key : List Cell) (found : List ℕ) (made : List (List Cell))
-    → keys ≡ map (key_list u cols q.keys) rows → all ≡ keys → at < length keys → key ≡ get_or keys at key
-    → not (list_any (same_row (get_or all at [])) (take at all)) ≡ true → found ≡ places (same_row key) all
-    → made ≡ flat_map (group_row u cols q) (map (group_of u cols q.keys rows) (distinct same_row (take at (map (key_list u cols q.keys) rows))))
-    → made ++ group_row u cols q (record { key_values = key; rows = map (λ p. get_or rows p []) found }) ≡ flat_map (group_row u cols q) (map (group_of u cols q.keys rows) (distinct same_row (take (at + 1) (map (key_list u cols q.keys) rows))))
-group-added u cols q rows keys all at key found made e f lt k first g h =
-    let f_of = key_list u cols q.keys in
+-- a key that stands nowhere before has a group of its own
+pub group-added : (out : Group → List (List Cell)) (of_key : List Cell → Group) (keys all : List (List Cell)) (at : ℕ) (key : List Cell) (made : List (List Cell))
+    → all ≡ keys → at < length keys → key ≡ get_or keys at key
+    → not (list_any (same_row (get_or all at [])) (take at all)) ≡ true
+    → made ≡ flat_map out (map of_key (distinct same_row (take at keys)))
+    → made ++ out (of_key key) ≡ flat_map out (map of_key (distinct same_row (take (at + 1) keys)))
+group-added out of_key keys all at key made f lt k first h =
     let here : key ≡ get_or keys at [] = get_or_read keys at key lt k [] in
-    let own : map (λ p. get_or rows p []) found ≡ filter (λ row. same_row key (f_of row)) rows =
-    ap (map (λ p. get_or rows p [])) (g ∙ ap (places (same_row key)) (f ∙ e)) ∙ picked-places f_of (same_row key) [] rows rows 0 (λ n. ap (λ m. get_or rows m []) (plus_0 n)) in
     let none_before : list_any (same_row key) (take at keys) ≡ false =
     turned (list_any (same_row key) (take at keys)) (ap₂ (λ l r. not (list_any (same_row r) (take at l))) (sym f) (here ∙ ap (λ l. get_or l at []) (sym f)) ∙ first) in
-    ap₂ (λ m r. m ++ group_row u cols q (record { key_values = key; rows = r })) h own
-    ∙ sym (groups-more (group_of u cols q.keys rows) (group_row u cols q) (distinct same_row (take at (map f_of rows))) key)
-    ∙ ap (λ l. flat_map (group_row u cols q) (map (group_of u cols q.keys rows) l))
-    (ap (λ l. distinct same_row (take at l) ++ key ∷ []) (sym e)
-    ∙ sym (distinct-take keys at key lt here ∙ ap (λ (b : Bool). cond b (distinct same_row (take at keys)) (distinct same_row (take at keys) ++ key ∷ [])) none_before)
-    ∙ ap (λ l. distinct same_row (take (at + 1) l)) e)
+    ap (λ m. m ++ out (of_key key)) h
+    ∙ sym (groups-more of_key out (distinct same_row (take at keys)) key)
+    ∙ ap (λ l. flat_map out (map of_key l))
+    (sym (distinct-take keys at key lt here ∙ ap (λ (b : Bool). cond b (distinct same_row (take at keys)) (distinct same_row (take at keys) ++ key ∷ [])) none_before))
   where
     turned : (b : Bool) → not b ≡ true → b ≡ false
     turned true e = absurd (cc)
     turned false e = refl
 
 -- a key that stands before has no group of its own
-pub group-passed : (u : Bounds) (cols : List (List Column)) (q : Select) (rows : List Joined) (keys all : List (List Cell)) (at : ℕ) (made : List (List Cell))
-    → keys ≡ map (key_list u cols q.keys) rows → all ≡ keys → at < length keys
+pub group-passed : (out : Group → List (List Cell)) (of_key : List Cell → Group) (keys all : List (List Cell)) (at : ℕ) (made : List (List Cell))
+    → all ≡ keys → at < length keys
     → not (list_any (same_row (get_or all at [])) (take at all)) ≡ false
-    → made ≡ flat_map (group_row u cols q) (map (group_of u cols q.keys rows) (distinct same_row (take at (map (key_list u cols q.keys) rows))))
-    → made ≡ flat_map (group_row u cols q) (map (group_of u cols q.keys rows) (distinct same_row (take (at + 1) (map (key_list u cols q.keys) rows))))
-group-passed u cols q rows keys all at made e f lt first h =
-    let f_of = key_list u cols q.keys in
+    → made ≡ flat_map out (map of_key (distinct same_row (take at keys)))
+    → made ≡ flat_map out (map of_key (distinct same_row (take (at + 1) keys)))
+group-passed out of_key keys all at made f lt first h =
     let before : list_any (same_row (get_or keys at [])) (take at keys) ≡ true =
     turned (list_any (same_row (get_or keys at [])) (take at keys)) (ap (λ l. not (list_any (same_row (get_or l at [])) (take at l))) (sym f) ∙ first) in
-    h ∙ ap (λ l. flat_map (group_row u cols q) (map (group_of u cols q.keys rows) l))
-    (ap (λ l. distinct same_row (take at l)) (sym e)
-    ∙ sym (distinct-take keys at (get_or keys at []) lt refl ∙ ap (λ (b : Bool). cond b (distinct same_row (take at keys)) (distinct same_row (take at keys) ++ get_or keys at [] ∷ [])) before)
-    ∙ ap (λ l. distinct same_row (take (at + 1) l)) e)
+    h ∙ ap (λ l. flat_map out (map of_key l))
+    (sym (distinct-take keys at (get_or keys at []) lt refl ∙ ap (λ (b : Bool). cond b (distinct same_row (take at keys)) (distinct same_row (take at keys) ++ get_or keys at [] ∷ [])) before))
   where
     turned : (b : Bool) → not b ≡ false → b ≡ true
     turned true e = refl
     turned false e = absurd (cc)
+
+-- the groups of keys are those of the rows whose keys they are
+pub groups-by_key : (out : Group → List (List Cell)) (u : Bounds) (cols : List (List Column)) (exprs own : List Expr) (rows : List Joined) (keys all : List (List Cell))
+    → all ≡ keys → keys ≡ map (key_list u cols own) rows → own ≡ exprs
+    → flat_map out (map (λ key. record { key_values = key; rows = map (λ p. get_or rows p []) (places (same_row key) all) }) (distinct same_row keys))
+    ≡ flat_map out (map (group_of u cols exprs rows) (distinct same_row (map (key_list u cols exprs) rows)))
+groups-by_key out u cols exprs own rows keys all f e g =
+    let f_of : Joined → List Cell = key_list u cols exprs in
+    let are : keys ≡ map f_of rows = e ∙ ap (λ k. map (key_list u cols k) rows) g in
+    let of_key : List (List Cell) → List Cell → Group = λ l key. record { key_values = key; rows = map (λ p. get_or rows p []) (places (same_row key) l) } in
+    let here : (key : List Cell) → of_key (map f_of rows) key ≡ group_of u cols exprs rows key =
+    λ key. ap (λ (r : List Joined). record { key_values = key; rows = r }) (picked-places f_of (same_row key) [] rows rows 0 (λ n. ap (λ m. get_or rows m []) (plus_0 n))) in
+    ap₂ (λ l k. flat_map out (map (of_key l) (distinct same_row k))) (f ∙ are) are
+    ∙ (λ i. flat_map out (map (λ key. here key i) (distinct same_row (map f_of rows))))

@@ -1,47 +1,44 @@
--- Rows of values that are known to be where expressions are placed.
-use Rattle.std.proofs.Common.{◌≡◌, ℕ, List, map, sym, ap, subst, ◌∙◌}
+-- Rows of values that are known to be where expressions are bound.
+use Rattle.std.proofs.Common.{◌≡◌, List, [], ◌∷◌, map, IfOk, if◌then◌else◌, refl, sym, ap, subst, ◌∙◌}
 use Rattle.std.specs.declared.option.Option.{Option}
-use Rattle.std.specs.declared.option.Option.TheVariants.{Some}
+use Rattle.std.specs.declared.option.Option.TheVariants.{None, Some}
+use Rattle.std.specs.declared.result.Result.{Result}
+use Rattle.mesh_list.specs.declared.memory.Memory.{Memory}
 use Rattle.mesh_values.specs.declared.times.Bounds.{Bounds}
-use Rattle.mesh_values.specs.declared.values.Cell.{Cell}
 use Rattle.mesh_values.specs.declared.values.Column.{Column}
 use Rattle.mesh_base.specs.declared.expressions.Expr.{Expr}
-use Rattle.mesh_base.specs.declared.expressions.Expr as expr
-use Rattle.mesh_base.specs.declared.expressions.Var.{Var}
 use Rattle.mesh_base.specs.declared.queries.Item.{Item}
-use Rattle.mesh_meaning.specs.Macros.{macro_value}
-use Rattle.mesh_meaning.proofs.Nodes.{Ev_out}
-use Rattle.mesh_joined.specs.declared.spots.Spot.{Spot}
-use Rattle.mesh_joined.specs.Spots.{IsSpot}
-use Rattle.mesh_expressions.proofs.Nodes.{of-literal, of-macro, of-col}
-use Rattle.mesh_eval.specs.declared.placing.Operand.{Operand}
-use Rattle.mesh_eval.specs.declared.placing.Operand.TheVariants.{Lies, Known}
-use Rattle.mesh_meaning.specs.Sel.{Joined, row_scope, item_row, key_list}
-use Rattle.mesh_eval.specs.declared.placing.Placed.{Placed}
-use Rattle.mesh_eval.specs.Placed.{values_at, IsOperand, ArePlaced, AreItems}
+use Rattle.mesh_base.specs.declared.queries.Select.{Select}
+use Rattle.mesh_meaning.specs.Cells.{is_true}
+use Rattle.mesh_meaning.specs.Ev.{Ev}
+use Rattle.mesh_meaning.specs.Sel.{Joined, item_row, key_list, row_scope}
+use Rattle.mesh_bound.specs.declared.forms.Bound.{Bound}
+use Rattle.mesh_bound.specs.Meaning.{Given, AreBound, given_scope, row_alone}
+use Rattle.mesh_eval.specs.Placed.{values_at, bound_holds, given_group, AreItems, IsCondition, IsOutput}
 
-pub key_rows : {A : Type 0} (u : Bounds) (columns : List (List Column)) (all own : List Expr) (placed there : List Placed) (f : A → Joined) (rows : List A)
-    → own ≡ all → there ≡ placed → ArePlaced u columns own placed
-    → map (λ row. values_at u columns there (f row)) rows ≡ map (λ row. key_list u columns all (f row)) rows
-key_rows u columns all own placed there f rows e g h =
-    ap (λ p. map (λ row. values_at u columns p (f row)) rows) g ∙ (λ i. map (λ row. h (f row) i) rows) ∙ ap (λ k. map (λ row. key_list u columns k (f row)) rows) e
+pub key_rows : {A : Type 0} (u : Bounds) (columns : List (List Column)) (all own : List Expr) (bound there : List Bound) (f : A → Joined) (rows : List A)
+    → own ≡ all → there ≡ bound → AreBound u columns [] own bound
+    → map (λ row. values_at there (f row)) rows ≡ map (λ row. key_list u columns all (f row)) rows
+key_rows u columns all own bound there f rows e g h =
+    ap (λ p. map (λ row. values_at p (f row)) rows) g ∙ (λ i. map (λ row. h (row_alone (f row)) i) rows) ∙ ap (λ k. map (λ row. key_list u columns k (f row)) rows) e
 
-pub item_rows : (u : Bounds) (columns : List (List Column)) (items own : List Item) (placed there : List Placed) (rows : List Joined)
-    → own ≡ items → there ≡ placed → AreItems u columns own placed
-    → map (values_at u columns there) rows ≡ map (λ row. item_row items (row_scope u columns row)) rows
-item_rows u columns items own placed there rows e g h =
-    ap (λ p. map (values_at u columns p) rows) g ∙ (λ i. map (λ row. h row i) rows) ∙ ap (λ k. map (λ row. item_row k (row_scope u columns row)) rows) e
+pub item_rows : (u : Bounds) (columns : List (List Column)) (items own : List Item) (bound there : List Bound) (rows : List Joined)
+    → own ≡ items → there ≡ bound → AreItems u columns [] own bound
+    → map (values_at there) rows ≡ map (λ row. item_row items (row_scope u columns row)) rows
+item_rows u columns items own bound there rows e g h =
+    ap (λ p. map (values_at p) rows) g ∙ (λ i. map (λ row. h (row_alone row) i) rows) ∙ ap (λ k. map (λ row. item_row k (row_scope u columns row)) rows) e
 
--- the values at one row
-pub key_row : (u : Bounds) (columns : List (List Column)) (all own : List Expr) (placed there : List Placed) (row : Joined)
-    → own ≡ all → there ≡ placed → ArePlaced u columns own placed → values_at u columns there row ≡ key_list u columns all row
-key_row u columns all own placed there row e g h = ap (λ p. values_at u columns p row) g ∙ h row ∙ ap (λ k. key_list u columns k row) e
+pub condition-none : (u : Bounds) (columns : List (List Column)) (keys : List Expr) (condition : Option Expr) → condition ≡ None → IsCondition u columns keys condition None
+condition-none u columns keys condition is = subst (λ (o : Option Expr). IsCondition u columns keys o None) (sym is) (λ g. refl)
 
-pub literal-known : (u : Bounds) (columns : List (List Column)) (e : Expr) (c : Cell) (made : Option Operand) → e ≡ expr.Literal c → made ≡ Some (Known c) → IsOperand u columns e made
-literal-known u columns e c made is m = subst (IsOperand u columns e) (sym m) (λ row. of-literal e c (row_scope u columns row) is ∙ sym (Ev_out e (row_scope u columns row)))
+pub condition-some : (u : Bounds) (columns : List (List Column)) (keys : List Expr) (condition : Option Expr) (e : Expr) (r : Result (Option Bound) Memory) → condition ≡ Some e
+    → IfOk r (λ made. (g : Given) → bound_holds made g ≡ is_true (Ev e (given_scope u columns keys g))) → IfOk r (IsCondition u columns keys condition)
+condition-some u columns keys condition e r is h = subst (λ (o : Option Expr). IfOk r (IsCondition u columns keys o)) (sym is) h
 
-pub macro-known : (u : Bounds) (columns : List (List Column)) (e : Expr) (var : Var) (made : Option Operand) → e ≡ expr.Macro var → made ≡ Some (Known (macro_value var u)) → IsOperand u columns e made
-macro-known u columns e var made is m = subst (IsOperand u columns e) (sym m) (λ row. of-macro e var (row_scope u columns row) is ∙ sym (Ev_out e (row_scope u columns row)))
-
-pub column-lies : (u : Bounds) (columns : List (List Column)) (e : Expr) (item : ℕ) (name : List ℕ) (spot : Option Spot) → e ≡ expr.Col item name → IsSpot columns item name spot → IsOperand u columns e (Some (Lies spot))
-column-lies u columns e item name spot is h = λ row. sym (h row) ∙ of-col e item name (row_scope u columns row) is ∙ sym (Ev_out e (row_scope u columns row))
+-- a HAVING and items give the rows of a SELECT's groups
+pub output-is : (u : Bounds) (columns : List (List Column)) (q : Select) (keys : List Expr) (own : List Item) (having : Option Bound) (items : List Bound) → keys ≡ q.keys → own ≡ q.items
+    → IsCondition u columns keys q.having having → AreItems u columns keys own items → IsOutput u columns q (record { having = having; items = items })
+output-is u columns q keys own having items e f h k = λ g.
+    let h′ : IsCondition u columns q.keys q.having having = subst (λ ks. IsCondition u columns ks q.having having) e h in
+    let k′ : AreItems u columns q.keys q.items items = subst (λ own. AreItems u columns q.keys own items) f (subst (λ ks. AreItems u columns ks own items) e k) in
+    λ i. if (h′ (given_group g) i) then (k′ (given_group g) i ∷ []) else []

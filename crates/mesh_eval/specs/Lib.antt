@@ -2,7 +2,5 @@
 pub mod Ties
 -- Trimmed: rows of a FROM without some that give no row of the query.
 pub mod Trimmed
--- Placed: expressions of which it is known where their values lie, or what they are.
+-- Placed: expressions bound before the first row, and their values at rows.
 pub mod Placed
--- Compared: conditions that have an operator between such values.
-pub mod Compared

@@ -1,5 +1,6 @@
--- Expressions of which it is known before any row where their values lie, or what they are.
-use Rattle.std.specs.Prelude.{◌≡◌, ⊤, List, map}
+-- Expressions bound before the first row, and their values at rows.
+use Rattle.std.specs.Prelude.{◌≡◌, Bool, true, List, [], ◌∷◌, ◌++◌, map, if◌then◌else◌}
+use Rattle.std.specs.List.{filter}
 use Rattle.std.specs.declared.option.Option.{Option}
 use Rattle.std.specs.declared.option.Option.TheVariants.{None, Some}
 use Rattle.mesh_values.specs.declared.times.Bounds.{Bounds}
@@ -7,37 +8,45 @@ use Rattle.mesh_values.specs.declared.values.Cell.{Cell}
 use Rattle.mesh_values.specs.declared.values.Column.{Column}
 use Rattle.mesh_base.specs.declared.expressions.Expr.{Expr}
 use Rattle.mesh_base.specs.declared.queries.Item.{Item}
-use Rattle.mesh_meaning.specs.Ev.{Ev}
-use Rattle.mesh_meaning.specs.Sel.{Joined, row_scope, item_row, key_list}
-use Rattle.mesh_joined.specs.Spots.{cell_at}
-use Rattle.mesh_eval.specs.declared.placing.Operand.{Operand}
-use Rattle.mesh_eval.specs.declared.placing.Operand.TheVariants.{Lies, Known}
-use Rattle.mesh_eval.specs.declared.placing.Placed.{Placed}
-use Rattle.mesh_eval.specs.declared.placing.Placed.TheVariants.{Ready, Named}
+use Rattle.mesh_base.specs.declared.queries.Select.{Select}
+use Rattle.mesh_meaning.specs.Cells.{is_true}
+use Rattle.mesh_meaning.specs.Sel.{Group, Joined, holds, item_row, group_row}
+use Rattle.mesh_bound.specs.declared.forms.Bound.{Bound}
+use Rattle.mesh_bound.specs.Meaning.{Given, EachMeans, bound_each, bound_value, given_scope, row_alone}
+use Rattle.mesh_eval.specs.declared.groups.Output.{Output}
 
-abbrev pub operand_value : Joined → Operand → Cell
-operand_value row (Lies spot) = cell_at spot row
-operand_value row (Known cell) = cell
+-- the values of bound expressions at a row
+abbrev pub values_at : List Bound → Joined → List Cell
+values_at all row = bound_each all (row_alone row)
 
--- if there is one, it has the expression's value, whatever the row
-abbrev pub IsOperand : Bounds → List (List Column) → Expr → Option Operand → Type 0
-IsOperand u columns e None = ⊤
-IsOperand u columns e (Some operand) = (row : Joined) → operand_value row operand ≡ Ev e (row_scope u columns row)
+-- they have the items' values, whatever they are given
+abbrev pub AreItems : Bounds → List (List Column) → List Expr → List Item → List Bound → Type 0
+AreItems u columns keys items made = EachMeans (λ g. item_row items (given_scope u columns keys g)) made
 
--- what a placed expression has for its value at a row
-abbrev pub value_at : Bounds → List (List Column) → Joined → Placed → Cell
-value_at u columns row (Ready operand) = operand_value row operand
-value_at u columns row (Named e) = Ev e.now (row_scope u columns row)
+-- whether there is no condition or it is true
+abbrev pub bound_holds : Option Bound → Given → Bool
+bound_holds None g = true
+bound_holds (Some b) g = is_true (bound_value b g)
 
-abbrev pub values_at : Bounds → List (List Column) → List Placed → Joined → List Cell
-values_at u columns all row = map (value_at u columns row) all
+-- it is true where the condition is
+abbrev pub IsCondition : Bounds → List (List Column) → List Expr → Option Expr → Option Bound → Type 0
+IsCondition u columns keys condition made = (g : Given) → bound_holds made g ≡ holds condition (given_scope u columns keys g)
 
--- its value is the expression's, whatever the row
-abbrev pub IsPlaced : Bounds → List (List Column) → Expr → Placed → Type 0
-IsPlaced u columns e placed = (row : Joined) → value_at u columns row placed ≡ Ev e (row_scope u columns row)
+abbrev pub row_test : Option Bound → Joined → Bool
+row_test condition row = bound_holds condition (row_alone row)
 
-abbrev pub ArePlaced : Bounds → List (List Column) → List Expr → List Placed → Type 0
-ArePlaced u columns all placed = (row : Joined) → values_at u columns placed row ≡ key_list u columns all row
+-- the pairs of a row so far with rows of a relation that pass
+abbrev pub pairs : (Joined → Bool) → Joined → List (List Cell) → List Joined
+pairs test left rows = filter test (map (λ row. left ++ row ∷ []) rows)
 
-abbrev pub AreItems : Bounds → List (List Column) → List Item → List Placed → Type 0
-AreItems u columns items placed = (row : Joined) → values_at u columns placed row ≡ item_row items (row_scope u columns row)
+-- what a group gives
+abbrev pub given_group : Group → Given
+given_group g = record { row = []; key_values = g.key_values; group = Some g.rows }
+
+-- the row of a group, where HAVING is true
+abbrev pub output_row : Output → Group → List (List Cell)
+output_row o g = if bound_holds o.having (given_group g) then bound_each o.items (given_group g) ∷ [] else []
+
+-- it gives the rows of a SELECT's groups
+abbrev pub IsOutput : Bounds → List (List Column) → Select → Output → Type 0
+IsOutput u columns q o = (g : Group) → output_row o g ≡ group_row u columns q g

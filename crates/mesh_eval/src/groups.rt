@@ -3,25 +3,58 @@ ghost use Rattle.std.specs.Prelude.{◌≡◌, [], ◌++◌, map, IfOk, OnOk};
 ghost use Rattle.std.specs.List.{flat_map};
 ghost use Rattle.mesh_meaning.specs.Aggregates.{distinct};
 ghost use Rattle.mesh_index.specs.Places.{places};
-ghost use Rattle.mesh_expressions.specs.Frames.{scope_of, picked, all_places};
-ghost use Rattle.mesh_meaning.specs.Sel.{holds, same_row, key_list, group_of, group_row, grouped_rows};
+ghost use Rattle.mesh_expressions.specs.Frames.{all_places, given_of, picked};
+ghost use Rattle.mesh_meaning.specs.Sel.{same_row, key_list, group_of, groups, grouped_rows};
+ghost use Rattle.mesh_eval.specs.Placed.{IsOutput, bound_holds, output_row};
 
-use crate::placing::{place_all, value_rows};
+use crate::placing::{bind_condition, bind_items, value_rows};
 use mesh_base::{Expr, Select};
-use mesh_expressions::{Frame, Members, ev, is_met, item_row};
+use mesh_bound::{Bound, Bounded, bind_each};
+use mesh_expressions::{Frame, Members, holds, values_of};
 use mesh_index::Index;
 use mesh_joined::JoinedRows;
-use mesh_list::{Memory, push_made};
+use mesh_list::{Memory, push_made, together};
 use mesh_values::{Bounds, Cell, Columns, Row, Rows};
 use std::alloc::Global;
 
-fn holds(alloc: Global, condition: &Option<Expr>, f: &Frame) -> Result<bool, Memory>
-    ensures { IfOk result (λ b. b ≡ holds condition.now (scope_of f.now)) }
+/// The HAVING and the items of a SELECT, bound.
+pub(crate) struct Output {
+    having: Option<Bound>,
+    items: Bounded,
+}
+
+impl Drop for Output {
+    fn drop(self) {
+        let Output {
+            having: _,
+            items: _,
+        } = self;
+    }
+}
+
+/// Whether a condition is true, where there is one.
+fn is_met<'v>(
+    alloc: Global,
+    condition: &'v Option<Bound>,
+    f: &Frame<'v, 'v>,
+) -> Result<bool, Memory>
+    ensures { IfOk result (λ b. b ≡ bound_holds condition.now (given_of f.now)) }
 {
     match condition {
         None => Ok(true),
-        Some(e) => is_met(ev(alloc, e, f)),
+        Some(b) => holds(alloc, b, f),
     }
+}
+
+fn output_of(alloc: Global, q: &Select, columns: &[Columns], u: Bounds) -> Result<Output, Memory>
+    ensures { IfOk result (IsOutput u columns.now q.now) }
+{
+    let keys = q.keys.as_slice();
+    let (having, items) = together(
+        bind_condition(alloc, &q.having, columns, keys, u),
+        bind_items(alloc, q.items.as_slice(), columns, keys, u),
+    )?;
+    Ok(Output { having, items })
 }
 
 /// The keys of each row.
@@ -34,33 +67,28 @@ fn key_lists(
 ) -> Result<Rows, Memory>
     ensures { IfOk result (λ made. made ≡ map (key_list u columns.now keys.now) rows.now.rows) }
 {
-    let keys = place_all(alloc, keys, columns, u)?;
-    value_rows(alloc, keys.as_slice(), columns, rows, u)
+    let keys = bind_each(alloc, keys, columns, &[], u)?;
+    value_rows(alloc, keys.as_slice(), rows)
 }
 
 /// The row of a group, where HAVING is true.
-fn group_row<'a, 'x>(
+fn group_row<'v>(
     alloc: Global,
-    q: &Select,
-    columns: &'a [Columns],
-    key_values: &'a [Cell],
-    rows: &'a JoinedRows<'x>,
-    places: &'a [usize],
-    u: Bounds,
+    o: &'v Output,
+    key_values: &'v [Cell],
+    rows: &'v JoinedRows<'v>,
+    places: &'v [usize],
 ) -> Result<Rows, Memory>
-    ensures { IfOk result (λ made. made ≡ group_row u columns.now q.now (record { key_values = key_values.now; rows = picked rows.now.rows places.now })) }
+    ensures { IfOk result (λ made. made ≡ output_row o.now (record { key_values = key_values.now; rows = picked rows.now.rows places.now })) }
 {
     let f = Frame {
-        columns,
         row: &[],
-        keys: q.keys.as_slice(),
         key_values,
         group: Some(Members { rows, places }),
-        bounds: u,
     };
     let mut made = Rows::new(alloc);
-    if holds(alloc, &q.having, &f)? {
-        push_made(&mut made, item_row(alloc, q.items.as_slice(), &f))?;
+    if is_met(alloc, &o.having, &f)? {
+        push_made(&mut made, values_of(alloc, o.items.as_slice(), &f))?;
     }
     Ok(made)
 }
@@ -76,60 +104,47 @@ fn all_places(alloc: Global, count: usize) -> Result<Vec<usize>, Memory>
 }
 
 /// The row of the one group of all rows.
-fn row_of_all(
-    alloc: Global,
-    q: &Select,
-    columns: &[Columns],
-    rows: &JoinedRows,
-    u: Bounds,
-) -> Result<Rows, Memory>
-    ensures { IfOk result (λ made. made ≡ group_row u columns.now q.now (record { key_values = []; rows = rows.now.rows })) }
+fn row_of_all(alloc: Global, o: &Output, rows: &JoinedRows) -> Result<Rows, Memory>
+    ensures { IfOk result (λ made. made ≡ output_row o.now (record { key_values = []; rows = rows.now.rows })) }
 {
     let all = all_places(alloc, rows.len())?;
-    group_row(alloc, q, columns, &[], rows, all.as_slice(), u)
+    group_row(alloc, o, &[], rows, all.as_slice())
 }
 
 /// Adds the row of the group of a key. `found` is for the places of its rows.
 fn add_group(
     alloc: Global,
-    q: &Select,
-    columns: &[Columns],
+    o: &Output,
     rows: &JoinedRows,
     key: &Row,
     index: &Index,
     found: &mut Vec<usize>,
     made: &mut Rows,
-    u: Bounds,
 ) -> Result<(), Memory>
-    ensures { OnOk result (made.new ≡ made.old ++ group_row u columns.now q.now (record { key_values = key.now; rows = picked rows.now.rows (places (same_row key.now) index.now) })) }
+    ensures { OnOk result (made.new ≡ made.old ++ output_row o.now (record { key_values = key.now; rows = picked rows.now.rows (places (same_row key.now) index.now) })) }
 {
     index.find(key, found)?;
-    let own = group_row(alloc, q, columns, key.as_slice(), rows, found.as_slice(), u)?;
+    let own = group_row(alloc, o, key.as_slice(), rows, found.as_slice())?;
     made.append(own)
 }
 
 /// The rows of the groups of equal keys, by the index of these.
 fn indexed_groups(
     alloc: Global,
-    q: &Select,
-    columns: &[Columns],
+    o: &Output,
     rows: &JoinedRows,
     keys: &Rows,
     index: &Index,
-    u: Bounds,
 ) -> Result<Rows, Memory>
-    requires keys { keys.now ≡ map (key_list u columns.now q.now.keys) rows.now.rows }
-    requires index { index.now ≡ keys.now }
-    ensures { IfOk result (λ made. made ≡ flat_map (group_row u columns.now q.now) (map (group_of u columns.now q.now.keys rows.now.rows) (distinct same_row (map (key_list u columns.now q.now.keys) rows.now.rows)))) }
+    requires { index.now ≡ keys.now }
+    ensures { IfOk result (λ made. made ≡ flat_map (output_row o.now) (map (λ key. record { key_values = key; rows = picked rows.now.rows (places (same_row key) index.now) }) (distinct same_row keys.now))) }
 {
     let mut found = Vec::new(alloc);
     let mut made = Rows::new(alloc);
     for at in 0..keys.len() {
         if index.is_first(at) {
             let key = keys.at(at);
-            add_group(
-                alloc, q, columns, rows, key, index, &mut found, &mut made, u,
-            )?;
+            add_group(alloc, o, rows, key, index, &mut found, &mut made)?;
         }
     }
     Ok(made)
@@ -139,15 +154,34 @@ fn indexed_groups(
 fn rows_by_key(
     alloc: Global,
     q: &Select,
+    o: &Output,
     columns: &[Columns],
     rows: &JoinedRows,
     u: Bounds,
 ) -> Result<Rows, Memory>
-    ensures { IfOk result (λ made. made ≡ flat_map (group_row u columns.now q.now) (map (group_of u columns.now q.now.keys rows.now.rows) (distinct same_row (map (key_list u columns.now q.now.keys) rows.now.rows)))) }
+    ensures { IfOk result (λ made. made ≡ flat_map (output_row o.now) (map (group_of u columns.now q.now.keys rows.now.rows) (distinct same_row (map (key_list u columns.now q.now.keys) rows.now.rows)))) }
 {
     let keys = key_lists(alloc, q.keys.as_slice(), columns, rows, u)?;
     let index = Index::new(alloc, keys.as_slice())?;
-    indexed_groups(alloc, q, columns, rows, &keys, &index, u)
+    indexed_groups(alloc, o, rows, &keys, &index)
+}
+
+/// The rows of the groups.
+fn rows_of_groups(
+    alloc: Global,
+    q: &Select,
+    o: &Output,
+    columns: &[Columns],
+    rows: &JoinedRows,
+    u: Bounds,
+) -> Result<Rows, Memory>
+    ensures { IfOk result (λ made. made ≡ flat_map (output_row o.now) (groups u columns.now q.now.keys rows.now.rows)) }
+{
+    if q.keys.is_empty() {
+        row_of_all(alloc, o, rows)
+    } else {
+        rows_by_key(alloc, q, o, columns, rows, u)
+    }
 }
 
 pub(crate) fn grouped_rows(
@@ -159,9 +193,6 @@ pub(crate) fn grouped_rows(
 ) -> Result<Rows, Memory>
     ensures { IfOk result (λ made. made ≡ grouped_rows u columns.now q.now rows.now.rows) }
 {
-    if q.keys.is_empty() {
-        row_of_all(alloc, q, columns, rows, u)
-    } else {
-        rows_by_key(alloc, q, columns, rows, u)
-    }
+    let o = output_of(alloc, q, columns, u)?;
+    rows_of_groups(alloc, q, &o, columns, rows, u)
 }

@@ -1,176 +1,120 @@
-// Expressions beside what is known of their values before any row.
+// Expressions bound before the first row, and their values at rows.
 ghost use Rattle.std.specs.Prelude.{◌≡◌, map, IfOk};
+ghost use Rattle.mesh_values.specs.declared.values.Cell.{Cell as Shown};
 ghost use Rattle.mesh_joined.specs.Joined.{shown};
-ghost use Rattle.mesh_eval.specs.Placed.{operand_value, value_at, values_at, IsOperand, IsPlaced, ArePlaced, AreItems};
+ghost use Rattle.mesh_meaning.specs.Cells.{is_true};
+ghost use Rattle.mesh_bound.specs.Meaning.{Given, Means, bound_value, row_alone};
+ghost use Rattle.mesh_eval.specs.Placed.{AreItems, IsCondition, bound_holds, row_test, values_at};
 
 use mesh_base::{Expr, Item};
-use mesh_expressions::{ev_row, lent_at};
-use mesh_joined::{JoinedRows, Spot, spot_of};
-use mesh_list::{Duplicate, Memory, Seq, push_made};
-use mesh_operators::{Held, bound, kept};
+use mesh_bound::{Bound, Bounded, bind};
+use mesh_expressions::{Frame, holds, lent_at, value_alone};
+use mesh_joined::JoinedRows;
+use mesh_list::{Duplicate, Memory, push_made};
+use mesh_operators::kept;
 use mesh_values::{Bounds, Cell, Columns, Row, Rows};
 use std::alloc::Global;
 
-/// What is known of a value before any row: where it lies in each of them, or what it is.
-pub(crate) enum Operand {
-    Lies(Option<Spot>),
-    Known(Cell),
-}
-
-impl Drop for Operand {
-    fn drop(self) {
-        match self {
-            Operand::Lies(_) | Operand::Known(_) => {}
-        }
-    }
-}
-
-/// An expression over the columns of a FROM, for an interval.
-pub(crate) enum Placed<'a> {
-    Ready(Operand),
-    Named(&'a Expr),
-}
-
-impl Drop for Placed<'_> {
-    fn drop(self) {
-        match self {
-            Placed::Ready(_) | Placed::Named(_) => {}
-        }
-    }
-}
-
-/// Expressions, each of them placed.
-pub(crate) type Placeds<'a> = Seq<Placed<'a>>;
-
-fn known(value: Result<Cell, Memory>) -> Result<Option<Operand>, Memory>
-    ensures { (x : Cell) → IfOk value (λ v. v ≡ x) → IfOk result (λ made. made ≡ Some (Operand.Known x)) }
+/// Items over the columns of a FROM, under keys and for an interval.
+pub(crate) fn bind_items(
+    alloc: Global,
+    items: &[Item],
+    columns: &[Columns],
+    keys: &[Expr],
+    u: Bounds,
+) -> Result<Bounded, Memory>
+    ensures { IfOk result (AreItems u columns.now keys.now items.now) }
 {
-    match value {
-        Ok(cell) => Ok(Some(Operand::Known(cell))),
+    let mut made = Bounded::new(alloc);
+    for item in items {
+        push_made(&mut made, bind(alloc, &item.expr, columns, keys, u))?;
+    }
+    Ok(made)
+}
+
+/// A condition over the columns of a FROM, under keys and for an interval.
+pub(crate) fn bind_condition(
+    alloc: Global,
+    condition: &Option<Expr>,
+    columns: &[Columns],
+    keys: &[Expr],
+    u: Bounds,
+) -> Result<Option<Bound>, Memory>
+    ensures { IfOk result (IsCondition u columns.now keys.now condition.now) }
+{
+    match condition {
+        None => Ok(None),
+        Some(e) => some(bind(alloc, e, columns, keys, u)),
+    }
+}
+
+fn some(bound: Result<Bound, Memory>) -> Result<Option<Bound>, Memory>
+    ensures { (f : Given → Shown) → IfOk bound (Means f) → IfOk result (λ made. (g : Given) → bound_holds made g ≡ is_true (f g)) }
+{
+    match bound {
+        Ok(b) => Ok(Some(b)),
         Err(Memory) => Err(Memory),
     }
 }
 
-/// What is known of the value of a column, a literal or a macro.
-pub(crate) fn operand_of(
+/// Whether a condition is true at a row, where there is one.
+pub(crate) fn row_met<'a, 'x>(
     alloc: Global,
-    e: &Expr,
-    columns: &[Columns],
-    u: Bounds,
-) -> Result<Option<Operand>, Memory>
-    ensures { IfOk result (λ made. IsOperand u columns.now e.now made) }
-{
-    match e {
-        Expr::Literal(cell) => known(cell.copy()),
-        Expr::Col { item, name } => Ok(Some(Operand::Lies(spot_of(columns, *item, name)))),
-        Expr::Macro(var) => known(bound(alloc, *var, u)),
-        _ => Ok(None),
-    }
-}
-
-/// An expression over the columns of a FROM, for an interval.
-fn place<'a>(
-    alloc: Global,
-    e: &'a Expr,
-    columns: &[Columns],
-    u: Bounds,
-) -> Result<Placed<'a>, Memory>
-    ensures { IfOk result (λ made. IsPlaced u columns.now e.now made) }
-{
-    match operand_of(alloc, e, columns, u)? {
-        Some(operand) => Ok(Placed::Ready(operand)),
-        None => Ok(Placed::Named(e)),
-    }
-}
-
-/// Expressions over the columns of a FROM, for an interval.
-pub(crate) fn place_all<'a>(
-    alloc: Global,
-    all: &'a [Expr],
-    columns: &[Columns],
-    u: Bounds,
-) -> Result<Placeds<'a>, Memory>
-    ensures { IfOk result (λ made. ArePlaced u columns.now all.now made) }
-{
-    let mut made = Placeds::new(alloc);
-    for e in all {
-        push_made(&mut made, place(alloc, e, columns, u))?;
-    }
-    Ok(made)
-}
-
-/// Items over the columns of a FROM, for an interval.
-pub(crate) fn place_items<'a>(
-    alloc: Global,
-    items: &'a [Item],
-    columns: &[Columns],
-    u: Bounds,
-) -> Result<Placeds<'a>, Memory>
-    ensures { IfOk result (λ made. AreItems u columns.now items.now made) }
-{
-    let mut made = Placeds::new(alloc);
-    for item in items {
-        push_made(&mut made, place(alloc, &item.expr, columns, u))?;
-    }
-    Ok(made)
-}
-
-/// The cell of an operand, where it lies.
-pub(crate) fn lent<'v>(operand: &'v Operand, row: &'v [&'v [Cell]]) -> Held<'v>
-    ensures { result ≡ operand_value (shown row.now) operand.now }
-{
-    match operand {
-        Operand::Lies(spot) => lent_at(row, *spot),
-        Operand::Known(cell) => Held::lent(cell),
-    }
-}
-
-/// The value of a placed expression at a row.
-fn value_at<'a, 'x>(
-    alloc: Global,
-    placed: &Placed,
-    columns: &'a [Columns],
+    condition: &Option<Bound>,
     row: &'a [&'x [Cell]],
-    u: Bounds,
-) -> Result<Cell, Memory>
-    ensures { IfOk result (λ v. v ≡ value_at u columns.now (shown row.now) placed.now) }
+) -> Result<bool, Memory>
+    ensures { IfOk result (λ met. met ≡ row_test condition.now (shown row.now)) }
 {
-    match placed {
-        Placed::Ready(operand) => lent(operand, row).into_cell(),
-        Placed::Named(e) => kept(ev_row(alloc, *e, columns, row, u)),
+    match condition {
+        None => Ok(true),
+        Some(b) => holds_alone(alloc, b, row),
     }
 }
 
-/// The values of placed expressions at a row.
+fn holds_alone<'a, 'x>(alloc: Global, b: &Bound, row: &'a [&'x [Cell]]) -> Result<bool, Memory>
+    ensures { IfOk result (λ met. met ≡ is_true (bound_value b.now (row_alone (shown row.now)))) }
+{
+    let f = Frame {
+        row,
+        key_values: &[],
+        group: None,
+    };
+    holds(alloc, b, &f)
+}
+
+/// The value of a bound expression at a row.
+fn value_at<'a, 'x>(alloc: Global, b: &Bound, row: &'a [&'x [Cell]]) -> Result<Cell, Memory>
+    ensures { IfOk result (λ v. v ≡ bound_value b.now (row_alone (shown row.now))) }
+{
+    match b {
+        Bound::Lies(spot) => lent_at(row, *spot).into_cell(),
+        Bound::Known(cell) => cell.copy(),
+        _ => kept(value_alone(alloc, b, row)),
+    }
+}
+
+/// The values of bound expressions at a row.
 pub(crate) fn values_at<'a, 'x>(
     alloc: Global,
-    all: &[Placed],
-    columns: &'a [Columns],
+    all: &[Bound],
     row: &'a [&'x [Cell]],
-    u: Bounds,
 ) -> Result<Row, Memory>
-    ensures { IfOk result (λ made. made ≡ values_at u columns.now all.now (shown row.now)) }
+    ensures { IfOk result (λ made. made ≡ values_at all.now (shown row.now)) }
 {
     let mut made = Row::new(alloc);
-    for placed in all {
-        push_made(&mut made, value_at(alloc, placed, columns, row, u))?;
+    for b in all {
+        push_made(&mut made, value_at(alloc, b, row))?;
     }
     Ok(made)
 }
 
-/// The values of placed expressions at each row.
-pub(crate) fn value_rows(
-    alloc: Global,
-    all: &[Placed],
-    columns: &[Columns],
-    rows: &JoinedRows,
-    u: Bounds,
-) -> Result<Rows, Memory>
-    ensures { IfOk result (λ made. made ≡ map (values_at u columns.now all.now) rows.now.rows) }
+/// The values of bound expressions at each row.
+pub(crate) fn value_rows(alloc: Global, all: &[Bound], rows: &JoinedRows) -> Result<Rows, Memory>
+    ensures { IfOk result (λ made. made ≡ map (values_at all.now) rows.now.rows) }
 {
     let mut made = Rows::new(alloc);
     for at in 0..rows.len() {
-        push_made(&mut made, values_at(alloc, all, columns, rows.at(at), u))?;
+        push_made(&mut made, values_at(alloc, all, rows.at(at)))?;
     }
     Ok(made)
 }

@@ -1,4 +1,4 @@
--- What an expression sees, as a frame has it.
+-- What a bound expression is given, as a frame has it.
 use Rattle.std.specs.Prelude.{ℕ, List, [], map, slice_index_or}
 use Rattle.std.specs.List.{range_with_len}
 use Rattle.std.specs.Option.{option_map}
@@ -6,7 +6,7 @@ use Rattle.mesh_expressions.specs.declared.frames.Frame.{Frame}
 use Rattle.mesh_expressions.specs.declared.frames.Members.{Members}
 use Rattle.mesh_joined.specs.Joined.{shown}
 use Rattle.mesh_meaning.specs.Sel.{Joined}
-use Rattle.mesh_meaning.specs.Ev.{Scope, seen}
+use Rattle.mesh_bound.specs.Meaning.{Given}
 
 -- the rows at places, empty ones where there are none
 abbrev pub picked : List Joined → List ℕ → List Joined
@@ -19,5 +19,5 @@ all_places count = range_with_len 0 count
 abbrev pub members : Members → List Joined
 members g = picked g.rows.now.rows g.places.now
 
-abbrev pub scope_of : Frame → Scope
-scope_of f = record { column = seen f.columns.now (shown f.row.now); keys = f.keys.now; key_values = f.key_values.now; group = option_map (λ g. map (seen f.columns.now) (members g)) f.group; bounds = f.bounds }
+abbrev pub given_of : Frame → Given
+given_of f = record { row = shown f.row.now; key_values = f.key_values.now; group = option_map members f.group }

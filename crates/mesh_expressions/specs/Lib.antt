@@ -1,2 +1,2 @@
--- Frames: what an expression sees, as a frame has it.
+-- Frames: what a bound expression is given, as a frame has it.
 pub mod Frames

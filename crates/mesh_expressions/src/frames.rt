@@ -1,15 +1,14 @@
-// What an expression sees.
+// What a bound expression is given.
 ghost use Rattle.std.specs.Prelude.{◌≡◌, map, slice_index_or, IfOk};
-ghost use Rattle.mesh_meaning.specs.Ev.{seen};
-ghost use Rattle.mesh_expressions.specs.Frames.{members};
+ghost use Rattle.mesh_bound.specs.Meaning.{row_alone};
+ghost use Rattle.mesh_expressions.specs.Frames.{given_of, members};
 ghost use Rattle.mesh_joined.specs.Joined.{shown};
 ghost use Rattle.mesh_joined.specs.Spots.{cell_at};
 
-use mesh_base::Expr;
-use mesh_joined::{JoinedRows, Spot, cell_at, spot_of};
+use mesh_joined::{JoinedRows, Spot, cell_at};
 use mesh_list::Memory;
 use mesh_operators::{Held, Helds};
-use mesh_values::{Bounds, Cell, Columns, Str};
+use mesh_values::Cell;
 use std::alloc::Global;
 
 /// The rows of a group, by their places among all.
@@ -19,26 +18,31 @@ pub struct Members<'a, 'x> {
     pub places: &'a [usize],
 }
 
-/// The columns and the row of each item of a FROM, the keys with their values, and the rows of the group.
+/// The row of each item of a FROM, the values of the keys, and the rows of the group.
 pub struct Frame<'a, 'x> {
-    pub columns: &'a [Columns],
     pub row: &'a [&'x [Cell]],
-    pub keys: &'a [Expr],
     pub key_values: &'a [Cell],
     pub group: Option<Members<'a, 'x>>,
-    pub bounds: Bounds,
 }
 
 impl Drop for Frame<'_, '_> {
     fn drop(self) {
         let Frame {
-            columns: _,
             row: _,
-            keys: _,
             key_values: _,
             group: _,
-            bounds: _,
         } = self;
+    }
+}
+
+/// A row by itself.
+pub(crate) fn row_frame<'a, 'x>(row: &'a [&'x [Cell]]) -> Frame<'a, 'x>
+    ensures { given_of result ≡ row_alone (shown row.now) }
+{
+    Frame {
+        row,
+        key_values: &[],
+        group: None,
     }
 }
 
@@ -62,15 +66,8 @@ pub fn lent_at<'x>(row: &[&'x [Cell]], spot: Option<Spot>) -> Held<'x>
     }
 }
 
-/// The cell of a FROM item's column, where it lies.
-pub(crate) fn column<'a, 'x>(f: &Frame<'a, 'x>, item: u32, name: &Str) -> Held<'x>
-    ensures { result ≡ seen f.now.columns.now (shown f.now.row.now) item name.now }
-{
-    lent_at(f.row, spot_of(f.columns, item, name))
-}
-
 /// The cells of a group's rows that lie at a spot.
-fn lent_rows<'v>(
+pub(crate) fn lent_rows<'v>(
     alloc: Global,
     spot: Option<Spot>,
     group: &Members<'v, 'v>,
@@ -82,17 +79,4 @@ fn lent_rows<'v>(
         made.push(lent_at(group.rows.get(*at), spot))?;
     }
     Ok(made)
-}
-
-/// The cells of a FROM item's column at each row of a group, where they lie.
-pub(crate) fn column_rows<'v>(
-    alloc: Global,
-    item: u32,
-    name: &Str,
-    columns: &[Columns],
-    group: &Members<'v, 'v>,
-) -> Result<Helds<'v>, Memory>
-    ensures { IfOk result (λ made. made ≡ map (λ row. row item name.now) (map (seen columns.now) (members group.now))) }
-{
-    lent_rows(alloc, spot_of(columns, item, name), group)
 }

@@ -1,11 +1,14 @@
-//! The value of an expression at a row or over a group. Its contract: `ev` gives exactly the value of `Ev` in
-//! `mesh_meaning`, where the scope is what a `Frame` holds, and lists of expressions, items and keys have theirs. It stands
-//! on `mesh_operators`, `mesh_joined`, `mesh_index`, `mesh_casts` and the definitions of `mesh_meaning`.
+//! The value of a bound expression at a row or over a group. Its contract: `value_of` gives exactly the value that
+//! `mesh_bound` defines for it (`bound_value`) of what a `Frame` gives, so that of the expression which was bound, and `holds`
+//! tells whether that value is true. It stands on `mesh_bound`, `mesh_operators`, `mesh_joined`, `mesh_index`, `mesh_casts`
+//! and the definitions of `mesh_meaning`.
 #![tactic(auto)]
 
 mod aggregates;
-mod expressions;
+mod conditions;
 mod frames;
+mod values;
 
-pub use expressions::{ev, ev_row, is_met, item_row};
+pub use conditions::holds;
 pub use frames::{Frame, Members, lent_at};
+pub use values::{value_alone, value_of, values_of};

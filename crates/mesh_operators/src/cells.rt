@@ -344,7 +344,7 @@ pub fn lies_between(x: &Cell, low: &Cell, high: &Cell) -> Cell
 }
 
 /// The value of a function of one argument.
-fn call_one(func: Func, x: &Cell) -> Result<Cell, Memory>
+pub fn call_one(func: Func, x: &Cell) -> Result<Cell, Memory>
     ensures { IfOk result (λ v. v ≡ func_value func (x.now ∷ [])) }
 {
     match func {

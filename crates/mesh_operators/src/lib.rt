@@ -7,6 +7,8 @@ mod cells;
 mod held;
 mod macros;
 
-pub use cells::{call, equal, has_null, is_null, is_true, lies_between, negate, not, operate, or};
+pub use cells::{
+    call, call_one, equal, has_null, is_null, is_true, lies_between, negate, not, operate, or,
+};
 pub use held::{Held, Helds, kept, made_of};
 pub use macros::bound;

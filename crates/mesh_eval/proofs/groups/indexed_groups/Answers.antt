@@ -1,20 +1,24 @@
-use Rattle.std.proofs.Common.{◌<◌, length, refl, sym, subst, ◌∙◌}
+use Rattle.std.proofs.Common.{◌<◌, List, length, sym, subst, ◌∙◌}
+use Rattle.mesh_values.specs.declared.values.Cell.{Cell}
 use Rattle.mesh_index.specs.Places.{places}
-use Rattle.mesh_meaning.specs.Sel.{same_row}
+use Rattle.mesh_meaning.specs.Sel.{Group, same_row}
+use Rattle.mesh_expressions.specs.Frames.{picked}
+use Rattle.mesh_eval.specs.Placed.{output_row}
 use Rattle.mesh_eval.proofs.Picked.{group-added, group-passed}
 use Rattle.mesh_eval.proofs.groups.indexed_groups.Goals.{then-is_first+in_ok-add_group, else-is_first}
 use Rattle.mesh_eval.proofs.groups.indexed_groups.Goals as goal
 
 pub loop-at-preserved : goal.loop-at-preserved
 loop-at-preserved c =
-    let rows = c.args.rows.now.rows in
     let keys = c.args.keys.now in
     let all = c.args.index.now in
+    let out = output_row c.args.o.now in
+    let of_key : List Cell → Group = λ key. record { key_values = key; rows = picked c.args.rows.now.rows (places (same_row key) all) } in
     let lt : c.loop-at.at < length keys = subst (λ n. c.loop-at.at < n) c.len-at-end.ensures c.loop-at-test.true in
     elim c.if-is_first.branch [
       | then-is_first+in_ok-add_group w ↦
           w.made-is ∙ w.in_ok-add_group.ensures
-          ∙ group-added c.args.u c.args.columns.now c.args.q.now rows keys all c.loop-at.at w.at-key.result.now (places (same_row w.at-key.result.now) all) c.loop-at.made c.requires.keys c.requires.index lt w.at-key.ensures (sym c.is_first.ensures ∙ w.if-is_first.true) refl c.loop-at.invariant
+          ∙ group-added out of_key keys all c.loop-at.at w.at-key.result.now c.loop-at.made c.requires lt w.at-key.ensures (sym c.is_first.ensures ∙ w.if-is_first.true) c.loop-at.invariant
       | else-is_first w ↦
-          w.made-is ∙ group-passed c.args.u c.args.columns.now c.args.q.now rows keys all c.loop-at.at c.loop-at.made c.requires.keys c.requires.index lt (sym c.is_first.ensures ∙ w.if-is_first.false) c.loop-at.invariant
+          w.made-is ∙ group-passed out of_key keys all c.loop-at.at c.loop-at.made c.requires lt (sym c.is_first.ensures ∙ w.if-is_first.false) c.loop-at.invariant
     ]

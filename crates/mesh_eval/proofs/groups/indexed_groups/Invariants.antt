@@ -1,8 +1,11 @@
 use Rattle.std.proofs.Common.{◌≡◌, map, take}
 use Rattle.std.specs.List.{flat_map}
+use Rattle.mesh_index.specs.Places.{places}
 use Rattle.mesh_meaning.specs.Aggregates.{distinct}
-use Rattle.mesh_meaning.specs.Sel.{same_row, key_list, group_of, group_row}
+use Rattle.mesh_meaning.specs.Sel.{same_row}
+use Rattle.mesh_expressions.specs.Frames.{picked}
+use Rattle.mesh_eval.specs.Placed.{output_row}
 use Rattle.mesh_eval.proofs.groups.indexed_groups.Given as goal
 
 abbrev pub invariant-loop-at : goal.invariant-loop-at
-invariant-loop-at l = l.made ≡ flat_map (group_row l.u l.columns l.q) (map (group_of l.u l.columns l.q.keys l.rows.rows) (distinct same_row (take l.at (map (key_list l.u l.columns l.q.keys) l.rows.rows))))
+invariant-loop-at l = l.made ≡ flat_map (output_row l.o) (map (λ key. record { key_values = key; rows = picked l.rows.rows (places (same_row key) l.index) }) (distinct same_row (take l.at l.keys)))

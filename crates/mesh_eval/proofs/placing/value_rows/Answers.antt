@@ -6,7 +6,7 @@ use Rattle.mesh_eval.proofs.placing.value_rows.Goals as goal
 pub loop-at-preserved : goal.loop-at-preserved
 loop-at-preserved c =
     let p = c.in_ok-push_made.ensures in
-    let f = values_at c.args.u c.args.columns.now c.args.all.now in
+    let f = values_at c.args.all.now in
     let rows = c.args.rows.now.rows in
     let at = c.loop-at.at in
     let lt : at < length rows = subst (λ n. at < n) c.len-at-end.ensures c.loop-at-test.true in

@@ -3,5 +3,5 @@ use Rattle.mesh_joined.specs.Joined.{shown}
 use Rattle.mesh_eval.specs.Placed.{values_at}
 use Rattle.mesh_eval.proofs.placing.values_at.Given as goal
 
-abbrev pub invariant-loop-placed : goal.invariant-loop-placed
-invariant-loop-placed l = l.made ≡ values_at l.u l.columns (take l.placed-index l.all) (shown l.row)
+abbrev pub invariant-loop-b : goal.invariant-loop-b
+invariant-loop-b l = l.made ≡ values_at (take l.b-index l.all) (shown l.row)

@@ -1,0 +1,2 @@
+-- Parts: the value of a node, from the values of its parts.
+pub mod Parts
