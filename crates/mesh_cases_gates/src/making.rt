@@ -38,7 +38,6 @@ fn book<W: Warehouse>(alloc: Global, house: &mut W) -> Result<Book, Trouble>
 }
 
 /// The plan of a project for production, which has no fault.
-#[tactic(auto, using(mesh_plan_laws::proofs::Executable::plan_executable))]
 fn planned(alloc: Global, p: &Project, b: &Book, t: i64) -> Result<Plan, Trouble>
     requires present { is_present b.now ≡ true }
     requires moment { IsMoment t }
@@ -46,7 +45,10 @@ fn planned(alloc: Global, p: &Project, b: &Book, t: i64) -> Result<Plan, Trouble
 {
     let env = u8::copy_items(alloc, b"prod")?;
     match plan(alloc, p, b, &env, t, None) {
-        Ok(made) => Ok(made),
+        Ok(made) => {
+            let _ = made.project.as_slice();
+            Ok(made)
+        }
         Err(_) => Err(Trouble::Case),
     }
 }
