@@ -1,11 +1,13 @@
 -- What the records that a warehouse begins with hold, where there were none.
-use Rattle.std.proofs.Common.{◌≡◌, Bool, true, ◌&&◌, ◌||◌, List, [], ◌∷◌, Some, None, refl, ap, ◌∙◌}
+use Rattle.std.proofs.Common.{◌≡◌, true, ◌&&◌, [], ◌∷◌, Some, None, refl, ap, ◌∙◌}
 use Rattle.std.specs.Prelude.{if◌then◌else◌}
 use Rattle.std.specs.declared.option.Option.{Option}
 use Rattle.std.specs.Cmp.{tied_itself}
+use Rattle.std.specs.Fmt.{digits}
 use Rattle.std.specs.Ordering.{is_eq}
 use Rattle.mesh_house.specs.declared.world.World.{World}
 use Rattle.mesh_house.specs.World.{empty_world}
+use Rattle.mesh_canon_text.specs.Text.{list_of, members, spaced, text_of}
 use Rattle.mesh_canon_reading.specs.Fits.{text_fits}
 use Rattle.mesh_canon_words.specs.Words.{◌>>=◌}
 use Rattle.mesh_record_text.specs.declared.book_records.BookHead.{BookHead}
@@ -15,7 +17,7 @@ use Rattle.mesh_record_reading.specs.Reading.{head_in}
 use Rattle.mesh_record_reading.proofs.Read.{head_read}
 use Rattle.mesh_keep.specs.declared.kept.Kept.{Kept}
 use Rattle.mesh_keep.specs.Holds.{all_known}
-use Rattle.mesh_keep.specs.Places.{body_at, body_of, kept_place, place_cmp, places_total}
+use Rattle.mesh_keep.specs.Places.{body_at, body_of, kept_place, places_total}
 use Rattle.mesh_keep.specs.Said.{head_said, known_world, world_of}
 use Rattle.mesh_keep.proofs.Things.{same_itself}
 use Rattle.mesh_stored.specs.Begun.{begun, first_head, first_write}
@@ -29,6 +31,7 @@ unfolding first_write
 begun_is = refl
 
 first_fits : text_fits (head_text first_head) ≡ true
+unfolding list_of members text_of spaced digits
 first_fits = refl
 
 body_there : body_at (head_record ∷ []) 0 head_key ≡ Some (head_text first_head)

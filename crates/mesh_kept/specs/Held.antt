@@ -1,5 +1,5 @@
 -- What is known of the world that a house holds.
-use Rattle.std.specs.Prelude.{◌≡◌, true, List, Some, None}
+use Rattle.std.specs.Prelude.{true, List, Some, None}
 use Rattle.std.specs.Coded.{Coded-set, coded_bool, coded_option, ×_prop, Unit-prop}
 use Rattle.std.specs.declared.option.Option.{Option}
 use Rattle.mesh_list.specs.Keyed.{ascends}
