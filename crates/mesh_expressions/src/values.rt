@@ -22,9 +22,36 @@ use mesh_operators::{
 use mesh_values::{Cell, ColType, Row};
 use std::alloc::Global;
 
-/// The value of a bound expression, where it lies if it is a cell of a row, of a key or of the expression.
+/// The value of a bound expression, where it lies if it is a cell of a row, of a key or of the expression. A function pays at
+/// its entry for all that its arms hold, so what is asked for most stands in short ones.
 #[cycle(values)]
 pub fn value_of<'v>(alloc: Global, b: &'v Bound, f: &Frame<'v, 'v>) -> Result<Held<'v>, Memory>
+    ensures { IfOk result (λ v. v ≡ bound_value b.now (given_of f.now)) }
+{
+    match b {
+        Bound::Lies(spot) => Ok(lent_at(f.row, *spot)),
+        Bound::Known(cell) => Ok(Held::lent(cell)),
+        Bound::Key(k) => Ok(key_value(f.key_values, *k)),
+        _ => operator_value(alloc, b, f),
+    }
+}
+
+#[cycle(values)]
+fn operator_value<'v>(alloc: Global, b: &'v Bound, f: &Frame<'v, 'v>) -> Result<Held<'v>, Memory>
+    ensures { IfOk result (λ v. v ≡ bound_value b.now (given_of f.now)) }
+{
+    match b {
+        Bound::Binary { op, left, right } => operated(
+            *op,
+            value_of(alloc, left.get(), f),
+            value_of(alloc, right.get(), f),
+        ),
+        _ => node_value(alloc, b, f),
+    }
+}
+
+#[cycle(values)]
+fn node_value<'v>(alloc: Global, b: &'v Bound, f: &Frame<'v, 'v>) -> Result<Held<'v>, Memory>
     ensures { IfOk result (λ v. v ≡ bound_value b.now (given_of f.now)) }
 {
     match b {
@@ -74,8 +101,10 @@ pub(crate) fn operated<'v>(
 ) -> Result<Held<'v>, Memory>
     ensures { (x y : Cell) → IfOk left.entry (λ v. v ≡ x) → IfOk right.entry (λ v. v ≡ y) → IfOk result (λ v. v ≡ op_value op x y) }
 {
-    let (x, y) = together(left, right)?;
-    made_of(operate(op, x.get(), y.get()))
+    match (&left, &right) {
+        (Ok(x), Ok(y)) => made_of(operate(op, x.get(), y.get())),
+        _ => Err(Memory),
+    }
 }
 
 fn negated<'v>(value: Result<Held, Memory>) -> Result<Held<'v>, Memory>
