@@ -10,13 +10,13 @@ use mesh_values::same_text;
 use std::alloc::Global;
 
 /// What a record says, where it stands under the name of that and a world may have it.
-pub(crate) fn taken<T: Thing>(alloc: Global, record: &Record) -> Result<T, LoadFail>
-    ensures said { Takes (thing_in T.said T.name T.may record.now) result }
+pub(crate) fn taken<T: Thing>(alloc: Global, found: &Record) -> Result<T, LoadFail>
+    ensures said { Takes (thing_in T.said T.name T.may found.now) result }
     ensures allowed { IfOk result (λ thing. T.may thing ≡ true) }
 {
-    let thing = T::read(alloc, record.body.as_slice())?;
+    let thing = T::read(alloc, found.body.as_slice())?;
     let name = thing.record_name(alloc)?;
-    if same_text(record.name.as_slice(), name.as_slice()) && thing.is_allowed() {
+    if same_text(found.name.as_slice(), name.as_slice()) && thing.is_allowed() {
         Ok(thing)
     } else {
         drop(thing);
