@@ -13,10 +13,14 @@ use mesh_wave::Gate;
 use std::alloc::Global;
 use std::thread::Threads;
 
+#[tactic(auto, unfolding(mesh_days::specs::Moments::IsMomentText))]
 fn moment(word: &Str) -> Result<i64, Trouble>
     ensures { IfOk result (λ t. IsMoment t) }
 {
-    moment_of(word.as_slice()).ok_or(Trouble::Script)
+    match moment_of(word.as_slice()) {
+        Some(t) => Ok(t),
+        None => Err(Trouble::Script),
+    }
 }
 
 /// Makes the project's plan by two workers.

@@ -257,7 +257,7 @@ fn run_whole<R: Threads + Sync>(
 
 /// What is printed of a command that was stopped with a status, and of the same command again.
 fn stop_text(
-    stage: &Stage,
+    stage: &mut Stage,
     status: u8,
     whole: &Whole,
     second: &Outcome,
