@@ -32,7 +32,7 @@ use Rattle.mesh_joined.specs.declared.spots.Spot.{Spot}
 use Rattle.mesh_joined.specs.Spots.{cell_at}
 use Rattle.mesh_bound.specs.declared.forms.Bound.{Bound, roll-Bound, fold-roll-Bound}
 use Rattle.mesh_bound.specs.declared.forms.Bound as bound
-use Rattle.mesh_bound.specs.declared.forms.Bound.TheOpen.{Lies, Known, Key, Binary, Neg, Not, IsNull, Between, OneOf, Cast, Call, Case, CountAll, Agg}
+use Rattle.mesh_bound.specs.declared.forms.Bound.TheOpen.{Lies, Known, Key, Binary, Neg, Not, IsNull, Between, OneOf, Cast, Call, Case, CountAll, Agg, Plain}
 use Rattle.mesh_bound.specs.declared.forms.BoundWhen.{BoundWhen}
 use Rattle.mesh_bound.specs.Meaning.{Given, Means, WhenMeans, IsBound, IsBoundNode, IsBoundWhen, bound_value, bound_each, bound_whens, bound_here, when_here, given_scope, row_alone, over_rows}
 
@@ -164,6 +164,10 @@ value_of_count g = ap (λ f. f g) (fold-roll-Bound (Given → Cell) (Given → C
 pub value_of_agg : (kind : AggKind) (a : Bound) (g : Given) → bound_value (bound.Agg kind a) g ≡ over_rows (λ rows. agg_value kind (map (λ row. bound_value a (row_alone row)) rows)) g.group
 unfolding roll-Bound denote.Hole.Carrier.roll
 value_of_agg kind a g = ap (λ f. f g) (fold-roll-Bound (Given → Cell) (Given → Cell × Cell) bound_here when_here (Agg kind a))
+
+pub value_of_plain : (a : Bound) (g : Given) → bound_value (bound.Plain a) g ≡ bound_value a g
+unfolding roll-Bound denote.Hole.Carrier.roll
+value_of_plain a g = ap (λ f. f g) (fold-roll-Bound (Given → Cell) (Given → Cell × Cell) bound_here when_here (Plain a))
 
 -- what bound parts give, bound
 pub agg_means : (kind : AggKind) (value : Result Bound Memory) (v : Bound) (f : Given → Cell) → value ≡ Ok v → IfOk value (Means f)

@@ -16,7 +16,7 @@ use Rattle.mesh_meaning.specs.Ev.{Scope, Ev, Ev_node, Ev_each, Ev_when, Ev_whens
 use Rattle.mesh_meaning.specs.Sel.{Joined}
 use Rattle.mesh_joined.specs.Spots.{cell_at}
 use Rattle.mesh_bound.specs.declared.forms.Bound.{Bound, fold-Bound}
-use Rattle.mesh_bound.specs.declared.forms.Bound.TheOpen.{Bound-F, BoundWhen-F, Lies, Known, Key, Binary, Neg, Not, IsNull, Between, OneOf, Cast, Call, Case, CountAll, Agg}
+use Rattle.mesh_bound.specs.declared.forms.Bound.TheOpen.{Bound-F, BoundWhen-F, Lies, Known, Key, Binary, Neg, Not, IsNull, Between, OneOf, Cast, Call, Case, CountAll, Agg, Plain}
 use Rattle.mesh_bound.specs.declared.forms.BoundWhen.{BoundWhen, fold-BoundWhen}
 
 -- what a bound expression is given: a row of each FROM item, the values of the keys, and the rows of the group
@@ -49,6 +49,7 @@ bound_here (Call func args) g = func_value func (map (λ x. x g) args)
 bound_here (Case whens otherwise) g = case_value (map (λ w. w g) whens) (otherwise g)
 bound_here CountAll g = over_rows count_of g.group
 bound_here (Agg kind value) g = over_rows (λ rows. agg_value kind (map (λ row. value (row_alone row)) rows)) g.group
+bound_here (Plain value) g = value g
 
 abbrev pub when_here : BoundWhen-F (Given → Cell) (Given → Cell × Cell) → Given → Cell × Cell
 when_here w g = (w.test g, w.value g)

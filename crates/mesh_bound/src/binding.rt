@@ -9,16 +9,31 @@ use crate::leaves::{column, literal, macro_cell};
 use crate::nodes::{
     aggregate, binary, call, case, cast, listed, neg, not, null_test, placed, when,
 };
-use mesh_base::{Expr, When};
+use crate::settled::settled;
+use mesh_base::{Expr, Op, When};
 use mesh_joined::spot_of;
 use mesh_list::{Memory, push_made};
 use mesh_values::{Bounds, Columns};
 use std::alloc::Global;
 
-/// An expression, bound to these columns, to these keys and to an interval.
-#[tactic(auto, using(mesh_meaning::proofs::Nodes::Ev_out))]
+/// An expression, bound to these columns, to these keys and to an interval, and marked where its value takes no memory.
 #[cycle(binding)]
 pub fn bind(
+    alloc: Global,
+    e: &Expr,
+    columns: &[Columns],
+    keys: &[Expr],
+    u: Bounds,
+) -> Result<Bound, Memory>
+    ensures { IfOk result (IsBound u columns.now keys.now e.now) }
+{
+    settled(alloc, bind_part(alloc, e, columns, keys, u))
+}
+
+/// A part of an expression.
+#[tactic(auto, using(mesh_meaning::proofs::Nodes::Ev_out))]
+#[cycle(binding)]
+fn bind_part(
     alloc: Global,
     e: &Expr,
     columns: &[Columns],
@@ -40,6 +55,24 @@ fn key_of(e: &Expr, keys: &[Expr]) -> Option<usize>
     keys.iter().position(|key| key == e)
 }
 
+/// A side of an operator, which is looked at for itself where it is one of an AND's.
+#[cycle(binding)]
+fn bind_side(
+    alloc: Global,
+    op: Op,
+    e: &Expr,
+    columns: &[Columns],
+    keys: &[Expr],
+    u: Bounds,
+) -> Result<Bound, Memory>
+    ensures { IfOk result (IsBound u columns.now keys.now e.now) }
+{
+    match op {
+        Op::And => bind(alloc, e, columns, keys, u),
+        _ => bind_part(alloc, e, columns, keys, u),
+    }
+}
+
 #[cycle(binding)]
 fn bind_node(
     alloc: Global,
@@ -57,24 +90,24 @@ fn bind_node(
         Expr::Binary { op, left, right } => binary(
             alloc,
             *op,
-            bind(alloc, left.get(), columns, keys, u),
-            bind(alloc, right.get(), columns, keys, u),
+            bind_side(alloc, *op, left.get(), columns, keys, u),
+            bind_side(alloc, *op, right.get(), columns, keys, u),
         ),
-        Expr::Neg(value) => neg(alloc, bind(alloc, value.get(), columns, keys, u)),
-        Expr::Not(value) => not(alloc, bind(alloc, value.get(), columns, keys, u)),
-        Expr::IsNull(value) => null_test(alloc, bind(alloc, value.get(), columns, keys, u)),
+        Expr::Neg(value) => neg(alloc, bind_part(alloc, value.get(), columns, keys, u)),
+        Expr::Not(value) => not(alloc, bind_part(alloc, value.get(), columns, keys, u)),
+        Expr::IsNull(value) => null_test(alloc, bind_part(alloc, value.get(), columns, keys, u)),
         Expr::Between { value, low, high } => placed(
             alloc,
-            bind(alloc, value.get(), columns, keys, u),
-            bind(alloc, low.get(), columns, keys, u),
-            bind(alloc, high.get(), columns, keys, u),
+            bind_part(alloc, value.get(), columns, keys, u),
+            bind_part(alloc, low.get(), columns, keys, u),
+            bind_part(alloc, high.get(), columns, keys, u),
         ),
         Expr::OneOf { value, of } => listed(
             alloc,
-            bind(alloc, value.get(), columns, keys, u),
+            bind_part(alloc, value.get(), columns, keys, u),
             bind_each(alloc, of.as_slice(), columns, keys, u),
         ),
-        Expr::Cast { to, value } => cast(alloc, *to, bind(alloc, value.get(), columns, keys, u)),
+        Expr::Cast { to, value } => cast(alloc, *to, bind_part(alloc, value.get(), columns, keys, u)),
         Expr::Call { func, args } => call(
             *func,
             bind_each(alloc, args.as_slice(), columns, keys, u),

@@ -65,6 +65,8 @@ pub enum Bound {
         kind: AggKind,
         value: Boxed<Bound>,
     },
+    /// One no part of which makes a text, so that its value takes no memory.
+    Plain(Boxed<Bound>),
 }
 
 impl Drop for Bound {
@@ -95,7 +97,8 @@ impl Drop for Bound {
                 otherwise: _,
             }
             | Bound::CountAll
-            | Bound::Agg { kind: _, value: _ } => {}
+            | Bound::Agg { kind: _, value: _ }
+            | Bound::Plain(_) => {}
         }
     }
 }

@@ -8,6 +8,7 @@ mod binding;
 mod forms;
 mod leaves;
 mod nodes;
+mod settled;
 
 pub use binding::{bind, bind_each};
 pub use forms::{Bound, BoundWhen, BoundWhens, Bounded};

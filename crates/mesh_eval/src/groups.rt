@@ -71,26 +71,26 @@ fn key_lists(
     value_rows(alloc, keys.as_slice(), rows)
 }
 
-/// The row of a group, where HAVING is true.
-fn group_row<'v>(
+/// Adds the row of a group, where HAVING is true.
+fn add_row<'v>(
     alloc: Global,
     o: &'v Output,
     key_values: &'v [Cell],
     rows: &'v JoinedRows<'v>,
     places: &'v [usize],
-) -> Result<Rows, Memory>
-    ensures { IfOk result (λ made. made ≡ output_row o.now (record { key_values = key_values.now; rows = picked rows.now.rows places.now })) }
+    made: &mut Rows,
+) -> Result<(), Memory>
+    ensures { OnOk result (made.new ≡ made.old ++ output_row o.now (record { key_values = key_values.now; rows = picked rows.now.rows places.now })) }
 {
     let f = Frame {
         row: &[],
         key_values,
         group: Some(Members { rows, places }),
     };
-    let mut made = Rows::new(alloc);
     if is_met(alloc, &o.having, &f)? {
-        push_made(&mut made, values_of(alloc, o.items.as_slice(), &f))?;
+        push_made(made, values_of(alloc, o.items.as_slice(), &f))?;
     }
-    Ok(made)
+    Ok(())
 }
 
 fn all_places(alloc: Global, count: usize) -> Result<Vec<usize>, Memory>
@@ -108,7 +108,9 @@ fn row_of_all(alloc: Global, o: &Output, rows: &JoinedRows) -> Result<Rows, Memo
     ensures { IfOk result (λ made. made ≡ output_row o.now (record { key_values = []; rows = rows.now.rows })) }
 {
     let all = all_places(alloc, rows.len())?;
-    group_row(alloc, o, &[], rows, all.as_slice())
+    let mut made = Rows::new(alloc);
+    add_row(alloc, o, &[], rows, all.as_slice(), &mut made)?;
+    Ok(made)
 }
 
 /// Adds the row of the group of a key. `found` is for the places of its rows.
@@ -124,8 +126,7 @@ fn add_group(
     ensures { OnOk result (made.new ≡ made.old ++ output_row o.now (record { key_values = key.now; rows = picked rows.now.rows (places (same_row key.now) index.now) })) }
 {
     index.find(key, found)?;
-    let own = group_row(alloc, o, key.as_slice(), rows, found.as_slice())?;
-    made.append(own)
+    add_row(alloc, o, key.as_slice(), rows, found.as_slice(), made)
 }
 
 /// The rows of the groups of equal keys, by the index of these.

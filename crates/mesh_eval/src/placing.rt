@@ -11,7 +11,6 @@ use mesh_bound::{Bound, Bounded, bind};
 use mesh_expressions::{Frame, holds, lent_at, value_alone};
 use mesh_joined::JoinedRows;
 use mesh_list::{Duplicate, Memory, push_made};
-use mesh_operators::kept;
 use mesh_values::{Bounds, Cell, Columns, Row, Rows};
 use std::alloc::Global;
 
@@ -89,7 +88,7 @@ fn value_at<'a, 'x>(alloc: Global, b: &Bound, row: &'a [&'x [Cell]]) -> Result<C
     match b {
         Bound::Lies(spot) => lent_at(row, *spot).into_cell(),
         Bound::Known(cell) => cell.copy(),
-        _ => kept(value_alone(alloc, b, row)),
+        _ => value_alone(alloc, b, row),
     }
 }
 

@@ -21,7 +21,7 @@ use Rattle.mesh_bound.specs.declared.forms.Bound.{Bound}
 use Rattle.mesh_bound.specs.declared.forms.Bound as bound
 use Rattle.mesh_bound.specs.declared.forms.BoundWhen.{BoundWhen, out-BoundWhen, roll-out-BoundWhen, fold-roll-BoundWhen}
 use Rattle.mesh_bound.specs.Meaning.{Given, bound_value, bound_each, bound_when, bound_whens, bound_here, when_here, row_alone, over_rows}
-use Rattle.mesh_bound.proofs.Parts.{value_of_binary, value_of_neg, value_of_not, value_of_is_null, value_of_between, value_of_one_of, value_of_cast, value_of_call, value_of_case, value_of_agg}
+use Rattle.mesh_bound.proofs.Parts.{value_of_binary, value_of_neg, value_of_not, value_of_is_null, value_of_between, value_of_one_of, value_of_cast, value_of_call, value_of_case, value_of_agg, value_of_plain}
 
 -- what is had of an answer, by another name
 pub named : {A E : Type 0} (r : Result A E) (x y : A) → IfOk r (λ v. v ≡ x) → x ≡ y → IfOk r (λ v. v ≡ y)
@@ -79,6 +79,9 @@ pub of-agg : (b : Bound) (kind : AggKind) (value x : Bound) (g : Given) → b �
     → over_rows (λ rows. agg_value kind (map (λ row. bound_value x (row_alone row)) rows)) g.group ≡ bound_value b g
 of-agg b kind value x g is f =
     (λ i. over_rows (λ rows. agg_value kind (map (λ row. bound_value (f i) (row_alone row)) rows)) g.group) ∙ sym (value_of_agg kind value g) ∙ ap (λ x. bound_value x g) (sym is)
+
+pub of-plain : (b value x : Bound) (g : Given) → b ≡ bound.Plain value → x ≡ value → bound_value x g ≡ bound_value b g
+of-plain b value x g is f = ap (λ y. bound_value y g) f ∙ sym (value_of_plain value g) ∙ ap (λ x. bound_value x g) (sym is)
 
 pub when_is : (w : BoundWhen) (g : Given) → bound_when w g ≡ (bound_value w.test g, bound_value w.value g)
 when_is w g = ap (λ x. bound_when x g) (sym (roll-out-BoundWhen w)) ∙ ap (λ v. v g) (fold-roll-BoundWhen (Given → Cell) (Given → Cell × Cell) bound_here when_here (out-BoundWhen w))

@@ -4,12 +4,12 @@ ghost use Rattle.mesh_meaning.specs.Cells.{is_true};
 ghost use Rattle.mesh_bound.specs.Meaning.{bound_value};
 ghost use Rattle.mesh_expressions.specs.Frames.{given_of};
 
-use crate::frames::{Frame, lent_at};
-use crate::values::{is_met, operated, value_of};
+use crate::frames::Frame;
+use crate::plain::plain_of;
+use crate::values::{is_met, value_of};
 use mesh_base::Op;
 use mesh_bound::Bound;
 use mesh_list::Memory;
-use mesh_operators::Held;
 use std::alloc::Global;
 
 fn is_and(op: Op) -> bool
@@ -18,14 +18,12 @@ fn is_and(op: Op) -> bool
     matches!(op, Op::And)
 }
 
-/// The value of a side, which is read where it lies without a further call.
-fn side<'v>(alloc: Global, b: &'v Bound, f: &Frame<'v, 'v>) -> Result<Held<'v>, Memory>
-    ensures { IfOk result (λ v. v ≡ bound_value b.now (given_of f.now)) }
+fn plain_holds<'v>(alloc: Global, b: &'v Bound, f: &Frame<'v, 'v>) -> Result<bool, Memory>
+    ensures { IfOk result (λ t. t ≡ is_true (bound_value b.now (given_of f.now))) }
 {
-    match b {
-        Bound::Lies(spot) => Ok(lent_at(f.row, *spot)),
-        Bound::Known(cell) => Ok(Held::lent(cell)),
-        _ => value_of(alloc, b, f),
+    match plain_of(b, f) {
+        Some(p) => Ok(p.is_true()),
+        None => is_met(value_of(alloc, b, f)),
     }
 }
 
@@ -34,11 +32,12 @@ pub fn holds<'v>(alloc: Global, b: &'v Bound, f: &Frame<'v, 'v>) -> Result<bool,
     ensures { IfOk result (λ t. t ≡ is_true (bound_value b.now (given_of f.now))) }
 {
     match b {
+        Bound::Plain(value) => plain_holds(alloc, value.get(), f),
         Bound::Binary { op, left, right } => {
             if is_and(*op) {
                 return Ok(holds(alloc, left.get(), f)? && holds(alloc, right.get(), f)?);
             }
-            is_met(operated(*op, side(alloc, left.get(), f), side(alloc, right.get(), f)))
+            is_met(value_of(alloc, b, f))
         }
         _ => is_met(value_of(alloc, b, f)),
     }

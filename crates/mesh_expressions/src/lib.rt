@@ -7,6 +7,7 @@
 mod aggregates;
 mod conditions;
 mod frames;
+mod plain;
 mod values;
 
 pub use conditions::holds;

@@ -8,16 +8,18 @@ ghost use Rattle.mesh_meaning.specs.Aggregates.{agg_value, count_of};
 ghost use Rattle.mesh_bound.specs.Meaning.{bound_value, bound_each, bound_when, bound_whens, row_alone, over_rows};
 ghost use Rattle.mesh_expressions.specs.Frames.{given_of, members};
 ghost use Rattle.mesh_joined.specs.Joined.{shown};
+ghost use Rattle.mesh_operators.specs.Plain.{cell_of};
 
 use crate::aggregates::aggregate;
 use crate::frames::{Frame, Members, key_value, lent_at, lent_rows, row_frame};
+use crate::plain::plain_of;
 use mesh_base::{AggKind, Func, Op};
 use mesh_bound::{Bound, BoundWhen};
 use mesh_casts::cast;
 use mesh_list::{Memory, push_made, together};
 use mesh_operators::{
-    Held, Helds, call, call_one, equal, is_null, is_true, kept, lies_between, made_of, negate, not,
-    operate, or,
+    Held, Helds, Plain, call, call_one, equal, is_null, kept, lies_between, made_of, negate, not,
+    operate_cells, or,
 };
 use mesh_values::{Cell, ColType, Row};
 use std::alloc::Global;
@@ -32,7 +34,19 @@ pub fn value_of<'v>(alloc: Global, b: &'v Bound, f: &Frame<'v, 'v>) -> Result<He
         Bound::Lies(spot) => Ok(lent_at(f.row, *spot)),
         Bound::Known(cell) => Ok(Held::lent(cell)),
         Bound::Key(k) => Ok(key_value(f.key_values, *k)),
+        Bound::Plain(value) => marked_value(alloc, value.get(), f),
         _ => operator_value(alloc, b, f),
+    }
+}
+
+/// The value of an expression that is marked as one that takes no memory.
+#[cycle(values)]
+fn marked_value<'v>(alloc: Global, b: &'v Bound, f: &Frame<'v, 'v>) -> Result<Held<'v>, Memory>
+    ensures { IfOk result (λ v. v ≡ bound_value b.now (given_of f.now)) }
+{
+    match plain_of(b, f) {
+        Some(p) => made_of(p.into_cell()),
+        None => value_of(alloc, b, f),
     }
 }
 
@@ -89,12 +103,13 @@ fn node_value<'v>(alloc: Global, b: &'v Bound, f: &Frame<'v, 'v>) -> Result<Held
         }
         Bound::CountAll => Ok(Held::made(count_group(f))),
         Bound::Agg { kind, value } => over_group(alloc, *kind, value.get(), f),
+        Bound::Plain(value) => value_of(alloc, value.get(), f),
     }
 }
 
 // The value of a node where each operand has its own, outside the recursion.
 
-pub(crate) fn operated<'v>(
+fn operated<'v>(
     op: Op,
     left: Result<Held, Memory>,
     right: Result<Held, Memory>,
@@ -102,7 +117,7 @@ pub(crate) fn operated<'v>(
     ensures { (x y : Cell) → IfOk left.entry (λ v. v ≡ x) → IfOk right.entry (λ v. v ≡ y) → IfOk result (λ v. v ≡ op_value op x y) }
 {
     match (&left, &right) {
-        (Ok(x), Ok(y)) => made_of(operate(op, x.get(), y.get())),
+        (Ok(x), Ok(y)) => made_of(operate_cells(op, x.get(), y.get())),
         _ => Err(Memory),
     }
 }
@@ -110,13 +125,13 @@ pub(crate) fn operated<'v>(
 fn negated<'v>(value: Result<Held, Memory>) -> Result<Held<'v>, Memory>
     ensures { (x : Cell) → IfOk value.entry (λ v. v ≡ x) → IfOk result (λ v. v ≡ negative x) }
 {
-    Ok(Held::made(negate(value?.get())))
+    made_of(negate(Plain::of(value?.get())).into_cell())
 }
 
 fn opposed<'v>(value: Result<Held, Memory>) -> Result<Held<'v>, Memory>
     ensures { (x : Cell) → IfOk value.entry (λ v. v ≡ x) → IfOk result (λ v. v ≡ opposite x) }
 {
-    Ok(Held::made(not(value?.get())))
+    made_of(not(Plain::of(value?.get())).into_cell())
 }
 
 fn null_test<'v>(value: Result<Held, Memory>) -> Result<Held<'v>, Memory>
@@ -133,7 +148,14 @@ fn placed<'v>(
     ensures { (x a b : Cell) → IfOk value.entry (λ v. v ≡ x) → IfOk low.entry (λ v. v ≡ a) → IfOk high.entry (λ v. v ≡ b) → IfOk result (λ v. v ≡ between x a b) }
 {
     let (x, (a, b)) = together(value, together(low, high))?;
-    Ok(Held::made(lies_between(x.get(), a.get(), b.get())))
+    made_of(
+        lies_between(
+            Plain::of(x.get()),
+            Plain::of(a.get()),
+            Plain::of(b.get()),
+        )
+        .into_cell(),
+    )
 }
 
 fn converted<'v>(
@@ -165,7 +187,7 @@ fn null_if<'v>(
     ensures { (x y : Cell) → IfOk left.entry (λ v. v ≡ x) → IfOk right.entry (λ v. v ≡ y) → IfOk result (λ v. v ≡ func_value Func.Nullif (x ∷ y ∷ [])) }
 {
     let (x, y) = together(left, right)?;
-    let same = is_true(&equal(x.get(), y.get()));
+    let same = equal(Plain::of(x.get()), Plain::of(y.get())).is_true();
     drop(y);
     if same {
         drop(x);
@@ -176,21 +198,16 @@ fn null_if<'v>(
 }
 
 // Whether one was found before, or x equals one more value.
-fn or_equal(found: Cell, x: &Held, value: Result<Held, Memory>) -> Result<Cell, Memory>
-    ensures { (y : Cell) → IfOk value.entry (λ v. v ≡ y) → IfOk result (λ v. v ≡ either found (compared is_eq x.now y)) }
+fn or_equal<'v>(
+    found: Plain,
+    x: &Held,
+    value: Result<Held, Memory>,
+) -> Result<Plain<'v>, Memory>
+    ensures { (y : Cell) → IfOk value.entry (λ v. v ≡ y) → IfOk result (λ v. cell_of v ≡ either (cell_of found.entry) (compared is_eq x.now y)) }
 {
     match value {
-        Ok(y) => {
-            let same = equal(x.get(), y.get());
-            drop(y);
-            let made = or(&found, &same);
-            drop((found, same));
-            Ok(made)
-        }
-        Err(Memory) => {
-            drop(found);
-            Err(Memory)
-        }
+        Ok(y) => Ok(or(found, equal(Plain::of(x.get()), Plain::of(y.get())))),
+        Err(Memory) => Err(Memory),
     }
 }
 
@@ -199,7 +216,7 @@ pub(crate) fn is_met(value: Result<Held, Memory>) -> Result<bool, Memory>
     ensures { (x : Cell) → IfOk value.entry (λ v. v ≡ x) → IfOk result (λ b. b ≡ is_true x) }
 {
     let value = value?;
-    let met = is_true(value.get());
+    let met = Plain::of(value.get()).is_true();
     drop(value);
     Ok(met)
 }
@@ -291,13 +308,13 @@ fn one_equals<'v>(
 ) -> Result<Held<'v>, Memory>
     ensures { IfOk result (λ v. v ≡ one_of x.now (bound_each all.now (given_of f.now))) }
 {
-    let mut found = Cell::Bool(false);
+    let mut found = Plain::Bool(false);
     for b in all {
-        if !is_true(&found) {
+        if !found.is_true() {
             found = or_equal(found, x, value_of(alloc, b, f))?;
         }
     }
-    Ok(Held::made(found))
+    made_of(found.into_cell())
 }
 
 /// The value of the first WHEN that is true.
@@ -374,13 +391,27 @@ fn value_rows<'v>(
     Ok(made)
 }
 
+/// The cell of an expression that is marked as one that takes no memory.
+fn marked_cell<'v>(alloc: Global, b: &'v Bound, f: &Frame<'v, 'v>) -> Result<Cell, Memory>
+    ensures { IfOk result (λ v. v ≡ bound_value b.now (given_of f.now)) }
+{
+    match plain_of(b, f) {
+        Some(p) => p.into_cell(),
+        None => kept(value_of(alloc, b, f)),
+    }
+}
+
 /// The value at a row by itself.
 pub fn value_alone<'v>(
     alloc: Global,
     value: &'v Bound,
     row: &'v [&'v [Cell]],
-) -> Result<Held<'v>, Memory>
+) -> Result<Cell, Memory>
     ensures { IfOk result (λ v. v ≡ bound_value value.now (row_alone (shown row.now))) }
 {
-    value_of(alloc, value, &row_frame(row))
+    let f = row_frame(row);
+    match value {
+        Bound::Plain(b) => marked_cell(alloc, b.get(), &f),
+        _ => kept(value_of(alloc, value, &f)),
+    }
 }

@@ -23,6 +23,7 @@ house_told told h = counted (told h.keeper) h.calls h.unread
 -- a house that began over this keeper
 pub record Starts {K : Type 0} {d : _} (told : K → KeeperTold) (keeper : K) (house : KeptHouse K d) : Type 0 where
   pub world : (house_told told house).world ≡ told_world (option_map begun (told keeper).records)
+  pub records : (told house.keeper).records ≡ option_map begun (told keeper).records
   pub calls : house.calls ≡ 0
   pub unread : house.unread ≡ 0
   pub faults : (told keeper).faults ≤ (told house.keeper).faults

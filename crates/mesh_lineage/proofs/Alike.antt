@@ -1,18 +1,15 @@
 -- Lists that have the same items: put behind one another, and gathered one by one.
-use Rattle.std.proofs.Common.{◌≡◌, ℕ, ◌+◌, ◌<◌, ◌≤◌, ◌⊎◌, inl, inr, List, [], ◌∷◌, ◌++◌, length, map, take, sym, ap, ◌∙◌, subst, append-nil, append_assoc}
+use Rattle.std.proofs.Common.{◌≡◌, ℕ, zero, suc, ◌+◌, ◌<◌, ◌≤◌, ◌⊎◌, inl, inr, List, [], ◌∷◌, ◌++◌, length, map, take, refl, sym, ap, ◌∙◌, subst, append-nil, append_assoc, arith}
 use Rattle.std.specs.List.{flat_map, slice_index_or}
+use Rattle.std.specs.List.Sorted.{IsPermutation}
 use Rattle.std.specs.Cmp.{IsTotalOrder}
 use Rattle.std.specs.declared.cmp.Ordering.{Ordering}
-use Rattle.std.specs.Ordering.{nat_cmp, ordering_then}
 use Rattle.std.specs.BTreeSet.{BTreeSet, IsFromIterResult}
 use Rattle.std.proofs.lemmas.List.{take_all, take_more}
 use Rattle.std.proofs.lemmas.Grind.{flat_map-append}
-use Rattle.std.proofs.lemmas.Cmp.{nat_cmp_total, on_total, then_total}
-use Rattle.std.proofs.lemmas.Map.Lookups.{exact_bytes, exact_pairs, exact_unsigned, CmpEqualImpliesEq}
+use Rattle.std.proofs.lemmas.List.Sorted.{Contains-permutation, IsPermutation-sym}
+use Rattle.std.proofs.lemmas.Map.Lookups.{CmpEqualImpliesEq}
 use Rattle.std.proofs.lemmas.Map.Views.{btree_set_contains_from_list, btree_set_contains_iff}
-use Rattle.mesh_values.specs.Names.{text_cmp}
-use Rattle.mesh_values.specs.NameOrder.{texts_total}
-use Rattle.mesh_meaning.specs.Named.{Place}
 use Rattle.mesh_laws.proofs.Has.{Has, Has_from, Has_to, Has_left, Has_right, Has_cases, Has_flat, Has_flat_from, Has_map, Has_map_from}
 use Rattle.mesh_lineage.specs.Alike.{IsAlike}
 
@@ -54,13 +51,12 @@ module _ {Y : Type 0} where
       (λ y h. back next (now ++ more) a y (then_within old now more more (back now old b) (λ x k. k) y h))
 
   -- what each of some items gives, where they stand in a list in another order or oftener
-  pub given_alike : {X : Type 0} (f : X → List Y) (xs ys whole : List X) (old new : List Y) → new ≡ old ++ flat_map f xs → IsAlike xs ys → ys ≡ whole → IsAlike new (old ++ flat_map f whole)
-  given_alike f xs ys whole old new is a all =
+  pub given_alike : {X : Type 0} (f : X → List Y) (xs ys whole : List X) (old new : List Y) → IsAlike new (old ++ flat_map f xs) → IsAlike xs ys → ys ≡ whole → IsAlike new (old ++ flat_map f whole)
+  given_alike f xs ys whole old new a b all =
       subst (λ l. IsAlike new (old ++ flat_map f l)) all
-      (subst (λ l. IsAlike l (old ++ flat_map f ys)) (sym is)
-      (alike (old ++ flat_map f xs) (old ++ flat_map f ys)
-      (then_within old old (flat_map f xs) (flat_map f ys) (λ x k. k) (each_within f xs ys (there xs ys a)))
-      (then_within old old (flat_map f ys) (flat_map f xs) (λ x k. k) (each_within f ys xs (back xs ys a)))))
+      (alike new (old ++ flat_map f ys)
+      (λ y h. then_within old old (flat_map f xs) (flat_map f ys) (λ x k. k) (each_within f xs ys (there xs ys b)) y (there new (old ++ flat_map f xs) a y h))
+      (λ y h. back new (old ++ flat_map f xs) a y (then_within old old (flat_map f ys) (flat_map f xs) (λ x k. k) (each_within f ys xs (back xs ys b)) y h)))
 
   -- one item more, and all of them
   pub one_more : {X : Type 0} (f : X → List Y) (xs : List X) (i : ℕ) (x : X) (old now next : List Y) → i < length xs → x ≡ slice_index_or xs i x
@@ -72,6 +68,15 @@ module _ {Y : Type 0} where
       ∙ flat_map-append f (take i xs) (x ∷ [])
       ∙ ap (λ l. front ++ l) (append-nil (f x)) in
       subst (IsAlike next) (append_assoc old front (f x) ∙ ap (λ l. old ++ l) (sym more)) (behind next now (old ++ front) (f x) b a)
+
+  -- an item more that gives what one before it gives
+  pub once_more : {X : Type 0} (f : X → List Y) (xs : List X) (i : ℕ) (x y : X) (old now : List Y) → i < length xs → x ≡ slice_index_or xs i x
+      → Has y (take i xs) → f y ≡ f x → IsAlike now (old ++ flat_map f (take i xs)) → IsAlike now (old ++ flat_map f (take (i + 1) xs))
+  once_more {X} f xs i x y old now inside is h same a = one_more f xs i x old now now inside is a (alike now (now ++ f x) (λ z k. Has_left z now (f x) k) (λ z k. go z (Has_cases z now (f x) k)))
+    where
+      go : (z : Y) → Has z now ⊎ Has z (f x) → Has z now
+      go z (inl k) = k
+      go z (inr k) = back now (old ++ flat_map f (take i xs)) a z (Has_right z old (flat_map f (take i xs)) (Has_flat f (take i xs) y z h (subst (Has z) (sym same) k)))
 
   pub all_taken : {X : Type 0} (f : X → List Y) (xs : List X) (i : ℕ) (old now : List Y) → length xs ≤ i → IsAlike now (old ++ flat_map f (take i xs)) → IsAlike now (old ++ flat_map f xs)
   all_taken f xs i old now over a = subst (λ l. IsAlike now (old ++ flat_map f l)) (take_all i xs over) a
@@ -87,15 +92,16 @@ set_alike R total exact given set made k =
     let all = btree_set_contains_from_list total exact given set made k in
     (λ c. all.0 (keys.1 c), λ c. keys.0 (all.1 c))
 
--- places by item, and then by column
-abbrev pub place_cmp : Place → Place → Ordering
-place_cmp a b = ordering_then (nat_cmp a.0 b.0) (text_cmp a.1 b.1)
+-- a list in another order has what stands in it
+pub permuted_alike : {X : Type 0} (xs ys : List X) → IsPermutation xs ys → IsAlike ys xs
+permuted_alike xs ys p x = (Contains-permutation ys xs x (IsPermutation-sym xs ys p), Contains-permutation xs ys x p)
 
-places_total : IsTotalOrder place_cmp
-places_total = then_total (on_total (λ (p : Place). p.0) nat_cmp_total) (on_total (λ (p : Place). p.1) texts_total)
+-- an item that stands before another
+pub before : {X : Type 0} (xs : List X) (i k : ℕ) (d : X) → k < i → i ≤ length xs → Has (slice_index_or xs k d) (take i xs)
+before [] i k d l m = absurd (omega arith)
+before (x ∷ xs) zero k d l m = absurd (omega arith)
+before (x ∷ xs) (suc i) zero d l m = inl refl
+before (x ∷ xs) (suc i) (suc k) d l m = inr (before xs i k d (omega arith) (omega arith))
 
-places_exact : CmpEqualImpliesEq place_cmp
-places_exact = exact_pairs nat_cmp text_cmp exact_unsigned exact_bytes
-
-pub places_alike : (places : List Place) (set : BTreeSet Place) → IsFromIterResult place_cmp places set → IsAlike set.keys places
-places_alike places set made = set_alike place_cmp places_total places_exact places set made
+pub equal_alike : {X : Type 0} (xs ys : List X) → xs ≡ ys → IsAlike xs ys
+equal_alike xs ys e = subst (IsAlike xs) e (λ x. (λ h. h, λ h. h))

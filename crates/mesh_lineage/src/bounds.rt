@@ -5,12 +5,14 @@ ghost use Rattle.mesh_steady.specs.Steady.{bounds, bounds_in, is_bound, is_colum
 ghost use Rattle.mesh_lineage.specs.Bound.{AreBound, Gains, has_place};
 ghost use Rattle.mesh_lineage.specs.Reaches.{bounds_parts};
 
-use crate::columns::Places;
 use crate::ends::{are_ends, is_and, is_column};
 use mesh_base::{Expr, FromItem, Join, Select};
 use mesh_list::{Duplicate, Memory, Seq};
 use mesh_values::{Str, same_text};
 use std::alloc::Global;
+
+/// A FROM item's place and a column's name.
+type Places = Seq<(u32, Str)>;
 
 // A condition has, among the conjuncts at its top, one that binds this column to the unit. The right side is looked at
 // first, which is mostly one conjunct, and the left one all those before it.

@@ -3,21 +3,18 @@ ghost use Rattle.std.specs.Prelude.{◌≡◌, ◌++◌, OnOk, map};
 ghost use Rattle.std.specs.List.{flat_map};
 ghost use Rattle.mesh_meaning.specs.Named.{columns, when_columns};
 
+use crate::named::Named;
 use mesh_base::{Expr, When};
-use mesh_list::{Duplicate, Memory, Seq};
-use mesh_values::Str;
-
-/// A FROM item's place and a column's name.
-pub(crate) type Places = Seq<(u32, Str)>;
+use mesh_list::Memory;
 
 /// Puts the columns of an expression behind others.
 #[cycle(columns)]
-pub(crate) fn add_columns(e: &Expr, places: &mut Places) -> Result<(), Memory>
+pub(crate) fn add_columns<'a>(e: &'a Expr, places: &mut Named<'a>) -> Result<(), Memory>
     ensures { OnOk result (places.new ≡ places.old ++ columns e.now) }
 {
     match e {
         Expr::Literal(_) | Expr::Macro(_) | Expr::CountAll => Ok(()),
-        Expr::Col { item, name } => places.push((*item, name.copy()?)),
+        Expr::Col { item, name } => places.push(*item, name),
         Expr::Neg(value)
         | Expr::Not(value)
         | Expr::IsNull(value)
@@ -45,7 +42,7 @@ pub(crate) fn add_columns(e: &Expr, places: &mut Places) -> Result<(), Memory>
 }
 
 #[cycle(columns)]
-pub(crate) fn add_all_columns(es: &[Expr], places: &mut Places) -> Result<(), Memory>
+pub(crate) fn add_all_columns<'a>(es: &'a [Expr], places: &mut Named<'a>) -> Result<(), Memory>
     ensures { OnOk result (places.new ≡ places.old ++ flat_map (λ x. x) (map columns es.now)) }
 {
     for e in es {
@@ -55,7 +52,7 @@ pub(crate) fn add_all_columns(es: &[Expr], places: &mut Places) -> Result<(), Me
 }
 
 #[cycle(columns)]
-fn add_whens_columns(whens: &[When], places: &mut Places) -> Result<(), Memory>
+fn add_whens_columns<'a>(whens: &'a [When], places: &mut Named<'a>) -> Result<(), Memory>
     ensures { OnOk result (places.new ≡ places.old ++ flat_map (λ x. x) (map when_columns whens.now)) }
 {
     for w in whens {

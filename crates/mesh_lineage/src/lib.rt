@@ -11,6 +11,7 @@ mod ends;
 mod joins;
 mod laws;
 mod macros;
+mod named;
 mod once;
 mod projects;
 mod reaches;

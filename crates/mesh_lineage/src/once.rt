@@ -1,25 +1,15 @@
-// The columns that a SELECT names, each once, and readings, each once.
+// Readings, each once.
 ghost use Rattle.std.specs.Prelude.{◌≡◌, IfOk};
 ghost use Rattle.mesh_laws.specs.Reads.{in_order, reading_cmp, reading_itself};
 ghost use Rattle.mesh_list.specs.Keyed.{ascends};
-ghost use Rattle.mesh_lineage.specs.Alike.{IsAlike};
 ghost use Rattle.mesh_lineage.specs.Pairs.{as_readings};
 
-use crate::columns::Places;
 use mesh_base::{Reading, Reads};
 use mesh_list::{Memory, Seq};
 use mesh_values::{Name, Str};
 use std::alloc::Global;
 use std::cmp::Ordering;
 use std::collections::BTreeSet;
-
-/// By FROM item and then by column. They are sorted at one go, and two numbers are told apart sooner than two names.
-pub(crate) fn each_once(alloc: Global, places: Places) -> Result<BTreeSet<(u32, Str)>, Memory>
-    ensures { IfOk result (λ set. IsAlike set.keys places) }
-{
-    let set: BTreeSet<(u32, Str)> = places.into_vec().into_iter().collect(alloc)?;
-    Ok(set)
-}
 
 fn as_pairs(alloc: Global, all: Reads) -> Result<Vec<(Name, Str)>, Memory>
     ensures { IfOk result (λ made. as_readings made.items ≡ all) }

@@ -1,22 +1,23 @@
 // The columns that a definition reads.
-ghost use Rattle.std.specs.Prelude.{◌≡◌, ◌++◌, IfOk, OnOk, map, flat_map};
+ghost use Rattle.std.specs.Prelude.{◌≡◌, ◌<◌, ◌++◌, IfOk, OnOk, IsTrue, map, flat_map, length};
 ghost use Rattle.std.specs.Option.{option_to_list};
 ghost use Rattle.mesh_base.specs.declared.queries.Item.{Item};
 ghost use Rattle.mesh_meaning.specs.Named.{columns};
 ghost use Rattle.mesh_laws.specs.Reads.{expressions, on_of, query_readings, reading_at, readings, rel_reading, select_readings, selects_readings};
 ghost use Rattle.mesh_lineage.specs.Alike.{IsAlike};
+ghost use Rattle.mesh_lineage.specs.Named.{IsAgain, place_of, places_of};
 
-use crate::columns::{Places, add_all_columns, add_columns};
-use crate::once::{each_once, in_order};
+use crate::columns::{add_all_columns, add_columns};
+use crate::named::Named;
+use crate::once::in_order;
 use mesh_base::{
     Defn, Expr, FromItem, Froms, Item, Own, Query, Reading, Reads, Rel, Select, Selects,
 };
 use mesh_list::{Duplicate, Memory, Seq};
-use mesh_values::Str;
+use mesh_values::{Str, same_text};
 use std::alloc::Global;
-use std::collections::BTreeSet;
 
-fn add_items_columns(items: &[Item], places: &mut Places) -> Result<(), Memory>
+fn add_items_columns<'a>(items: &'a [Item], places: &mut Named<'a>) -> Result<(), Memory>
     ensures { OnOk result (places.new ≡ places.old ++ flat_map columns (map (λ (i : Item). i.expr) items.now)) }
 {
     for i in items {
@@ -25,7 +26,7 @@ fn add_items_columns(items: &[Item], places: &mut Places) -> Result<(), Memory>
     Ok(())
 }
 
-fn add_columns_in(condition: &Option<Expr>, places: &mut Places) -> Result<(), Memory>
+fn add_columns_in<'a>(condition: &'a Option<Expr>, places: &mut Named<'a>) -> Result<(), Memory>
     ensures { OnOk result (places.new ≡ places.old ++ flat_map columns (option_to_list condition.now)) }
 {
     match condition {
@@ -34,7 +35,7 @@ fn add_columns_in(condition: &Option<Expr>, places: &mut Places) -> Result<(), M
     }
 }
 
-fn add_on_columns(from: &[FromItem], places: &mut Places) -> Result<(), Memory>
+fn add_on_columns<'a>(from: &'a [FromItem], places: &mut Named<'a>) -> Result<(), Memory>
     ensures { OnOk result (places.new ≡ places.old ++ flat_map columns (on_of from.now)) }
 {
     for f in from {
@@ -44,10 +45,10 @@ fn add_on_columns(from: &[FromItem], places: &mut Places) -> Result<(), Memory>
 }
 
 // The columns that a SELECT names, in its order.
-fn select_columns(alloc: Global, s: &Select) -> Result<Places, Memory>
+fn select_columns<'a>(alloc: Global, s: &'a Select) -> Result<Named<'a>, Memory>
     ensures { IfOk result (λ places. places ≡ flat_map columns (expressions s.now)) }
 {
-    let mut places = Seq::new(alloc);
+    let mut places = Named::new(alloc);
     add_items_columns(s.items.as_slice(), &mut places)?;
     add_on_columns(s.from.as_slice(), &mut places)?;
     add_columns_in(&s.filter, &mut places)?;
@@ -56,18 +57,19 @@ fn select_columns(alloc: Global, s: &Select) -> Result<Places, Memory>
     Ok(places)
 }
 
-fn add_rel_reading(rel: &Rel, column: Str, made: &mut Reads) -> Result<(), Memory>
-    ensures { OnOk result (made.new ≡ made.old ++ rel_reading column rel.now) }
+fn add_rel_reading(rel: &Rel, column: &Str, made: &mut Reads) -> Result<(), Memory>
+    ensures { OnOk result (made.new ≡ made.old ++ rel_reading column.now rel.now) }
 {
     if let Rel::Named(name) = rel {
         let relation = name.copy()?;
+        let column = column.copy()?;
         made.push(Reading { relation, column })?;
     }
     Ok(())
 }
 
-fn add_reading(from: &Froms, item: u32, column: Str, made: &mut Reads) -> Result<(), Memory>
-    ensures { OnOk result (made.new ≡ made.old ++ reading_at from.now (item, column)) }
+fn add_reading(from: &Froms, item: u32, column: &Str, made: &mut Reads) -> Result<(), Memory>
+    ensures { OnOk result (made.new ≡ made.old ++ reading_at from.now (item, column.now)) }
 {
     match from.get(item as usize) {
         Some(f) => add_rel_reading(&f.rel, column, made),
@@ -75,24 +77,42 @@ fn add_reading(from: &Froms, item: u32, column: Str, made: &mut Reads) -> Result
     }
 }
 
-fn add_readings(from: &Froms, places: BTreeSet<(u32, Str)>, made: &mut Reads) -> Result<(), Memory>
-    ensures { OnOk result (made.new ≡ made.old ++ flat_map (reading_at from.now) places.keys) }
+fn same_place(a: &(u32, &Str), b: &(u32, &Str)) -> bool
+    ensures { IsTrue result → place_of a.now ≡ place_of b.now }
 {
-    for (item, column) in places {
-        add_reading(from, item, column, made)?;
+    a.0 == b.0 && same_text(a.1.as_slice(), b.1.as_slice())
+}
+
+// Whether the place before it is the same.
+fn is_again(places: &[(u32, &Str)], i: usize) -> bool
+    requires { i < length places.now }
+    ensures { IsTrue result → IsAgain places.now i }
+{
+    if i == 0 {
+        return false;
+    }
+    same_place(&places[i - 1], &places[i])
+}
+
+// They are sorted, so that those that stand twice stand side by side.
+fn add_readings(from: &Froms, places: &[(u32, &Str)], made: &mut Reads) -> Result<(), Memory>
+    ensures { OnOk result (IsAlike made.new (made.old ++ flat_map (reading_at from.now) (places_of places.now))) }
+{
+    for (i, p) in places.iter().enumerate() {
+        if !is_again(places, i) {
+            add_reading(from, p.0, p.1, made)?;
+        }
     }
     Ok(())
 }
 
-// Each once, so that a relation's name is copied no oftener.
+// Each once, so that no name is copied oftener.
 fn add_select_reads(s: &Select, made: &mut Reads) -> Result<(), Memory>
     ensures { OnOk result (IsAlike made.new (made.old ++ select_readings s.now)) }
 {
-    let alloc = made.alloc();
-    let all = select_columns(alloc, s)?;
-    let places = each_once(alloc, all)?;
-    add_readings(&s.from, places, made)?;
-    Ok(())
+    let mut places = select_columns(made.alloc(), s)?;
+    places.sort();
+    add_readings(&s.from, places.as_slice(), made)
 }
 
 fn add_selects_reads(selects: &[Select], made: &mut Reads) -> Result<(), Memory>

@@ -1,14 +1,19 @@
 //! The values of operators, functions and macros, where the operands are cells. Its contract: each call is its definition
-//! in `mesh_meaning`, and a `Held` is its cell, whether that lies elsewhere or was made. It stands on `mesh_list`,
-//! `mesh_values`, `mesh_days`, `mesh_casts`, `mesh_base` and the definitions of `mesh_meaning`.
+//! in `mesh_meaning`, a `Held` is its cell, whether that lies elsewhere or was made, and a `Plain` is one that owns no
+//! memory. It stands on `mesh_list`, `mesh_values`, `mesh_days`, `mesh_casts`, `mesh_base` and the definitions of
+//! `mesh_meaning`.
 #![tactic(auto)]
 
+mod casting;
 mod cells;
 mod held;
 mod macros;
+mod plain;
+mod texts;
 
-pub use cells::{
-    call, call_one, equal, has_null, is_null, is_true, lies_between, negate, not, operate, or,
-};
+pub use casting::cast_plain;
+pub use cells::{equal, has_null, is_null, lies_between, negate, not, operate, operate_cells, or};
 pub use held::{Held, Helds, kept, made_of};
 pub use macros::bound;
+pub use plain::Plain;
+pub use texts::{call, call_one, call_plain};

@@ -2,35 +2,37 @@
 ghost use Rattle.std.specs.Prelude.{◌≡◌, IfOk};
 ghost use Rattle.mesh_meaning.specs.Cells.{number};
 ghost use Rattle.mesh_meaning.specs.Macros.{macro_value, day_of_second, last_second};
+ghost use Rattle.mesh_operators.specs.Plain.{cell_of};
 
 use crate::cells::day_of;
+use crate::plain::Plain;
 use mesh_base::Var;
 use mesh_casts::cast;
 use mesh_list::Memory;
 use mesh_values::{Bounds, Cell, ColType};
 use std::alloc::Global;
 
-fn day_of_second(t: i64) -> Cell
-    ensures { result ≡ day_of_second t }
+fn day_of_second<'v>(t: i64) -> Plain<'v>
+    ensures { cell_of result ≡ day_of_second t }
 {
     day_of(t.div_euclid(86_400))
 }
 
-fn last_second(u: Bounds) -> Cell
-    ensures { result ≡ number (last_second u) }
+fn last_second<'v>(u: Bounds) -> Plain<'v>
+    ensures { cell_of result ≡ number (last_second u) }
 {
     match u.end.checked_sub(1) {
-        Some(t) => Cell::Int(t),
-        None => Cell::Null,
+        Some(t) => Plain::Int(t),
+        None => Plain::Null,
     }
 }
 
-fn last_day(u: Bounds) -> Cell
-    ensures { result ≡ day_of_second (last_second u) }
+fn last_day<'v>(u: Bounds) -> Plain<'v>
+    ensures { cell_of result ≡ day_of_second (last_second u) }
 {
     match u.end.checked_sub(1) {
         Some(t) => day_of_second(t),
-        None => Cell::Null,
+        None => Plain::Null,
     }
 }
 
@@ -39,11 +41,11 @@ pub fn bound(alloc: Global, var: Var, u: Bounds) -> Result<Cell, Memory>
     ensures { IfOk result (λ v. v ≡ macro_value var u) }
 {
     match var {
-        Var::StartDate => Ok(day_of_second(u.start)),
-        Var::EndDate => Ok(last_day(u)),
-        Var::StartDs => cast(alloc, ColType::Text, day_of_second(u.start)),
-        Var::EndDs => cast(alloc, ColType::Text, last_day(u)),
+        Var::StartDate => day_of_second(u.start).into_cell(),
+        Var::EndDate => last_day(u).into_cell(),
+        Var::StartDs => cast(alloc, ColType::Text, day_of_second(u.start).into_cell()?),
+        Var::EndDs => cast(alloc, ColType::Text, last_day(u).into_cell()?),
         Var::StartEpoch => Ok(Cell::Int(u.start)),
-        Var::EndEpoch => Ok(last_second(u)),
+        Var::EndEpoch => last_second(u).into_cell(),
     }
 }

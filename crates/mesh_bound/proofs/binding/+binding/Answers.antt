@@ -5,8 +5,11 @@ use Rattle.mesh_bound.specs.Meaning.{given_scope, row_alone}
 use Rattle.mesh_bound.proofs.Parts.{renamed, key_means, count_means, when_means, over-seen, of-binary, of-between, of-one_of, of-call, of-case, of-agg}
 use Rattle.mesh_bound.proofs.binding.+binding.Goals as goal
 
-pub bind-returns-in-Some : goal.bind-returns-in-Some
-bind-returns-in-Some t c = key_means c.args.u c.args.columns.now c.args.keys.now c.args.e.now c.in-Some.k (sym c.key_of.ensures ∙ c.in-Some.is)
+pub bind-returns : goal.bind-returns
+bind-returns t c = c.settled.ensures (λ g. Ev c.args.e.now (given_scope c.args.u c.args.columns.now c.args.keys.now g)) c.bind_part.ensures
+
+pub bind_part-returns-in-Some : goal.bind_part-returns-in-Some
+bind_part-returns-in-Some t c = key_means c.args.u c.args.columns.now c.args.keys.now c.args.e.now c.in-Some.k (sym c.key_of.ensures ∙ c.in-Some.is)
 
 pub bind_node-returns-in-Binary : goal.bind_node-returns-in-Binary
 bind_node-returns-in-Binary t c =
@@ -14,7 +17,7 @@ bind_node-returns-in-Binary t c =
     let n = c.in-Binary in
     let l = c.get.result.now in
     let r = c.get-in-Binary.result.now in
-    renamed c.binary.result _ _ (c.binary.ensures (λ g. Ev l (s g)) (λ g. Ev r (s g)) c.bind.ensures c.bind-in-Binary.ensures)
+    renamed c.binary.result _ _ (c.binary.ensures (λ g. Ev l (s g)) (λ g. Ev r (s g)) c.bind_side.ensures c.bind_side-in-Binary.ensures)
     (λ g. of-binary c.args.e.now n.op n.left n.right l r (s g) n.is c.get.ensures c.get-in-Binary.ensures)
 
 pub bind_node-returns-in-Between : goal.bind_node-returns-in-Between
@@ -24,7 +27,7 @@ bind_node-returns-in-Between t c =
     let x = c.get-in-Between.result.now in
     let a = c.get-in-Between-2.result.now in
     let b = c.get-in-Between-3.result.now in
-    renamed c.placed.result _ _ (c.placed.ensures (λ g. Ev x (s g)) (λ g. Ev a (s g)) (λ g. Ev b (s g)) c.bind-in-Between.ensures c.bind-in-Between-2.ensures c.bind-in-Between-3.ensures)
+    renamed c.placed.result _ _ (c.placed.ensures (λ g. Ev x (s g)) (λ g. Ev a (s g)) (λ g. Ev b (s g)) c.bind_part-in-Between.ensures c.bind_part-in-Between-2.ensures c.bind_part-in-Between-3.ensures)
     (λ g. of-between c.args.e.now n.value n.low n.high x a b (s g) n.is c.get-in-Between.ensures c.get-in-Between-2.ensures c.get-in-Between-3.ensures)
 
 pub bind_node-returns-in-OneOf : goal.bind_node-returns-in-OneOf
@@ -33,7 +36,7 @@ bind_node-returns-in-OneOf t c =
     let n = c.in-OneOf in
     let x = c.get-in-OneOf.result.now in
     let xs = c.as_slice.result.now in
-    renamed c.listed.result _ _ (c.listed.ensures (λ g. Ev x (s g)) (λ g. Ev_each xs (s g)) c.bind-in-OneOf.ensures c.bind_each.ensures)
+    renamed c.listed.result _ _ (c.listed.ensures (λ g. Ev x (s g)) (λ g. Ev_each xs (s g)) c.bind_part-in-OneOf.ensures c.bind_each.ensures)
     (λ g. of-one_of c.args.e.now n.value x n.of xs (s g) n.is c.get-in-OneOf.ensures c.as_slice.ensures)
 
 pub bind_node-returns-in-Call : goal.bind_node-returns-in-Call
@@ -50,7 +53,7 @@ bind_node-returns-in-Case t c =
     let n = c.in-Case in
     let ws = c.as_slice-in-Case.result.now in
     let x = c.get-in-Case.result.now in
-    renamed c.case.result _ _ (c.case.ensures (λ g. Ev_whens ws (s g)) (λ g. Ev x (s g)) c.bind_whens.ensures c.bind-in-Case.ensures)
+    renamed c.case.result _ _ (c.case.ensures (λ g. Ev_whens ws (s g)) (λ g. Ev x (s g)) c.bind_whens.ensures c.bind.ensures)
     (λ g. of-case c.args.e.now n.otherwise x n.whens ws (s g) n.is c.as_slice-in-Case.ensures c.get-in-Case.ensures)
 
 pub bind_node-returns-in-CountAll : goal.bind_node-returns-in-CountAll

@@ -1,4 +1,4 @@
-use Rattle.std.proofs.Common.{◌≡◌, [], get_or, IfOk, ap, subst, ◌∙◌}
+use Rattle.std.proofs.Common.{◌≡◌, [], ◌++◌, get_or, ap, ◌∙◌}
 use Rattle.std.specs.List.{range_with_len}
 use Rattle.mesh_expressions.specs.Frames.{picked}
 use Rattle.mesh_eval.specs.Placed.{output_row}
@@ -8,6 +8,7 @@ use Rattle.mesh_eval.proofs.groups.row_of_all.Goals as goal
 pub returns : goal.returns
 returns c =
     let rows = c.args.rows.now.rows in
-    subst (λ l. IfOk c.group_row.result (λ made. made ≡ output_row c.args.o.now (record { key_values = []; rows = l })))
+    c.in_ok-add_row.ensures
+    ∙ ap (λ made. made ++ output_row c.args.o.now (record { key_values = []; rows = picked rows c.as_slice.result.now })) c.new-made.ensures
+    ∙ ap (λ l. output_row c.args.o.now (record { key_values = []; rows = l }))
     (ap (picked rows) (c.as_slice.ensures.value ∙ c.in_ok-all.ensures ∙ ap (range_with_len 0) c.len.ensures) ∙ picked-all [] rows rows 0 (λ k. ap (λ n. get_or rows n []) (plus_0 k)))
-    c.group_row.ensures

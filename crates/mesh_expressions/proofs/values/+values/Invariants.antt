@@ -4,6 +4,7 @@ use Rattle.std.specs.declared.option.Option.TheVariants.{None}
 use Rattle.mesh_meaning.specs.Cells.{one_of, chosen, coalesce}
 use Rattle.mesh_bound.specs.Meaning.{bound_value, bound_each, bound_whens, row_alone}
 use Rattle.mesh_expressions.specs.Frames.{given_of, picked}
+use Rattle.mesh_operators.specs.Plain.{cell_of}
 use Rattle.mesh_expressions.proofs.values.+values.Given as goal
 
 abbrev pub invariant-values_of-loop-b : goal.invariant-values_of-loop-b
@@ -13,7 +14,7 @@ abbrev pub invariant-first_known-loop-b : goal.invariant-first_known-loop-b
 invariant-first_known-loop-b l = l.first ≡ coalesce (bound_each (take l.b-index l.all) (given_of l.f))
 
 abbrev pub invariant-one_equals-loop-b : goal.invariant-one_equals-loop-b
-invariant-one_equals-loop-b l = l.found ≡ one_of l.x (bound_each (take l.b-index l.all) (given_of l.f))
+invariant-one_equals-loop-b l = cell_of l.found ≡ one_of l.x (bound_each (take l.b-index l.all) (given_of l.f))
 
 abbrev pub invariant-first_true-loop-w : goal.invariant-first_true-loop-w
 invariant-first_true-loop-w l = l.found ≡ fold chosen None (bound_whens (take l.w-index l.whens) (given_of l.f))

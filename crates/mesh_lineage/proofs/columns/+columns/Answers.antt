@@ -1,4 +1,4 @@
-use Rattle.mesh_lineage.proofs.Named.{then_put, both_put, of-binary, of-between, of-one_of, of-case}
+use Rattle.mesh_lineage.proofs.ColumnsOf.{then_put, both_put, of-binary, of-between, of-one_of, of-case}
 use Rattle.mesh_lineage.proofs.columns.+columns.Goals as goal
 
 pub add_columns-returns-in_ok-add_columns-in-Binary : goal.add_columns-returns-in_ok-add_columns-in-Binary

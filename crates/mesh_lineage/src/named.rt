@@ -1,0 +1,60 @@
+// The columns that expressions name, where the names lie.
+ghost use Rattle.std.specs.Prelude.{◌≡◌, ◌++◌, ◌∷◌, [], OnOk};
+ghost use Rattle.mesh_lineage.specs.Alike.{IsAlike};
+ghost use Rattle.mesh_lineage.specs.Named.{places_of};
+
+use mesh_list::Memory;
+use mesh_values::Str;
+use std::alloc::Global;
+use std::marker::Model;
+
+/// FROM items' places, each with a column's name, which lies in an expression. Contracts see the names.
+pub(crate) struct Named<'a> {
+    list: Vec<(u32, &'a Str)>,
+}
+
+impl Drop for Named<'_> {
+    fn drop(self) {
+        let Named { list: _ } = self;
+    }
+}
+
+impl<'a> Model for Named<'a> {
+    ghost use Rattle.std.specs.Prelude.{List};
+    ghost use Rattle.mesh_meaning.specs.Named.{Place};
+    ghost use Rattle.mesh_lineage.specs.Named.{places_of};
+
+    ghost Value = { List Place };
+
+    ghost view = { λ n. places_of n.list.items };
+}
+
+impl<'a> Named<'a> {
+    pub(crate) fn new(alloc: Global) -> Named<'a>
+        ensures { result ≡ [] }
+    {
+        Named {
+            list: Vec::new(alloc),
+        }
+    }
+
+    pub(crate) fn push(&mut self, item: u32, name: &'a Str) -> Result<(), Memory>
+        ensures { OnOk result (self.new ≡ self.old ++ (item, name.now) ∷ []) }
+    {
+        self.list.push((item, name))?;
+        Ok(())
+    }
+
+    /// By FROM item and then by column.
+    pub(crate) fn sort(&mut self)
+        ensures { IsAlike self.new self.old }
+    {
+        self.list.sort_unstable();
+    }
+
+    pub(crate) fn as_slice(&self) -> &[(u32, &'a Str)]
+        ensures { places_of result.now ≡ self.now }
+    {
+        self.list.as_slice()
+    }
+}
