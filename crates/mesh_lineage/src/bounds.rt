@@ -3,16 +3,15 @@ ghost use Rattle.std.specs.Prelude.{◌≡◌, IfOk, OnOk};
 ghost use Rattle.mesh_base.specs.declared.expressions.Expr.{out-Expr};
 ghost use Rattle.mesh_steady.specs.Steady.{bounds, bounds_in, is_bound, is_column};
 ghost use Rattle.mesh_lineage.specs.Bound.{AreBound, Gains, has_place};
+ghost use Rattle.mesh_lineage.specs.Named.{places_of};
 ghost use Rattle.mesh_lineage.specs.Reaches.{bounds_parts};
 
 use crate::ends::{are_ends, is_and, is_column};
+use crate::named::Named;
 use mesh_base::{Expr, FromItem, Join, Select};
-use mesh_list::{Duplicate, Memory, Seq};
+use mesh_list::Memory;
 use mesh_values::{Str, same_text};
 use std::alloc::Global;
-
-/// A FROM item's place and a column's name.
-type Places = Seq<(u32, Str)>;
 
 // A condition has, among the conjuncts at its top, one that binds this column to the unit. The right side is looked at
 // first, which is mostly one conjunct, and the left one all those before it.
@@ -59,11 +58,11 @@ fn bounds_in(condition: &Option<Expr>, place: usize, time: &Str) -> bool
     }
 }
 
-fn add_column(e: &Expr, places: &mut Places) -> Result<(), Memory>
+fn add_column<'a>(e: &'a Expr, places: &mut Named<'a>) -> Result<(), Memory>
     ensures { OnOk result (Gains places.old places.new (λ item name. is_column item name e.now)) }
 {
     match e {
-        Expr::Col { item, name } => places.push((*item, name.copy()?)),
+        Expr::Col { item, name } => places.push(*item, name),
         Expr::Literal(_)
         | Expr::Macro(_)
         | Expr::Binary { .. }
@@ -83,14 +82,14 @@ fn add_column(e: &Expr, places: &mut Places) -> Result<(), Memory>
 // Each column that a condition binds to the unit, put behind others.
 #[tactic(auto, using(crate::proofs::Tops::bounds_out))]
 #[cycle(bound)]
-fn add_bound(e: &Expr, places: &mut Places) -> Result<(), Memory>
+fn add_bound<'a>(e: &'a Expr, places: &mut Named<'a>) -> Result<(), Memory>
     ensures { OnOk result (Gains places.old places.new (λ item name. bounds item name e.now)) }
 {
     add_bound_parts(e, places)
 }
 
 #[cycle(bound)]
-fn add_bound_parts(e: &Expr, places: &mut Places) -> Result<(), Memory>
+fn add_bound_parts<'a>(e: &'a Expr, places: &mut Named<'a>) -> Result<(), Memory>
     ensures { OnOk result (Gains places.old places.new (λ item name. bounds_parts item name (out-Expr e.now))) }
 {
     match e {
@@ -125,18 +124,18 @@ fn add_bound_parts(e: &Expr, places: &mut Places) -> Result<(), Memory>
 }
 
 /// The columns that a WHERE binds to the unit.
-pub(crate) fn bound_by(alloc: Global, filter: &Option<Expr>) -> Result<Places, Memory>
+pub(crate) fn bound_by<'a>(alloc: Global, filter: &'a Option<Expr>) -> Result<Named<'a>, Memory>
     ensures { IfOk result (λ places. AreBound places filter.now) }
 {
-    let mut places = Seq::new(alloc);
+    let mut places = Named::new(alloc);
     if let Some(e) = filter {
         add_bound(e, &mut places)?;
     }
     Ok(places)
 }
 
-fn has_place(places: &[(u32, Str)], item: usize, name: &Str) -> bool
-    ensures { result ≡ has_place places.now item name.now }
+fn has_place(places: &[(u32, &Str)], item: usize, name: &Str) -> bool
+    ensures { result ≡ has_place (places_of places.now) item name.now }
 {
     for p in places {
         if p.0 as usize == item && same_text(p.1.as_slice(), name.as_slice()) {
@@ -149,7 +148,7 @@ fn has_place(places: &[(u32, Str)], item: usize, name: &Str) -> bool
 /// A SELECT, and the columns that its WHERE binds to the unit.
 pub(crate) struct Filtered<'a> {
     pub select: &'a Select,
-    pub bound: Places,
+    pub bound: Named<'a>,
 }
 
 impl<'a> Drop for Filtered<'a> {

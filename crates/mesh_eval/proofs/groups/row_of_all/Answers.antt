@@ -1,4 +1,4 @@
-use Rattle.std.proofs.Common.{◌≡◌, [], ◌++◌, get_or, ap, ◌∙◌}
+use Rattle.std.proofs.Common.{[], ◌++◌, get_or, ap, ◌∙◌}
 use Rattle.std.specs.List.{range_with_len}
 use Rattle.mesh_expressions.specs.Frames.{picked}
 use Rattle.mesh_eval.specs.Placed.{output_row}
