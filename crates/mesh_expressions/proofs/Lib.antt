@@ -1,5 +1,5 @@
--- Singles: rows of one cell each
-pub mod Singles
+-- Counted: how many different cells there are
+pub mod Counted
 -- Nodes: the value of a node, from the values of its parts
 pub mod Nodes
 -- Plains: values that take no memory

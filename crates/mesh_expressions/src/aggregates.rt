@@ -1,21 +1,21 @@
 // The values of aggregates over a list of cells.
-ghost use Rattle.std.specs.Prelude.{◌≡◌, ◌≤◌, [], ◌∷◌, map, length, pos, IfOk};
+ghost use Rattle.std.specs.Prelude.{◌≡◌, ◌<◌, ◌≤◌, ◌^◌, map, length, pos, IfOk};
 ghost use Rattle.std.specs.List.{fold, list_any};
 ghost use Rattle.mesh_meaning.specs.Aggregates.{distinct, same_cell, known, is_number, addend, total, smaller, larger, agg_value};
 
 use mesh_base::AggKind;
-use mesh_index::distinct_rows;
-use mesh_list::{Duplicate, Memory, push_made};
+use mesh_list::{Duplicate, Memory};
 use mesh_operators::{Held, is_null};
-use mesh_values::{Cell, Row, Rows, cell_cmp};
+use mesh_values::{Cell, cell_cmp};
 use std::alloc::Global;
+use std::collections::BTreeSet;
 
 pub(crate) fn aggregate(alloc: Global, kind: AggKind, cells: &[Held]) -> Result<Cell, Memory>
     ensures { IfOk result (λ v. v ≡ agg_value kind cells.now) }
 {
     match kind {
         AggKind::Count => Ok(Cell::Int(counted(cells))),
-        AggKind::Countd => Ok(Cell::Int(distinct_singles(alloc, cells)?.len() as i64)),
+        AggKind::Countd => Ok(Cell::Int(count_distinct(alloc, cells)? as i64)),
         AggKind::Sum => Ok(total_of(cells)),
         AggKind::Min => smallest(cells),
         AggKind::Max => largest(cells),
@@ -47,34 +47,27 @@ fn counted(cells: &[Held]) -> i64
     }
 }
 
-/// A row of one cell.
-fn single_row(alloc: Global, cell: &Cell) -> Result<Row, Memory>
-    ensures { IfOk result (λ made. made ≡ cell.now ∷ []) }
+/// The cells that aren't NULL, where they lie.
+fn known_cells<'c>(alloc: Global, cells: &'c [Held]) -> Result<Vec<&'c Cell>, Memory>
+    ensures { IfOk result (λ made. map (λ cell. cell.now) made.items ≡ known cells.now) }
 {
-    let mut made = Row::new(alloc);
-    push_made(&mut made, cell.copy())?;
-    Ok(made)
-}
-
-/// The cells that aren't NULL, in rows of one each.
-fn known_rows(alloc: Global, cells: &[Held]) -> Result<Rows, Memory>
-    ensures { IfOk result (λ made. made ≡ map (λ c. c ∷ []) (known cells.now)) }
-{
-    let mut made = Rows::new(alloc);
+    let mut made = Vec::new(alloc);
     for cell in cells {
         if !is_null(cell.get()) {
-            push_made(&mut made, single_row(alloc, cell.get()))?;
+            made.push(cell.get())?;
         }
     }
     Ok(made)
 }
 
-/// The different cells that aren't NULL, in rows of one each.
-#[tactic(auto, using(crate::proofs::Singles::length_distinct_singles))]
-fn distinct_singles(alloc: Global, cells: &[Held]) -> Result<Rows, Memory>
-    ensures { IfOk result (λ made. length made ≡ length (distinct same_cell (known cells.now))) }
+/// How many different cells there are that aren't NULL.
+fn count_distinct(alloc: Global, cells: &[Held]) -> Result<usize, Memory>
+    ensures value { IfOk result (λ count. count ≡ length (distinct same_cell (known cells.now))) }
+    ensures small { IfOk result (λ count. count < 2 ^ 63) }
 {
-    distinct_rows(known_rows(alloc, cells)?)
+    let all = known_cells(alloc, cells)?;
+    let set: BTreeSet<&Cell> = all.into_iter().collect(alloc)?;
+    Ok(set.len())
 }
 
 fn is_number(c: &Cell) -> bool
