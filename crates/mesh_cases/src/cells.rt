@@ -36,7 +36,10 @@ pub fn put_cell(alloc: Global, report: &mut Vec<u8>, cell: &Cell) -> Result<(), 
 }
 
 fn day_of(word: &[u8]) -> Result<i32, Trouble> {
-    i32::try_from(number_of(word)?).map_err(|_| Trouble::Case)
+    match i32::try_from(number_of(word)?) {
+        Ok(day) => Ok(day),
+        Err(_) => Err(Trouble::Case),
+    }
 }
 
 /// The cell that a text says, as `put_cell` writes it but without escapes.

@@ -40,11 +40,10 @@ pub fn cases_of<'a>(alloc: Global, file: &'a [u8]) -> Result<Vec<&'a [u8]>, Trou
 
 /// What stands in front of the first ` | ` of a line, and what behind it.
 pub fn halves(line: &[u8]) -> Result<(&[u8], &[u8]), Trouble> {
-    for (at, three) in line.windows(3).enumerate() {
-        if three == b" | ".as_slice() {
-            let front = line.get(..at).ok_or(Trouble::Case)?;
-            let behind = line.get(at..).ok_or(Trouble::Case)?;
-            return Ok((front, behind.strip_prefix(b" | ").ok_or(Trouble::Case)?));
+    for at in 0..line.len() {
+        let (front, rest) = line.split_at(at);
+        if let Some(behind) = rest.strip_prefix(b" | ") {
+            return Ok((front, behind));
         }
     }
     Err(Trouble::Case)

@@ -22,8 +22,13 @@ pub fn front_word(line: &[u8]) -> (&[u8], &[u8]) {
 
 /// The number of 64 bits that decimal digits say, behind a minus sign or none.
 pub fn number_of(word: &[u8]) -> Result<i64, Trouble> {
-    let digits = std::str::from_utf8(word).map_err(|_| Trouble::Case)?;
-    digits.parse::<i64>().map_err(|_| Trouble::Case)
+    let Ok(digits) = std::str::from_utf8(word) else {
+        return Err(Trouble::Case);
+    };
+    match digits.parse::<i64>() {
+        Ok(number) => Ok(number),
+        Err(_) => Err(Trouble::Case),
+    }
 }
 
 fn put_copy(alloc: Global, made: &mut Vec<u8>, text: &[u8], number: i64) -> Result<(), Trouble> {

@@ -4,13 +4,13 @@ use mesh_base::{Own, Ref, Refs};
 use mesh_canon::{
     CanonFault, list_text, node_text, own_text, own_text_old, read_list, read_own, read_own_old,
 };
-use mesh_cases::{Trouble, front_word, halves, put_number, shown};
+use mesh_cases::{Pen, Trouble, front_word, halves};
 use mesh_list::{Duplicate, Memory, Seq, together};
 use mesh_values::{Name, Str};
 use std::alloc::Global;
 
 /// What came of reading a text, and of writing again what was read.
-#[derive(Clone, Copy, PartialEq, Eq)]
+#[derive(Clone, Copy)]
 pub enum Answer {
     Kept,
     Changed,
@@ -36,7 +36,7 @@ pub fn refusal(fault: CanonFault) -> Answer {
 }
 
 /// Whether what was written again is the text.
-pub fn compared(text: &[u8], again: &[u8]) -> Answer {
+fn compared(text: &[u8], again: &[u8]) -> Answer {
     if text == again {
         Answer::Kept
     } else {
@@ -45,7 +45,7 @@ pub fn compared(text: &[u8], again: &[u8]) -> Answer {
 }
 
 /// Whether the text that was written again is the first.
-fn told(text: &[u8], again: Result<Str, Memory>) -> Result<Answer, Trouble> {
+pub fn told(text: &[u8], again: Result<Str, Memory>) -> Result<Answer, Trouble> {
     match again {
         Ok(again) => Ok(compared(text, again.as_slice())),
         Err(Memory) => Err(Trouble::Memory),
@@ -130,28 +130,60 @@ pub struct Frame {
 }
 
 /// Adds what came of a text.
-pub fn put_answer(
-    alloc: Global,
-    report: &mut Vec<u8>,
-    text: &[u8],
-    answer: Answer,
-) -> Result<(), Trouble> {
-    report.extend_from_slice(word_of(answer))?;
-    if answer == Answer::Kept {
-        let bytes = i64::try_from(text.len()).map_err(|_| Trouble::Case)?;
-        report.extend_from_slice(b", bytes ")?;
-        put_number(alloc, report, bytes)?;
+pub fn put_answer(pen: &mut Pen, text: &[u8], answer: Answer) {
+    pen.put(word_of(answer));
+    if let Answer::Kept = answer {
+        pen.put(b", bytes ");
+        pen.count(text.len() as u64);
+    }
+}
+
+fn put_near(pen: &mut Pen, text: &[u8]) -> Result<(), Trouble> {
+    if are_told_apart(pen.alloc(), text)? {
+        pen.put(b", near texts told apart");
+    } else {
+        pen.put(b", near texts confused");
     }
     Ok(())
 }
 
-fn put_near(alloc: Global, report: &mut Vec<u8>, text: &[u8]) -> Result<(), Trouble> {
-    let near: &[u8] = if are_told_apart(alloc, text)? {
-        b", near texts told apart"
-    } else {
-        b", near texts confused"
-    };
-    report.extend_from_slice(near)?;
+/// Reads a definition and writes it again.
+fn put_own(pen: &mut Pen, text: &[u8]) -> Result<(), Trouble> {
+    put_answer(pen, text, own_again(pen.alloc(), text)?);
+    Ok(())
+}
+
+/// Does so too, and then reads the texts near it.
+fn put_own_near(pen: &mut Pen, text: &[u8]) -> Result<(), Trouble> {
+    put_own(pen, text)?;
+    put_near(pen, text)
+}
+
+fn put_copied(pen: &mut Pen, text: &[u8]) -> Result<(), Trouble> {
+    put_answer(pen, text, copy_again(pen.alloc(), text)?);
+    Ok(())
+}
+
+fn put_former(pen: &mut Pen, text: &[u8]) -> Result<(), Trouble> {
+    put_answer(pen, text, former_again(pen.alloc(), text)?);
+    Ok(())
+}
+
+fn put_list(pen: &mut Pen, text: &[u8]) -> Result<(), Trouble> {
+    put_answer(pen, text, list_again(pen.alloc(), text)?);
+    Ok(())
+}
+
+/// Adds the text that a definition has now, by its former one.
+fn put_renewed(pen: &mut Pen, text: &[u8]) -> Result<(), Trouble> {
+    let renewed = renewed_text(pen.alloc(), text)?;
+    pen.shown(renewed.as_slice());
+    Ok(())
+}
+
+fn put_node(pen: &mut Pen, text: &[u8], parents: &Refs) -> Result<(), Trouble> {
+    let node = whole_node(pen.alloc(), text, parents)?;
+    pen.shown(node.as_slice());
     Ok(())
 }
 
@@ -197,48 +229,6 @@ impl Frame {
         Ok(whole)
     }
 
-    fn own(&self, text: &[u8], near: bool, report: &mut Vec<u8>) -> Result<(), Trouble> {
-        let whole = self.whole(text)?;
-        let answer = own_again(self.alloc, whole.as_slice())?;
-        put_answer(self.alloc, report, whole.as_slice(), answer)?;
-        if near {
-            put_near(self.alloc, report, whole.as_slice())?;
-        }
-        Ok(())
-    }
-
-    fn copied(&self, text: &[u8], report: &mut Vec<u8>) -> Result<(), Trouble> {
-        let whole = self.whole(text)?;
-        let answer = copy_again(self.alloc, whole.as_slice())?;
-        put_answer(self.alloc, report, whole.as_slice(), answer)
-    }
-
-    /// Reads a definition, and writes nothing of it.
-    fn read(&self, text: &[u8], report: &mut Vec<u8>) -> Result<(), Trouble> {
-        let whole = self.whole(text)?;
-        report.extend_from_slice(reading_word(self.alloc, whole.as_slice()))?;
-        Ok(())
-    }
-
-    fn former(&self, text: &[u8], report: &mut Vec<u8>) -> Result<(), Trouble> {
-        let whole = self.whole(text)?;
-        let answer = former_again(self.alloc, whole.as_slice())?;
-        put_answer(self.alloc, report, whole.as_slice(), answer)
-    }
-
-    /// The text that a definition has now, by its former one.
-    fn renewed(&self, text: &[u8], report: &mut Vec<u8>) -> Result<(), Trouble> {
-        let whole = self.whole(text)?;
-        let renewed = renewed_text(self.alloc, whole.as_slice())?;
-        shown(report, renewed.as_slice())
-    }
-
-    fn node(&self, text: &[u8], report: &mut Vec<u8>) -> Result<(), Trouble> {
-        let whole = self.whole(text)?;
-        let node = whole_node(self.alloc, whole.as_slice(), &self.parents)?;
-        shown(report, node.as_slice())
-    }
-
     /// Makes the change of a word, if it is one of these, and answers whether it is.
     fn change(&mut self, word: &[u8], text: &[u8]) -> Result<bool, Trouble> {
         if word == b"around".as_slice() {
@@ -253,34 +243,39 @@ impl Frame {
         Ok(true)
     }
 
-    /// Makes the call of a word, if it is one of these.
-    pub fn call(
-        &mut self,
-        word: &[u8],
-        text: &[u8],
-        report: &mut Vec<u8>,
-    ) -> Result<bool, Trouble> {
-        if self.change(word, text)? {
-            report.extend_from_slice(b"done")?;
-        } else if word == b"own".as_slice() {
-            self.own(text, false, report)?;
+    /// Makes the call of a word over a whole text, if it is one of these.
+    fn ask(&self, word: &[u8], whole: &[u8], pen: &mut Pen) -> Result<bool, Trouble> {
+        if word == b"own".as_slice() {
+            put_own(pen, whole)?;
         } else if word == b"near".as_slice() {
-            self.own(text, true, report)?;
+            put_own_near(pen, whole)?;
         } else if word == b"copied".as_slice() {
-            self.copied(text, report)?;
+            put_copied(pen, whole)?;
         } else if word == b"read-own".as_slice() {
-            self.read(text, report)?;
+            pen.put(reading_word(self.alloc, whole));
         } else if word == b"former".as_slice() {
-            self.former(text, report)?;
+            put_former(pen, whole)?;
         } else if word == b"renewed".as_slice() {
-            self.renewed(text, report)?;
-        } else if word == b"list".as_slice() {
-            put_answer(self.alloc, report, text, list_again(self.alloc, text)?)?;
+            put_renewed(pen, whole)?;
         } else if word == b"node".as_slice() {
-            self.node(text, report)?;
+            put_node(pen, whole, &self.parents)?;
         } else {
             return Ok(false);
         }
         Ok(true)
+    }
+
+    /// Makes the call of a word, if it is one of these.
+    pub fn call(&mut self, word: &[u8], text: &[u8], pen: &mut Pen) -> Result<bool, Trouble> {
+        if self.change(word, text)? {
+            pen.put(b"done");
+            return Ok(true);
+        }
+        if word == b"list".as_slice() {
+            put_list(pen, text)?;
+            return Ok(true);
+        }
+        let whole = self.whole(text)?;
+        self.ask(word, whole.as_slice(), pen)
     }
 }

@@ -60,7 +60,7 @@ use crate::host::Host;
 use crate::memory::Inside;
 use crate::seeds::Files;
 use crate::values::Values;
-use mesh_cases::{Trouble, cases_of, file_of, filled, front_word};
+use mesh_cases::{Pen, Trouble, cases_of, file_of, filled, front_word};
 use mesh_io::DirFolder;
 use std::alloc::Global;
 
@@ -81,24 +81,24 @@ struct Stage<'a> {
 
 impl Stage<'_> {
     /// Makes the call of a word.
-    fn call(&mut self, word: &[u8], text: &[u8], report: &mut Vec<u8>) -> Result<(), Trouble> {
-        if self.files.call(word, text, report)? || self.inside.call(word, text, report)? {
+    fn call(&mut self, word: &[u8], text: &[u8], pen: &mut Pen) -> Result<(), Trouble> {
+        if self.files.call(word, text, pen)? || self.inside.call(word, text, pen)? {
             return Ok(());
         }
-        if self.host.call(word, text, report)? {
+        if self.host.call(word, text, pen)? {
             return Ok(());
         }
         Err(Trouble::Case)
     }
 
     /// Makes the call of a line, and adds the line and the answer.
-    fn line(&mut self, line: &[u8], report: &mut Vec<u8>) -> Result<(), Trouble> {
-        report.extend_from_slice(line)?;
-        report.extend_from_slice(b" => ")?;
+    fn line(&mut self, line: &[u8], pen: &mut Pen) -> Result<(), Trouble> {
+        pen.put(line);
+        pen.put(b" => ");
         let (word, rest) = front_word(line);
         let text = filled(self.alloc, rest)?;
-        self.call(word, text.as_slice(), report)?;
-        report.push(b'\n')?;
+        self.call(word, text.as_slice(), pen)?;
+        pen.put(b"\n");
         Ok(())
     }
 }
@@ -107,29 +107,29 @@ fn value_lines(
     alloc: Global,
     values: &mut Values,
     file: &[u8],
-    report: &mut Vec<u8>,
+    pen: &mut Pen,
 ) -> Result<(), Trouble> {
     for line in &cases_of(alloc, file)? {
-        values.line(line, report)?;
+        values.line(line, pen)?;
     }
-    Ok(())
+    pen.done()
 }
 
 /// Runs the cases of one file of values, and adds what is to be printed.
-fn run_values(alloc: Global, file: &[u8], report: &mut Vec<u8>) -> Result<(), Trouble> {
+fn run_values(alloc: Global, file: &[u8], pen: &mut Pen) -> Result<(), Trouble> {
     let mut values = Values::new(alloc);
-    value_lines(alloc, &mut values, file, report)
+    value_lines(alloc, &mut values, file, pen)
 }
 
-fn other_lines(stage: &mut Stage, file: &[u8], report: &mut Vec<u8>) -> Result<(), Trouble> {
+fn other_lines(stage: &mut Stage, file: &[u8], pen: &mut Pen) -> Result<(), Trouble> {
     for line in &cases_of(stage.alloc, file)? {
-        stage.line(line, report)?;
+        stage.line(line, pen)?;
     }
-    Ok(())
+    pen.done()
 }
 
 /// Runs the cases of one other file, and adds what is to be printed.
-fn run_others(rt: &HostRuntime, file: &[u8], report: &mut Vec<u8>) -> Result<(), Trouble> {
+fn run_others(rt: &HostRuntime, file: &[u8], pen: &mut Pen) -> Result<(), Trouble> {
     let alloc = rt.alloc();
     let mut stage = Stage {
         alloc,
@@ -137,18 +137,25 @@ fn run_others(rt: &HostRuntime, file: &[u8], report: &mut Vec<u8>) -> Result<(),
         inside: Inside::new(alloc),
         host: Host::new(rt),
     };
-    other_lines(&mut stage, file, report)
+    other_lines(&mut stage, file, pen)
+}
+
+fn run_all(rt: &HostRuntime, data: &mut DirFolder, pen: &mut Pen) -> Result<(), Trouble> {
+    for name in VALUES {
+        let file = file_of(rt.alloc(), data, b"files", name)?;
+        run_values(rt.alloc(), file.as_slice(), pen)?;
+    }
+    for name in FILES {
+        let file = file_of(rt.alloc(), data, b"files", name)?;
+        run_others(rt, file.as_slice(), pen)?;
+    }
+    Ok(())
 }
 
 /// Adds what each call of the folder `files` answers. What the host's output is given is printed at once.
 pub fn run(rt: &HostRuntime, data: &mut DirFolder, report: &mut Vec<u8>) -> Result<(), Trouble> {
-    for name in VALUES {
-        let file = file_of(rt.alloc(), data, b"files", name)?;
-        run_values(rt.alloc(), file.as_slice(), report)?;
-    }
-    for name in FILES {
-        let file = file_of(rt.alloc(), data, b"files", name)?;
-        run_others(rt, file.as_slice(), report)?;
-    }
-    Ok(())
+    let mut pen = Pen::new(rt.alloc());
+    let done = run_all(rt, data, &mut pen);
+    report.extend_from_slice(pen.text())?;
+    done
 }

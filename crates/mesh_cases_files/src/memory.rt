@@ -1,8 +1,9 @@
 // The folder, the clock and the streams in memory.
 use crate::calls::{count_of, list, now, put, put_written, read, take, take_first};
-use mesh_cases::{Trouble, front_word, number_of, put_number};
+use mesh_cases::{Pen, Trouble, front_word, number_of};
 use mesh_io::{File, Files, MemClock, MemFolder, MemSink, MemSource, Numbers, are_distinct};
 use mesh_list::{Duplicate, Memory, Same, Seq, together};
+use mesh_values::Str;
 use std::alloc::Global;
 use std::mem;
 
@@ -35,16 +36,26 @@ fn file_in(alloc: Global, text: &[u8]) -> Result<File, Memory> {
     Ok(File { path, bytes })
 }
 
-/// A copy of the file, and whether it is the same.
-fn copied_in(alloc: Global, text: &[u8]) -> Result<(File, bool), Memory> {
-    let file = file_in(alloc, text)?;
-    match file.copy() {
-        Ok(copy) => {
-            let same = copy.same(&file);
-            Ok((copy, same))
-        }
-        Err(memory) => Err(memory),
+/// Adds a copy of the file, and answers whether it is the same.
+fn put_copy(files: &mut Files, file: &File) -> Result<bool, Memory> {
+    let copy = file.copy()?;
+    let same = copy.same(file);
+    files.push(copy)?;
+    Ok(same)
+}
+
+/// Puts a file that was made into a folder.
+fn written(folder: &mut MemFolder, file: Result<File, Memory>) -> Result<(), Trouble> {
+    match file {
+        Ok(file) => Ok(folder.write(file)?),
+        Err(Memory) => Err(Trouble::Memory),
     }
+}
+
+fn deleted(folder: &mut MemFolder, path: Result<Str, Memory>) -> Result<(), Trouble> {
+    let path = path?;
+    folder.delete(&path);
+    Ok(())
 }
 
 fn empty_folder(alloc: Global) -> MemFolder {
@@ -71,24 +82,22 @@ impl Inside {
     }
 
     /// A copy of the file belongs to the next folder.
-    fn file(&mut self, text: &[u8], report: &mut Vec<u8>) -> Result<(), Trouble> {
-        let (copy, same) = copied_in(self.alloc, text)?;
-        self.files.push(copy)?;
-        report.extend_from_slice(if same { b"copied" } else { b"changed" })?;
+    fn file(&mut self, text: &[u8], pen: &mut Pen) -> Result<(), Trouble> {
+        let file = file_in(self.alloc, text)?;
+        let same = put_copy(&mut self.files, &file)?;
+        pen.put(if same { b"copied" } else { b"changed" });
         Ok(())
     }
 
-    fn folder(&mut self, report: &mut Vec<u8>) -> Result<(), Trouble> {
+    fn folder(&mut self, pen: &mut Pen) {
         let files = mem::replace(&mut self.files, Seq::new(self.alloc));
-        let made: &[u8] = if are_distinct(files.as_slice()) {
+        if are_distinct(files.as_slice()) {
             self.folder = MemFolder::new(files, self.next_fails());
-            b"made"
+            pen.put(b"made");
         } else {
             drop(files);
-            b"two files of one path"
-        };
-        report.extend_from_slice(made)?;
-        Ok(())
+            pen.put(b"two files of one path");
+        }
     }
 
     fn clock(&mut self, moment: &[u8]) -> Result<(), Trouble> {
@@ -106,12 +115,11 @@ impl Inside {
         Ok(())
     }
 
-    fn now(&mut self, report: &mut Vec<u8>) -> Result<(), Trouble> {
-        if let Some(moment) = now(self.alloc, &mut self.clock, report)? {
-            report.extend_from_slice(b", ")?;
-            put_number(self.alloc, report, moment)?;
+    fn now(&mut self, pen: &mut Pen) {
+        if let Some(moment) = now(&mut self.clock, pen) {
+            pen.put(b", ");
+            pen.number(moment);
         }
-        Ok(())
     }
 
     /// Makes the object of a word, if it is one of these, and answers whether it is.
@@ -133,9 +141,9 @@ impl Inside {
     /// Makes the change of the folder of a word, if it is one of these, and answers whether it is.
     fn change(&mut self, word: &[u8], text: &[u8]) -> Result<bool, Trouble> {
         if word == b"write".as_slice() {
-            self.folder.write(file_in(self.alloc, text)?)?;
+            written(&mut self.folder, file_in(self.alloc, text))?;
         } else if word == b"delete".as_slice() {
-            self.folder.delete(&u8::copy_items(self.alloc, text)?);
+            deleted(&mut self.folder, u8::copy_items(self.alloc, text))?;
         } else if word == b"refail".as_slice() {
             let fails = self.next_fails();
             self.folder.set_fails(fails);
@@ -146,20 +154,15 @@ impl Inside {
     }
 
     /// Asks the folder, if the word does, and answers whether it does.
-    fn ask_folder(
-        &mut self,
-        word: &[u8],
-        text: &[u8],
-        report: &mut Vec<u8>,
-    ) -> Result<bool, Trouble> {
+    fn ask_folder(&mut self, word: &[u8], text: &[u8], pen: &mut Pen) -> Result<bool, Trouble> {
         if word == b"file".as_slice() {
-            self.file(text, report)?;
+            self.file(text, pen)?;
         } else if word == b"folder".as_slice() {
-            self.folder(report)?;
+            self.folder(pen);
         } else if word == b"list".as_slice() {
-            list(self.alloc, &mut self.folder, text, report)?;
+            list(&mut self.folder, text, pen)?;
         } else if word == b"read".as_slice() {
-            read(self.alloc, &mut self.folder, text, report)?;
+            read(&mut self.folder, text, pen)?;
         } else {
             return Ok(false);
         }
@@ -167,17 +170,17 @@ impl Inside {
     }
 
     /// Asks the clock or a stream, if the word does, and answers whether it does.
-    fn ask(&mut self, word: &[u8], text: &[u8], report: &mut Vec<u8>) -> Result<bool, Trouble> {
+    fn ask(&mut self, word: &[u8], text: &[u8], pen: &mut Pen) -> Result<bool, Trouble> {
         if word == b"now".as_slice() {
-            self.now(report)?;
+            self.now(pen);
         } else if word == b"take".as_slice() {
-            take(self.alloc, &mut self.source, text, report)?;
+            take(&mut self.source, text, pen)?;
         } else if word == b"take-all".as_slice() {
-            take_first(self.alloc, &mut self.source, text, report)?;
+            take_first(&mut self.source, text, pen)?;
         } else if word == b"put".as_slice() {
-            put(self.alloc, &mut self.sink, text, report)?;
+            put(&mut self.sink, text, pen);
         } else if word == b"written".as_slice() {
-            put_written(report, self.sink.bytes())?;
+            put_written(pen, self.sink.bytes());
         } else {
             return Ok(false);
         }
@@ -185,16 +188,11 @@ impl Inside {
     }
 
     /// Makes the call of a word, if it is one of these.
-    pub fn call(
-        &mut self,
-        word: &[u8],
-        text: &[u8],
-        report: &mut Vec<u8>,
-    ) -> Result<bool, Trouble> {
+    pub fn call(&mut self, word: &[u8], text: &[u8], pen: &mut Pen) -> Result<bool, Trouble> {
         if self.make(word, text)? || self.change(word, text)? {
-            report.extend_from_slice(b"done")?;
+            pen.put(b"done");
             return Ok(true);
         }
-        Ok(self.ask_folder(word, text, report)? || self.ask(word, text, report)?)
+        Ok(self.ask_folder(word, text, pen)? || self.ask(word, text, pen)?)
     }
 }

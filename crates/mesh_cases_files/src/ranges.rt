@@ -1,6 +1,6 @@
 // Ranges of seconds.
 use crate::answers::put_count;
-use mesh_cases::{Trouble, front_word, number_of, put_number};
+use mesh_cases::{Pen, Trouble, front_word, number_of};
 use mesh_list::{Duplicate, Same};
 use mesh_time::{END_OF_SECONDS, FIRST_SECOND, Ranges};
 use mesh_values::{Schedule, Spans, Unit};
@@ -31,23 +31,20 @@ fn unit_named(word: &[u8]) -> Result<Unit, Trouble> {
 }
 
 /// Adds spans: for each its first second, two points and the second that it ends before.
-fn put_spans(alloc: Global, report: &mut Vec<u8>, spans: &Spans) -> Result<(), Trouble> {
-    report.push(b'[')?;
+fn put_spans(pen: &mut Pen, spans: &Spans) {
+    pen.put(b"[");
     for (at, span) in spans.as_slice().iter().enumerate() {
-        if at > 0 {
-            report.push(b' ')?;
-        }
-        put_number(alloc, report, span.start)?;
-        report.extend_from_slice(b"..")?;
-        put_number(alloc, report, span.end)?;
+        pen.put_if(at > 0, b" ");
+        pen.number(span.start);
+        pen.put(b"..");
+        pen.number(span.end);
     }
-    report.push(b']')?;
-    Ok(())
+    pen.put(b"]");
 }
 
 /// Adds how many spans there are.
-fn put_size(alloc: Global, report: &mut Vec<u8>, spans: &Spans) -> Result<(), Trouble> {
-    put_count(alloc, report, b"spans", spans.len() as u64)
+fn put_size(pen: &mut Pen, spans: &Spans) {
+    put_count(pen, b"spans", spans.len() as u64);
 }
 
 fn answer(truth: bool) -> &'static [u8] {
@@ -106,17 +103,29 @@ impl Held {
         Ok(self.ranges.missing(self.alloc, &schedule)?)
     }
 
-    fn holds(&self, text: &[u8], report: &mut Vec<u8>) -> Result<(), Trouble> {
-        let (start, end, _) = two_numbers(text)?;
-        report.extend_from_slice(answer(self.ranges.holds(start, end)))?;
+    fn put_missing(&self, text: &[u8], pen: &mut Pen) -> Result<(), Trouble> {
+        let missing = self.missing(text)?;
+        put_spans(pen, &missing);
         Ok(())
     }
 
-    fn copied(&self, report: &mut Vec<u8>) -> Result<(), Trouble> {
+    fn put_missing_size(&self, text: &[u8], pen: &mut Pen) -> Result<(), Trouble> {
+        let missing = self.missing(text)?;
+        put_size(pen, &missing);
+        Ok(())
+    }
+
+    fn holds(&self, text: &[u8], pen: &mut Pen) -> Result<(), Trouble> {
+        let (start, end, _) = two_numbers(text)?;
+        pen.put(answer(self.ranges.holds(start, end)));
+        Ok(())
+    }
+
+    fn copied(&self, pen: &mut Pen) -> Result<(), Trouble> {
         let copy = self.ranges.copy()?;
-        put_spans(self.alloc, report, copy.spans())?;
-        report.extend_from_slice(b", the same: ")?;
-        report.extend_from_slice(answer(copy.same(&self.ranges)))?;
+        put_spans(pen, copy.spans());
+        pen.put(b", the same: ");
+        pen.put(answer(copy.same(&self.ranges)));
         Ok(())
     }
 
@@ -135,25 +144,20 @@ impl Held {
     }
 
     /// Makes the call of a word, if it is one of these.
-    pub fn call(
-        &mut self,
-        word: &[u8],
-        text: &[u8],
-        report: &mut Vec<u8>,
-    ) -> Result<bool, Trouble> {
+    pub fn call(&mut self, word: &[u8], text: &[u8], pen: &mut Pen) -> Result<bool, Trouble> {
         if self.change(word, text)? {
-            put_spans(self.alloc, report, self.ranges.spans())?;
+            put_spans(pen, self.ranges.spans());
         } else if word == b"spread".as_slice() {
             self.spread(text)?;
-            put_size(self.alloc, report, self.ranges.spans())?;
+            put_size(pen, self.ranges.spans());
         } else if word == b"holds".as_slice() {
-            self.holds(text, report)?;
+            self.holds(text, pen)?;
         } else if word == b"missing".as_slice() {
-            put_spans(self.alloc, report, &self.missing(text)?)?;
+            self.put_missing(text, pen)?;
         } else if word == b"missing-size".as_slice() {
-            put_size(self.alloc, report, &self.missing(text)?)?;
+            self.put_missing_size(text, pen)?;
         } else if word == b"copy".as_slice() {
-            self.copied(report)?;
+            self.copied(pen)?;
         } else {
             return Ok(false);
         }

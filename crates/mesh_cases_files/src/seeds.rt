@@ -1,11 +1,11 @@
 // Files that are read: seeds beside their declared columns, and declarations of sources.
 use crate::answers::{put_column, put_count, put_fault};
 use crate::sources::{put_sources, put_sources_size};
-use mesh_cases::{Trouble, front_word, kind_of, put_cell};
+use mesh_cases::{Pen, Trouble, front_word, kind_of, put_cell};
 use mesh_csv::read_seed;
 use mesh_external::read_external;
 use mesh_list::{Duplicate, Memory, Seq, push_made};
-use mesh_values::{ColType, Column, Columns, Row, Seed, Str};
+use mesh_values::{Cell, ColType, Column, Columns, Row, Seed, Str};
 use std::alloc::Global;
 
 /// The columns that are declared, and what stands in front of each file.
@@ -37,31 +37,36 @@ fn columns_of(alloc: Global, text: &[u8]) -> Result<Columns, Trouble> {
     Ok(columns)
 }
 
-fn put_row(alloc: Global, report: &mut Vec<u8>, row: &Row) -> Result<(), Trouble> {
-    report.push(b';')?;
-    for cell in row.as_slice() {
-        report.push(b' ')?;
-        put_cell(alloc, report, cell)?;
+/// Adds a cell.
+pub fn put_cell_of(pen: &mut Pen, cell: &Cell) {
+    let mut text = Vec::new(pen.alloc());
+    match put_cell(pen.alloc(), &mut text, cell) {
+        Ok(()) => pen.put(text.as_slice()),
+        Err(_) => pen.lose(),
     }
-    Ok(())
 }
 
-fn put_seed(alloc: Global, report: &mut Vec<u8>, seed: &Seed) -> Result<(), Trouble> {
+fn put_row(pen: &mut Pen, row: &Row) {
+    pen.put(b";");
+    for cell in row.as_slice() {
+        pen.put(b" ");
+        put_cell_of(pen, cell);
+    }
+}
+
+fn put_seed(pen: &mut Pen, seed: &Seed) {
     for (at, column) in seed.columns.as_slice().iter().enumerate() {
-        if at > 0 {
-            report.extend_from_slice(b", ")?;
-        }
-        put_column(report, column)?;
+        pen.put_if(at > 0, b", ");
+        put_column(pen, column);
     }
     for row in seed.rows.as_slice() {
-        put_row(alloc, report, row)?;
+        put_row(pen, row);
     }
-    Ok(())
 }
 
-fn put_seed_size(alloc: Global, report: &mut Vec<u8>, seed: &Seed) -> Result<(), Trouble> {
-    put_count(alloc, report, b"columns", seed.columns.len() as u64)?;
-    put_count(alloc, report, b", rows", seed.rows.len() as u64)
+fn put_seed_size(pen: &mut Pen, seed: &Seed) {
+    put_count(pen, b"columns", seed.columns.len() as u64);
+    put_count(pen, b", rows", seed.rows.len() as u64);
 }
 
 impl Files {
@@ -81,29 +86,33 @@ impl Files {
         Ok(Seq::from_vec(whole))
     }
 
-    fn seed(&self, text: &[u8], size: bool, report: &mut Vec<u8>) -> Result<(), Trouble> {
-        match read_seed(&self.whole(text)?, &self.columns) {
+    fn seed(&self, text: &[u8], size: bool, pen: &mut Pen) -> Result<(), Trouble> {
+        let whole = self.whole(text)?;
+        match read_seed(&whole, &self.columns) {
             Ok(seed) => {
                 if size {
-                    put_seed_size(self.alloc, report, &seed)
+                    put_seed_size(pen, &seed);
                 } else {
-                    put_seed(self.alloc, report, &seed)
+                    put_seed(pen, &seed);
                 }
+                Ok(())
             }
-            Err(fault) => put_fault(self.alloc, report, &fault),
+            Err(fault) => put_fault(pen, &fault),
         }
     }
 
-    fn sources(&self, text: &[u8], size: bool, report: &mut Vec<u8>) -> Result<(), Trouble> {
-        match read_external(&self.whole(text)?) {
+    fn sources(&self, text: &[u8], size: bool, pen: &mut Pen) -> Result<(), Trouble> {
+        let whole = self.whole(text)?;
+        match read_external(&whole) {
             Ok(sources) => {
                 if size {
-                    put_sources_size(self.alloc, report, &sources)
+                    put_sources_size(pen, &sources);
                 } else {
-                    put_sources(report, &sources)
+                    put_sources(pen, &sources);
                 }
+                Ok(())
             }
-            Err(fault) => put_fault(self.alloc, report, &fault),
+            Err(fault) => put_fault(pen, &fault),
         }
     }
 
@@ -120,22 +129,17 @@ impl Files {
     }
 
     /// Makes the call of a word, if it is one of these.
-    pub fn call(
-        &mut self,
-        word: &[u8],
-        text: &[u8],
-        report: &mut Vec<u8>,
-    ) -> Result<bool, Trouble> {
+    pub fn call(&mut self, word: &[u8], text: &[u8], pen: &mut Pen) -> Result<bool, Trouble> {
         if self.change(word, text)? {
-            report.extend_from_slice(b"done")?;
+            pen.put(b"done");
         } else if word == b"seed".as_slice() {
-            self.seed(text, false, report)?;
+            self.seed(text, false, pen)?;
         } else if word == b"seed-size".as_slice() {
-            self.seed(text, true, report)?;
+            self.seed(text, true, pen)?;
         } else if word == b"sources".as_slice() {
-            self.sources(text, false, report)?;
+            self.sources(text, false, pen)?;
         } else if word == b"sources-size".as_slice() {
-            self.sources(text, true, report)?;
+            self.sources(text, true, pen)?;
         } else {
             return Ok(false);
         }

@@ -1,9 +1,8 @@
 // What is printed of the sources that a file declares.
 use crate::answers::{put_column, put_count};
 use mesh_base::{Decl, Externals};
-use mesh_cases::Trouble;
+use mesh_cases::Pen;
 use mesh_values::Column;
-use std::alloc::Global;
 
 fn is_time(source: &Decl, column: &Column) -> bool {
     match &source.time {
@@ -12,41 +11,30 @@ fn is_time(source: &Decl, column: &Column) -> bool {
     }
 }
 
-fn put_source(report: &mut Vec<u8>, source: &Decl) -> Result<(), Trouble> {
-    report.extend_from_slice(source.name.schema.as_slice())?;
-    report.push(b'.')?;
-    report.extend_from_slice(source.name.model.as_slice())?;
-    report.push(b':')?;
+fn put_source(pen: &mut Pen, source: &Decl) {
+    pen.put(source.name.schema.as_slice());
+    pen.put(b".");
+    pen.put(source.name.model.as_slice());
+    pen.put(b":");
     for column in source.columns.as_slice() {
-        report.push(b' ')?;
-        put_column(report, column)?;
-        if is_time(source, column) {
-            report.extend_from_slice(b" (time)")?;
-        }
+        pen.put(b" ");
+        put_column(pen, column);
+        pen.put_if(is_time(source, column), b" (time)");
     }
-    report.push(b';')?;
-    Ok(())
+    pen.put(b";");
 }
 
 /// Adds each source and its columns.
-pub fn put_sources(report: &mut Vec<u8>, sources: &Externals) -> Result<(), Trouble> {
+pub fn put_sources(pen: &mut Pen, sources: &Externals) {
     for (at, source) in sources.as_slice().iter().enumerate() {
-        if at > 0 {
-            report.push(b' ')?;
-        }
-        put_source(report, source)?;
+        pen.put_if(at > 0, b" ");
+        put_source(pen, source);
     }
-    Ok(())
 }
 
 /// Adds how many columns each source has.
-pub fn put_sources_size(
-    alloc: Global,
-    report: &mut Vec<u8>,
-    sources: &Externals,
-) -> Result<(), Trouble> {
+pub fn put_sources_size(pen: &mut Pen, sources: &Externals) {
     for source in sources.as_slice() {
-        put_count(alloc, report, b"columns", source.columns.len() as u64)?;
+        put_count(pen, b"columns", source.columns.len() as u64);
     }
-    Ok(())
 }

@@ -2,7 +2,7 @@
 use crate::canon::Frame;
 use crate::ranges::Held;
 use crate::{casts, crons, digests, parts, times};
-use mesh_cases::{Trouble, filled, front_word};
+use mesh_cases::{Pen, Trouble, filled, front_word};
 use std::alloc::Global;
 
 /// The ranges, and what stands around canonical texts.
@@ -24,30 +24,29 @@ impl Values {
     }
 
     /// Makes the call of a line, and adds the line and the answer.
-    pub fn line(&mut self, line: &[u8], report: &mut Vec<u8>) -> Result<(), Trouble> {
-        report.extend_from_slice(line)?;
-        report.extend_from_slice(b" => ")?;
+    pub fn line(&mut self, line: &[u8], pen: &mut Pen) -> Result<(), Trouble> {
+        pen.put(line);
+        pen.put(b" => ");
         let (word, rest) = front_word(line);
         let text = filled(self.alloc, rest)?;
-        if !self.call(word, text.as_slice(), report)? {
+        if !self.call(word, text.as_slice(), pen)? {
             return Err(Trouble::Case);
         }
-        report.push(b'\n')?;
+        pen.put(b"\n");
         Ok(())
     }
 
     /// Makes the call of a word, and answers whether there is one.
-    fn call(&mut self, word: &[u8], text: &[u8], report: &mut Vec<u8>) -> Result<bool, Trouble> {
-        let alloc = self.alloc;
-        if times::call(alloc, word, text, report)? || crons::call(alloc, word, text, report)? {
+    fn call(&mut self, word: &[u8], text: &[u8], pen: &mut Pen) -> Result<bool, Trouble> {
+        if times::call(word, text, pen)? || crons::call(word, text, pen)? {
             return Ok(true);
         }
-        if casts::call(alloc, word, text, report)? || parts::call(alloc, word, text, report)? {
+        if casts::call(word, text, pen)? || parts::call(word, text, pen)? {
             return Ok(true);
         }
-        if digests::call(word, text, report)? || self.held.call(word, text, report)? {
+        if digests::call(word, text, pen)? || self.held.call(word, text, pen)? {
             return Ok(true);
         }
-        self.frame.call(word, text, report)
+        self.frame.call(word, text, pen)
     }
 }

@@ -27,7 +27,7 @@ mod shown;
 mod stage;
 
 use crate::stage::Stage;
-use mesh_cases::{Trouble, cases_of, file_of};
+use mesh_cases::{Pen, Trouble, cases_of, file_of};
 use mesh_io::DirFolder;
 use std::alloc::Global;
 
@@ -35,17 +35,20 @@ fn cases(
     alloc: Global,
     data: &mut DirFolder,
     stage: &mut Stage,
-    report: &mut Vec<u8>,
+    pen: &mut Pen,
 ) -> Result<(), Trouble> {
     let file = file_of(alloc, data, b"plans", b"cases.txt")?;
-    for line in cases_of(alloc, file.as_slice())? {
-        stage.line(alloc, data, line, report)?;
+    for line in &cases_of(alloc, file.as_slice())? {
+        stage.line(alloc, data, line, pen)?;
     }
-    Ok(())
+    pen.done()
 }
 
 /// Adds what each call of the folder `plans` answers.
 pub fn run(alloc: Global, data: &mut DirFolder, report: &mut Vec<u8>) -> Result<(), Trouble> {
     let mut stage = Stage::new(alloc);
-    cases(alloc, data, &mut stage, report)
+    let mut pen = Pen::new(alloc);
+    let done = cases(alloc, data, &mut stage, &mut pen);
+    report.extend_from_slice(pen.text())?;
+    done
 }

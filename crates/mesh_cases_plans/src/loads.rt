@@ -1,5 +1,5 @@
 // Projects that are loaded from a folder, and the lines of their faults.
-use mesh_cases::{Trouble, put_count};
+use mesh_cases::{Pen, Trouble};
 use mesh_fault_text::fault_line;
 use mesh_files::LoadFault;
 use mesh_io::Folder;
@@ -21,24 +21,29 @@ pub fn loaded<F: Folder>(alloc: Global, folder: &mut F) -> Result<Project, Troub
 }
 
 /// Adds how many models a project has.
-fn put_models(alloc: Global, report: &mut Vec<u8>, project: &Project) -> Result<(), Trouble> {
-    report.push(b' ')?;
-    put_count(alloc, report, project.as_slice().len() as u64)
+fn put_models(pen: &mut Pen, project: &Project) {
+    pen.put(b" ");
+    pen.count(project.as_slice().len() as u64);
 }
 
-/// Adds the line of a fault, without its line feed.
-fn put_fault(
-    alloc: Global,
-    report: &mut Vec<u8>,
-    file: &[u8],
-    at: u64,
-    kind: &FaultKind,
-) -> Result<(), Trouble> {
-    let line = fault_line(alloc, file, at, kind)?;
-    let line = line.as_slice().strip_suffix(b"\n").ok_or(Trouble::Case)?;
-    report.extend_from_slice(b"\n    ")?;
-    report.extend_from_slice(line)?;
-    Ok(())
+/// Adds a line without its line feed.
+fn put_line(pen: &mut Pen, line: &[u8]) -> Result<(), Trouble> {
+    match line.strip_suffix(b"\n") {
+        Some(line) => {
+            pen.put(b"\n    ");
+            pen.put(line);
+            Ok(())
+        }
+        None => Err(Trouble::Case),
+    }
+}
+
+/// Adds the line of a fault.
+fn put_fault(pen: &mut Pen, file: &[u8], at: u64, kind: &FaultKind) -> Result<(), Trouble> {
+    match fault_line(pen.alloc(), file, at, kind) {
+        Ok(line) => put_line(pen, line.as_slice()),
+        Err(_) => Err(Trouble::Memory),
+    }
 }
 
 /// Loads the project in DIR, and adds how many models it has, or the line of its first fault.
@@ -46,14 +51,15 @@ pub fn put_loaded<F: Folder>(
     alloc: Global,
     folder: &mut F,
     dir: &[u8],
-    report: &mut Vec<u8>,
+    pen: &mut Pen,
 ) -> Result<(), Trouble> {
     let dir = u8::copy_items(alloc, dir)?;
     match load(alloc, folder, &dir) {
-        Ok(project) => put_models(alloc, report, &project),
-        Err(LoadFault::Fault { file, at, kind }) => {
-            put_fault(alloc, report, file.as_slice(), at, &kind)
+        Ok(project) => {
+            put_models(pen, &project);
+            Ok(())
         }
+        Err(LoadFault::Fault { file, at, kind }) => put_fault(pen, file.as_slice(), at, &kind),
         Err(LoadFault::Folder) => Err(Trouble::Outside),
         Err(LoadFault::Memory) => Err(Trouble::Memory),
     }

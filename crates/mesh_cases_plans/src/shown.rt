@@ -1,50 +1,43 @@
 // How names and categories are shown.
 use mesh_base::{Categories, Category, Node, Reading};
-use mesh_cases::{Trouble, put_count};
+use mesh_cases::Pen;
 use mesh_rules::Project;
 use mesh_values::{Name, Pair};
-use std::alloc::Global;
 
-pub fn put_name(report: &mut Vec<u8>, name: &Name) -> Result<(), Trouble> {
-    report.extend_from_slice(name.schema.as_slice())?;
-    report.push(b'.')?;
-    report.extend_from_slice(name.model.as_slice())?;
-    Ok(())
+fn put_name(pen: &mut Pen, name: &Name) {
+    pen.put(name.schema.as_slice());
+    pen.put(b".");
+    pen.put(name.model.as_slice());
 }
 
 /// Adds a line of its own, which begins with four blanks.
-fn put_begin(report: &mut Vec<u8>) -> Result<(), Trouble> {
-    report.extend_from_slice(b"\n    ")?;
-    Ok(())
+fn put_begin(pen: &mut Pen) {
+    pen.put(b"\n    ");
 }
 
-fn put_reading(report: &mut Vec<u8>, reading: &Reading) -> Result<(), Trouble> {
-    put_begin(report)?;
-    put_name(report, &reading.relation)?;
-    report.push(b' ')?;
-    report.extend_from_slice(reading.column.as_slice())?;
-    Ok(())
+fn put_reading(pen: &mut Pen, reading: &Reading) {
+    put_begin(pen);
+    put_name(pen, &reading.relation);
+    pen.word(reading.column.as_slice());
 }
 
-pub fn put_readings(report: &mut Vec<u8>, readings: &[Reading]) -> Result<(), Trouble> {
+pub fn put_readings(pen: &mut Pen, readings: &[Reading]) {
     for reading in readings {
-        put_reading(report, reading)?;
+        put_reading(pen, reading);
     }
-    Ok(())
 }
 
-fn put_pair(report: &mut Vec<u8>, pair: &Pair) -> Result<(), Trouble> {
-    put_begin(report)?;
-    put_name(report, &pair.first)?;
-    report.extend_from_slice(b" reads ")?;
-    put_name(report, &pair.second)
+fn put_pair(pen: &mut Pen, pair: &Pair) {
+    put_begin(pen);
+    put_name(pen, &pair.first);
+    pen.put(b" reads ");
+    put_name(pen, &pair.second);
 }
 
-pub fn put_pairs(report: &mut Vec<u8>, pairs: &[Pair]) -> Result<(), Trouble> {
+pub fn put_pairs(pen: &mut Pen, pairs: &[Pair]) {
     for pair in pairs {
-        put_pair(report, pair)?;
+        put_pair(pen, pair);
     }
-    Ok(())
 }
 
 fn word_of(category: Category) -> &'static [u8] {
@@ -58,32 +51,27 @@ fn word_of(category: Category) -> &'static [u8] {
     }
 }
 
-fn put_category(report: &mut Vec<u8>, node: &Node, category: Category) -> Result<(), Trouble> {
-    put_begin(report)?;
-    report.extend_from_slice(word_of(category))?;
-    report.push(b' ')?;
-    put_name(report, &node.own.name)
+fn put_category(pen: &mut Pen, node: &Node, category: Category) {
+    put_begin(pen);
+    pen.put(word_of(category));
+    pen.put(b" ");
+    put_name(pen, &node.own.name);
 }
 
-fn put_removed(report: &mut Vec<u8>, name: &Name) -> Result<(), Trouble> {
-    put_begin(report)?;
-    report.extend_from_slice(b"removed ")?;
-    put_name(report, name)
+fn put_removed(pen: &mut Pen, name: &Name) {
+    put_begin(pen);
+    pen.put(b"removed ");
+    put_name(pen, name);
 }
 
 /// Adds the category of each model, and the models that are gone.
-pub fn put_categories(
-    report: &mut Vec<u8>,
-    nodes: &[Node],
-    found: &Categories,
-) -> Result<(), Trouble> {
+pub fn put_categories(pen: &mut Pen, nodes: &[Node], found: &Categories) {
     for (node, category) in nodes.iter().zip(found.of.as_slice()) {
-        put_category(report, node, *category)?;
+        put_category(pen, node, *category);
     }
     for name in found.removed.as_slice() {
-        put_removed(report, name)?;
+        put_removed(pen, name);
     }
-    Ok(())
 }
 
 /// Whether one of these models has the name and the fingerprint of this one.
@@ -104,18 +92,13 @@ fn is_as_before(base: Option<&Project>, node: &Node) -> bool {
 }
 
 /// Adds the models that the project before doesn't have with the same fingerprint.
-pub fn put_changed(
-    report: &mut Vec<u8>,
-    nodes: &[Node],
-    base: Option<&Project>,
-) -> Result<(), Trouble> {
+pub fn put_changed(pen: &mut Pen, nodes: &[Node], base: Option<&Project>) {
     for node in nodes {
         if !is_as_before(base, node) {
-            put_begin(report)?;
-            put_name(report, &node.own.name)?;
+            put_begin(pen);
+            put_name(pen, &node.own.name);
         }
     }
-    Ok(())
 }
 
 fn count_of(found: &Categories, wanted: Category) -> u64 {
@@ -138,12 +121,11 @@ const ALL: [Category; 6] = [
 ];
 
 /// Adds how many models of each category there are.
-pub fn put_counts(alloc: Global, report: &mut Vec<u8>, found: &Categories) -> Result<(), Trouble> {
+pub fn put_counts(pen: &mut Pen, found: &Categories) {
     for category in ALL {
-        put_begin(report)?;
-        report.extend_from_slice(word_of(category))?;
-        report.push(b' ')?;
-        put_count(alloc, report, count_of(found, category))?;
+        put_begin(pen);
+        pen.put(word_of(category));
+        pen.put(b" ");
+        pen.count(count_of(found, category));
     }
-    Ok(())
 }

@@ -3,7 +3,7 @@ use crate::lattice::{model_text, sizes};
 use crate::loads::{loaded, put_loaded};
 use crate::shown::{put_categories, put_changed, put_counts, put_pairs, put_readings};
 use mesh_base::{Node, Own};
-use mesh_cases::{Trouble, filled, front_word, number_of, put_count};
+use mesh_cases::{Pen, Trouble, filled, front_word, number_of};
 use mesh_category::categorize;
 use mesh_io::{DirFolder, File, MemFolder};
 use mesh_lineage::{joinable, reads, unsteady};
@@ -44,24 +44,27 @@ fn copied(loaded: Result<Project, Trouble>) -> Result<Project, Trouble> {
     }
 }
 
-fn put_unsteady(report: &mut Vec<u8>, project: &Project) -> Result<(), Trouble> {
+fn put_unsteady(pen: &mut Pen, project: &Project) -> Result<(), Trouble> {
     let pairs = unsteady(project)?;
-    put_pairs(report, pairs.as_slice())
+    put_pairs(pen, pairs.as_slice());
+    Ok(())
 }
 
-fn put_reads(report: &mut Vec<u8>, own: &Own) -> Result<(), Trouble> {
+fn put_reads(pen: &mut Pen, own: &Own) -> Result<(), Trouble> {
     let readings = reads(own)?;
-    put_readings(report, readings.as_slice())
+    put_readings(pen, readings.as_slice());
+    Ok(())
 }
 
 /// Adds how many columns all models read.
-fn put_read(alloc: Global, report: &mut Vec<u8>, nodes: &[Node]) -> Result<(), Trouble> {
+fn put_read(pen: &mut Pen, nodes: &[Node]) -> Result<(), Trouble> {
     let mut count = 0u64;
     for node in nodes {
         count = count.saturating_add(reads(&node.own)?.len() as u64);
     }
-    report.push(b' ')?;
-    put_count(alloc, report, count)
+    pen.put(b" ");
+    pen.count(count);
+    Ok(())
 }
 
 /// Whether a model's name of two parts is so written.
@@ -83,9 +86,9 @@ fn model<'a>(project: &'a Project, text: &[u8]) -> Result<&'a Node, Trouble> {
     Err(Trouble::Case)
 }
 
-fn put_joinable(report: &mut Vec<u8>, own: &Own) -> Result<(), Trouble> {
-    let word: &[u8] = if joinable(own)? { b" yes" } else { b" no" };
-    Ok(report.extend_from_slice(word)?)
+fn put_joinable(pen: &mut Pen, own: &Own) -> Result<(), Trouble> {
+    pen.put(if joinable(own)? { b" yes" } else { b" no" });
+    Ok(())
 }
 
 /// How often a line asks: once where it doesn't say.
@@ -149,6 +152,12 @@ impl Stage {
         Ok(())
     }
 
+    /// Adds a model whose file was written.
+    fn add_made(&mut self, alloc: Global, text: &Pen) -> Result<(), Trouble> {
+        text.done()?;
+        self.add(alloc, text.text())
+    }
+
     fn add_rank(
         &mut self,
         alloc: Global,
@@ -157,8 +166,7 @@ impl Stage {
         is_wider: bool,
     ) -> Result<(), Trouble> {
         for place in 0..width {
-            let text = model_text(alloc, width, rank, place, is_wider)?;
-            self.add(alloc, text.as_slice())?;
+            self.add_made(alloc, &model_text(alloc, width, rank, place, is_wider))?;
         }
         Ok(())
     }
@@ -200,52 +208,43 @@ impl Stage {
         drop(replace(self, Stage::new(alloc)));
     }
 
-    fn put_categories(&self, report: &mut Vec<u8>, project: &Project) -> Result<(), Trouble> {
+    fn put_categories(&self, pen: &mut Pen, project: &Project) -> Result<(), Trouble> {
         let found = categorize(project, self.base.as_ref())?;
-        put_categories(report, project.as_slice(), &found)
+        put_categories(pen, project.as_slice(), &found);
+        Ok(())
     }
 
-    fn put_counts(
-        &self,
-        alloc: Global,
-        report: &mut Vec<u8>,
-        project: &Project,
-    ) -> Result<(), Trouble> {
+    fn put_counts(&self, pen: &mut Pen, project: &Project) -> Result<(), Trouble> {
         let found = categorize(project, self.base.as_ref())?;
-        put_counts(alloc, report, &found)
+        put_counts(pen, &found);
+        Ok(())
     }
 
     fn put_often(
         &self,
-        alloc: Global,
         word: &[u8],
         times: i64,
         project: &Project,
-        report: &mut Vec<u8>,
+        pen: &mut Pen,
     ) -> Result<(), Trouble> {
         for _ in 0..times {
-            self.put(alloc, word, project, report)?;
+            self.put(word, project, pen)?;
         }
         Ok(())
     }
 
-    fn put(
-        &self,
-        alloc: Global,
-        word: &[u8],
-        project: &Project,
-        report: &mut Vec<u8>,
-    ) -> Result<(), Trouble> {
+    fn put(&self, word: &[u8], project: &Project, pen: &mut Pen) -> Result<(), Trouble> {
         if is(word, b"unsteady") {
-            put_unsteady(report, project)
+            put_unsteady(pen, project)
         } else if is(word, b"categories") {
-            self.put_categories(report, project)
+            self.put_categories(pen, project)
         } else if is(word, b"readings") {
-            put_read(alloc, report, project.as_slice())
+            put_read(pen, project.as_slice())
         } else if is(word, b"count") {
-            self.put_counts(alloc, report, project)
+            self.put_counts(pen, project)
         } else if is(word, b"changed") {
-            put_changed(report, project.as_slice(), self.base.as_ref())
+            put_changed(pen, project.as_slice(), self.base.as_ref());
+            Ok(())
         } else {
             Err(Trouble::Case)
         }
@@ -278,18 +277,17 @@ impl Stage {
     /// Adds what a line asks of one model, or of the project.
     fn answer(
         &self,
-        alloc: Global,
         word: &[u8],
         text: &[u8],
         project: &Project,
-        report: &mut Vec<u8>,
+        pen: &mut Pen,
     ) -> Result<(), Trouble> {
         if is(word, b"reads") {
-            put_reads(report, &model(project, text)?.own)
+            put_reads(pen, &model(project, text)?.own)
         } else if is(word, b"joinable") {
-            put_joinable(report, &model(project, text)?.own)
+            put_joinable(pen, &model(project, text)?.own)
         } else {
-            self.put_often(alloc, word, times_of(text)?, project, report)
+            self.put_often(word, times_of(text)?, project, pen)
         }
     }
 
@@ -299,10 +297,10 @@ impl Stage {
         alloc: Global,
         word: &[u8],
         text: &[u8],
-        report: &mut Vec<u8>,
+        pen: &mut Pen,
     ) -> Result<(), Trouble> {
         let project = self.project(alloc)?;
-        let done = self.answer(alloc, word, text, &project, report);
+        let done = self.answer(word, text, &project, pen);
         drop(replace(&mut self.made, Some(project)));
         done
     }
@@ -314,14 +312,14 @@ impl Stage {
         data: &mut DirFolder,
         word: &[u8],
         text: &[u8],
-        report: &mut Vec<u8>,
+        pen: &mut Pen,
     ) -> Result<(), Trouble> {
         if is(word, b"load") {
-            put_loaded(alloc, &mut self.folder, dir_of(text), report)
+            put_loaded(alloc, &mut self.folder, dir_of(text), pen)
         } else if is(word, b"read") {
-            put_loaded(alloc, data, dir_of(text), report)
+            put_loaded(alloc, data, dir_of(text), pen)
         } else {
-            self.asked(alloc, word, text, report)
+            self.asked(alloc, word, text, pen)
         }
     }
 
@@ -331,16 +329,16 @@ impl Stage {
         alloc: Global,
         data: &mut DirFolder,
         line: &[u8],
-        report: &mut Vec<u8>,
+        pen: &mut Pen,
     ) -> Result<(), Trouble> {
         let (word, rest) = front_word(line);
         let text = filled(alloc, rest)?;
         if self.takes(alloc, word, text.as_slice())? {
             return Ok(());
         }
-        report.extend_from_slice(line)?;
-        self.says(alloc, data, word, text.as_slice(), report)?;
-        report.push(b'\n')?;
+        pen.put(line);
+        self.says(alloc, data, word, text.as_slice(), pen)?;
+        pen.put(b"\n");
         Ok(())
     }
 }

@@ -2,7 +2,7 @@
 use crate::cut::cut_at;
 use mesh_base::{Defn, Input, Inputs, Own, Query, Sources};
 use mesh_canon::{own_text, read_own};
-use mesh_cases::Trouble;
+use mesh_cases::{Pen, Trouble};
 use mesh_external::read_external;
 use mesh_fault_text::fault_line;
 use mesh_list::{Duplicate, Memory, both};
@@ -123,91 +123,93 @@ fn resolved_text(alloc: Global, known: &Known, text: &[u8]) -> Result<Str, ReadF
     }
 }
 
+fn put_line(pen: &mut Pen, line: &[u8]) {
+    pen.put(line.strip_suffix(b"\n").unwrap_or(line));
+}
+
 /// Adds the line of a fault, without its line feed.
-fn put_fault(
-    alloc: Global,
-    report: &mut Vec<u8>,
-    file: &[u8],
-    fault: &ReadFault,
-) -> Result<(), Trouble> {
-    let ReadFault::Fault { at, kind } = fault else {
-        return Err(Trouble::Memory);
-    };
-    let line = fault_line(alloc, file, *at, kind)?;
-    let line = line.as_slice();
-    report.extend_from_slice(line.strip_suffix(b"\n").unwrap_or(line))?;
-    Ok(())
+fn put_fault(pen: &mut Pen, file: &[u8], fault: &ReadFault) -> Result<(), Trouble> {
+    match fault {
+        ReadFault::Fault { at, kind } => {
+            let line = fault_line(pen.alloc(), file, *at, kind)?;
+            put_line(pen, line.as_slice());
+            Ok(())
+        }
+        ReadFault::Memory => Err(Trouble::Memory),
+    }
 }
 
 /// Adds what a query is resolved to, in the text of its definition.
-fn put_query(report: &mut Vec<u8>, text: &Str) -> Result<(), Trouble> {
+fn put_query(pen: &mut Pen, text: &Str) -> Result<(), Trouble> {
     let rest = text.as_slice().strip_prefix(BEFORE).ok_or(Trouble::Case)?;
-    report.extend_from_slice(rest.strip_suffix(b"))").ok_or(Trouble::Case)?)?;
+    pen.put(rest.strip_suffix(b"))").ok_or(Trouble::Case)?);
     Ok(())
 }
 
 /// Adds the type and the expression of a query's first item, which is named `x`.
-fn put_item(report: &mut Vec<u8>, text: &Str) -> Result<(), Trouble> {
+fn put_item(pen: &mut Pen, text: &Str) -> Result<(), Trouble> {
     let (_, behind) = cut_at(text.as_slice(), b"[(as 1:x ")?;
     let (item, _) = cut_at(behind, b")] [(item first")?;
-    report.extend_from_slice(item)?;
+    pen.put(item);
     Ok(())
 }
 
 /// Adds what a query's text means.
-fn put_answer(
-    alloc: Global,
-    report: &mut Vec<u8>,
-    known: &Known,
-    text: &[u8],
-) -> Result<(), Trouble> {
-    match resolved_text(alloc, known, text) {
-        Ok(text) => put_query(report, &text),
-        Err(fault) => put_fault(alloc, report, b"-", &fault),
+fn put_answer(pen: &mut Pen, known: &Known, text: &[u8]) -> Result<(), Trouble> {
+    match resolved_text(pen.alloc(), known, text) {
+        Ok(text) => put_query(pen, &text),
+        Err(fault) => put_fault(pen, b"-", &fault),
+    }
+}
+
+fn put_refusal(pen: &mut Pen, fault: &ReadFault) -> Result<(), Trouble> {
+    match fault {
+        ReadFault::Memory => {
+            pen.put(b"want of memory");
+            Ok(())
+        }
+        ReadFault::Fault { .. } => put_fault(pen, b"-", fault),
     }
 }
 
 /// Adds whether a query means something, without what it means.
-fn put_verdict(
-    alloc: Global,
-    report: &mut Vec<u8>,
-    known: &Known,
-    text: &[u8],
-) -> Result<(), Trouble> {
-    match resolved_text(alloc, known, text) {
-        Ok(_text) => Ok(report.extend_from_slice(b"resolved")?),
-        Err(ReadFault::Memory) => Ok(report.extend_from_slice(b"want of memory")?),
-        Err(fault) => put_fault(alloc, report, b"-", &fault),
+fn put_verdict(pen: &mut Pen, known: &Known, text: &[u8]) -> Result<(), Trouble> {
+    match resolved_text(pen.alloc(), known, text) {
+        Ok(_text) => {
+            pen.put(b"resolved");
+            Ok(())
+        }
+        Err(fault) => put_refusal(pen, &fault),
     }
 }
 
-/// Adds what an expression over `a.t` means.
-fn put_expression(
-    alloc: Global,
-    report: &mut Vec<u8>,
-    known: &Known,
-    expression: &[u8],
-) -> Result<(), Trouble> {
-    let mut text = Vec::from_slice(alloc, b"SELECT ")?;
-    text.extend_from_slice(expression)?;
-    text.extend_from_slice(b" AS x FROM a.t")?;
-    match resolved_text(alloc, known, text.as_slice()) {
-        Ok(text) => put_item(report, &text),
-        Err(fault) => put_fault(alloc, report, b"-", &fault),
+/// The query of an expression over `a.t`.
+fn selected(alloc: Global, expression: &[u8]) -> Pen {
+    let mut text = Pen::new(alloc);
+    text.put(b"SELECT ");
+    text.put(expression);
+    text.put(b" AS x FROM a.t");
+    text
+}
+
+/// Adds what the only item of such a query means.
+fn put_selected(pen: &mut Pen, known: &Known, query: &Pen) -> Result<(), Trouble> {
+    query.done()?;
+    match resolved_text(pen.alloc(), known, query.text()) {
+        Ok(text) => put_item(pen, &text),
+        Err(fault) => put_fault(pen, b"-", &fault),
     }
 }
 
 /// Adds what a model's file means.
-fn put_definition(
-    alloc: Global,
-    report: &mut Vec<u8>,
-    known: &Known,
-    text: &[u8],
-) -> Result<(), Trouble> {
-    let file = u8::copy_items(alloc, b"models/m.sql")?;
-    match definition_text(alloc, known, &file, text) {
-        Ok(text) => Ok(report.extend_from_slice(text.as_slice())?),
-        Err(fault) => put_fault(alloc, report, file.as_slice(), &fault),
+fn put_definition(pen: &mut Pen, known: &Known, text: &[u8]) -> Result<(), Trouble> {
+    let file = u8::copy_items(pen.alloc(), b"models/m.sql")?;
+    match definition_text(pen.alloc(), known, &file, text) {
+        Ok(text) => {
+            pen.put(text.as_slice());
+            Ok(())
+        }
+        Err(fault) => put_fault(pen, file.as_slice(), &fault),
     }
 }
 
@@ -244,22 +246,16 @@ impl Asked {
     }
 
     /// Adds what the text behind a line's head means.
-    pub fn put(
-        &mut self,
-        alloc: Global,
-        report: &mut Vec<u8>,
-        head: &[u8],
-        text: &[u8],
-    ) -> Result<(), Trouble> {
+    pub fn put(&mut self, pen: &mut Pen, head: &[u8], text: &[u8]) -> Result<(), Trouble> {
         self.known.macros = is(head, b"macros") || is(head, b"timed");
         if is(head, b"expr") {
-            put_expression(alloc, report, &self.known, text)
+            put_selected(pen, &self.known, &selected(pen.alloc(), text))
         } else if is(head, b"own") || is(head, b"timed") {
-            put_definition(alloc, report, &self.known, text)
+            put_definition(pen, &self.known, text)
         } else if is(head, b"read") {
-            put_verdict(alloc, report, &self.known, text)
+            put_verdict(pen, &self.known, text)
         } else {
-            put_answer(alloc, report, &self.known, text)
+            put_answer(pen, &self.known, text)
         }
     }
 

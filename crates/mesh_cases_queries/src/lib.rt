@@ -41,33 +41,37 @@ use crate::asked::Asked;
 use crate::stage::Stage;
 use crate::waves::put_waves;
 use mesh_base::Inputs;
-use mesh_cases::{Trouble, cases_of, file_of, filled, halves};
+use mesh_cases::{Pen, Trouble, cases_of, file_of, filled, halves};
 use mesh_io::DirFolder;
 use std::alloc::Global;
 use std::thread::Threads;
 
 /// Runs a line of the file of queries that are resolved.
-fn ask(alloc: Global, asked: &mut Asked, report: &mut Vec<u8>, line: &[u8]) -> Result<(), Trouble> {
+fn ask(alloc: Global, asked: &mut Asked, pen: &mut Pen, line: &[u8]) -> Result<(), Trouble> {
     let (head, text) = halves(line).unwrap_or((b"".as_slice(), line));
     let text = filled(alloc, text)?;
     if asked.takes(alloc, head, text.as_slice())? {
         return Ok(());
     }
-    report.extend_from_slice(line)?;
-    report.extend_from_slice(b"\n    ")?;
-    asked.put(alloc, report, head, text.as_slice())?;
-    report.push(b'\n')?;
+    pen.put(line);
+    pen.put(b"\n    ");
+    asked.put(pen, head, text.as_slice())?;
+    pen.put(b"\n");
     Ok(())
 }
 
+fn ask_all(alloc: Global, asked: &mut Asked, pen: &mut Pen, file: &[u8]) -> Result<(), Trouble> {
+    for line in &cases_of(alloc, file)? {
+        ask(alloc, asked, pen, line)?;
+    }
+    pen.done()
+}
+
 /// Runs the queries that are resolved.
-fn resolved(alloc: Global, data: &mut DirFolder, report: &mut Vec<u8>) -> Result<(), Trouble> {
+fn resolved(alloc: Global, data: &mut DirFolder, pen: &mut Pen) -> Result<(), Trouble> {
     let file = file_of(alloc, data, b"queries", b"resolved.txt")?;
     let mut asked = Asked::new(alloc);
-    for line in cases_of(alloc, file.as_slice())? {
-        ask(alloc, &mut asked, report, line)?;
-    }
-    Ok(())
+    ask_all(alloc, &mut asked, pen, file.as_slice())
 }
 
 /// Runs a line of the file of cases that have rows.
@@ -78,8 +82,8 @@ fn case<R: Threads + Sync>(
     line: &[u8],
 ) -> Result<(), Trouble> {
     if line == b"waves".as_slice() {
-        stage.report.extend_from_slice(b"waves\n")?;
-        return put_waves(rt, alloc, &mut stage.report);
+        stage.pen.put(b"waves\n");
+        return put_waves(rt, alloc, &mut stage.pen);
     }
     stage.run(alloc, line)
 }
@@ -92,10 +96,10 @@ fn cases<R: Threads + Sync>(
     stage: &mut Stage,
 ) -> Result<(), Trouble> {
     let file = file_of(alloc, data, b"queries", b"cases.txt")?;
-    for line in cases_of(alloc, file.as_slice())? {
+    for line in &cases_of(alloc, file.as_slice())? {
         case(rt, alloc, stage, line)?;
     }
-    resolved(alloc, data, &mut stage.report)
+    resolved(alloc, data, &mut stage.pen)
 }
 
 /// Adds what each query of the folder `queries` means, or its rows.
@@ -108,9 +112,9 @@ pub fn run<R: Threads + Sync>(
     let mut stage = Stage {
         words: Vec::new(alloc),
         tables: Inputs::new(alloc),
-        report: Vec::new(alloc),
+        pen: Pen::new(alloc),
     };
     let done = cases(rt, alloc, data, &mut stage);
-    report.extend_from_slice(stage.report.as_slice())?;
+    report.extend_from_slice(stage.pen.text())?;
     done
 }

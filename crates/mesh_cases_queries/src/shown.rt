@@ -1,53 +1,43 @@
 // How rows, and places of rows, are shown.
-use mesh_cases::{Trouble, put_number, shown};
+use mesh_cases::{Pen, Trouble};
 use mesh_index::Index;
 use mesh_values::{Cell, Row, Rows};
-use std::alloc::Global;
 
-fn put_text(report: &mut Vec<u8>, text: &[u8]) -> Result<(), Trouble> {
-    report.push(b'\'')?;
-    shown(report, text)?;
-    report.push(b'\'')?;
-    Ok(())
+fn put_text(pen: &mut Pen, text: &[u8]) {
+    pen.put(b"'");
+    pen.shown(text);
+    pen.put(b"'");
 }
 
-fn put_day(alloc: Global, report: &mut Vec<u8>, day: i32) -> Result<(), Trouble> {
-    report.extend_from_slice(b"day ")?;
-    put_number(alloc, report, i64::from(day))
+fn put_day(pen: &mut Pen, day: i32) {
+    pen.put(b"day ");
+    pen.number(i64::from(day));
 }
 
-fn put_truth(report: &mut Vec<u8>, truth: bool) -> Result<(), Trouble> {
-    let word = if truth { b"true".as_slice() } else { b"false" };
-    report.extend_from_slice(word)?;
-    Ok(())
-}
-
-fn put_cell(alloc: Global, report: &mut Vec<u8>, c: &Cell) -> Result<(), Trouble> {
+fn put_cell(pen: &mut Pen, c: &Cell) {
     match c {
-        Cell::Null => Ok(report.extend_from_slice(b"null")?),
-        Cell::Int(n) => put_number(alloc, report, *n),
-        Cell::Text(text) => put_text(report, text.as_slice()),
-        Cell::Date(day) => put_day(alloc, report, *day),
-        Cell::Bool(truth) => put_truth(report, *truth),
+        Cell::Null => pen.put(b"null"),
+        Cell::Int(n) => pen.number(*n),
+        Cell::Text(text) => put_text(pen, text.as_slice()),
+        Cell::Date(day) => put_day(pen, *day),
+        Cell::Bool(truth) => pen.put(if *truth { b"true" } else { b"false" }),
     }
 }
 
 /// Adds each cell behind a blank.
-fn put_row(alloc: Global, report: &mut Vec<u8>, row: &Row) -> Result<(), Trouble> {
+fn put_row(pen: &mut Pen, row: &Row) {
     for c in row.as_slice() {
-        report.push(b' ')?;
-        put_cell(alloc, report, c)?;
+        pen.put(b" ");
+        put_cell(pen, c);
     }
-    Ok(())
 }
 
 /// Adds each row with a semicolon behind it.
-pub fn put_rows(alloc: Global, report: &mut Vec<u8>, rows: &Rows) -> Result<(), Trouble> {
+pub fn put_rows(pen: &mut Pen, rows: &Rows) {
     for row in rows.as_slice() {
-        put_row(alloc, report, row)?;
-        report.push(b';')?;
+        put_row(pen, row);
+        pen.put(b";");
     }
-    Ok(())
 }
 
 /// The sum of the numbers in rows, by which long answers are told apart.
@@ -63,55 +53,44 @@ fn sum(rows: &Rows) -> i64 {
     made
 }
 
-fn put_count(alloc: Global, report: &mut Vec<u8>, count: usize) -> Result<(), Trouble> {
-    let digits = format!(in alloc; " {count}")?;
-    report.extend_from_slice(digits.as_bytes())?;
-    Ok(())
+fn put_count(pen: &mut Pen, count: usize) {
+    pen.put(b" ");
+    pen.count(count as u64);
 }
 
 /// Adds the number of rows, and the sum of their numbers.
-pub fn put_sum(alloc: Global, report: &mut Vec<u8>, rows: &Rows) -> Result<(), Trouble> {
-    put_count(alloc, report, rows.len())?;
-    report.push(b' ')?;
-    put_number(alloc, report, sum(rows))
+pub fn put_sum(pen: &mut Pen, rows: &Rows) {
+    put_count(pen, rows.len());
+    pen.put(b" ");
+    pen.number(sum(rows));
 }
 
 /// Adds a row, all places where the index has it, and the first of them.
-fn put_places_of(
-    alloc: Global,
-    report: &mut Vec<u8>,
-    index: &Index,
-    row: &Row,
-) -> Result<(), Trouble> {
-    let mut found = Vec::new(alloc);
+fn put_places_of(pen: &mut Pen, index: &Index, row: &Row) -> Result<(), Trouble> {
+    let mut found = Vec::new(pen.alloc());
     index.find(row, &mut found)?;
-    put_row(alloc, report, row)?;
-    report.extend_from_slice(b" at")?;
+    put_row(pen, row);
+    pen.put(b" at");
     for place in found.iter() {
-        put_count(alloc, report, *place)?;
+        put_count(pen, *place);
     }
-    put_first(alloc, report, index.first(row))
-}
-
-fn put_first(alloc: Global, report: &mut Vec<u8>, first: Option<usize>) -> Result<(), Trouble> {
-    if let Some(place) = first {
-        report.extend_from_slice(b" first")?;
-        put_count(alloc, report, place)?;
-    }
-    report.push(b';')?;
+    put_first(pen, index.first(row));
     Ok(())
 }
 
+fn put_first(pen: &mut Pen, first: Option<usize>) {
+    if let Some(place) = first {
+        pen.put(b" first");
+        put_count(pen, place);
+    }
+    pen.put(b";");
+}
+
 /// Adds the places of each of these rows among others.
-pub fn put_places(
-    alloc: Global,
-    report: &mut Vec<u8>,
-    among: &Rows,
-    rows: &Rows,
-) -> Result<(), Trouble> {
-    let index = Index::new(alloc, among.as_slice())?;
+pub fn put_places(pen: &mut Pen, among: &Rows, rows: &Rows) -> Result<(), Trouble> {
+    let index = Index::new(pen.alloc(), among.as_slice())?;
     for row in rows.as_slice() {
-        put_places_of(alloc, report, &index, row)?;
+        put_places_of(pen, &index, row)?;
     }
     Ok(())
 }

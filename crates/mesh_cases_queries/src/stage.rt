@@ -4,7 +4,7 @@ use crate::shown::{put_places, put_rows, put_sum};
 use crate::words::{Word, expanded};
 use mesh_base::{Defn, Input, Inputs, Own, Query, Sources};
 use mesh_canon::read_own;
-use mesh_cases::{Trouble, halves};
+use mesh_cases::{Pen, Trouble, halves};
 use mesh_columns::columns_of;
 use mesh_eval::eval;
 use mesh_index::distinct_rows;
@@ -24,20 +24,31 @@ const DAY: Bounds = Bounds {
 pub struct Stage {
     pub words: Vec<Word>,
     pub tables: Inputs,
-    pub report: Vec<u8>,
+    pub pen: Pen,
+}
+
+/// The text of a model of the schema `a`.
+fn model_text(alloc: Global, name: &[u8], body: &[u8]) -> Pen {
+    let mut text = Pen::new(alloc);
+    text.put(b"(own 1:a ");
+    text.put(name);
+    text.put(b" (full) 9:0 0 * * * day none [] ");
+    text.put(body);
+    text.put(b")");
+    text
+}
+
+fn read(text: &Pen) -> Result<Own, Trouble> {
+    text.done()?;
+    match read_own(text.alloc(), text.text()) {
+        Ok(own) => Ok(own),
+        Err(_) => Err(Trouble::Case),
+    }
 }
 
 /// The definition of a model of the schema `a`, which is written as in canonical text.
 fn definition(alloc: Global, name: &[u8], body: &[u8]) -> Result<Own, Trouble> {
-    let mut text = Vec::from_slice(alloc, b"(own 1:a ")?;
-    text.extend_from_slice(name)?;
-    text.extend_from_slice(b" (full) 9:0 0 * * * day none [] ")?;
-    text.extend_from_slice(body)?;
-    text.push(b')')?;
-    match read_own(alloc, text.as_slice()) {
-        Ok(own) => Ok(own),
-        Err(_) => Err(Trouble::Case),
-    }
+    read(&model_text(alloc, name, body))
 }
 
 /// The tables, as a query's text may name them.
@@ -83,12 +94,12 @@ fn queried(alloc: Global, name: &[u8], query: Query) -> Result<Own, Trouble> {
 }
 
 /// The query of an expression.
-fn of_expression(alloc: Global, expression: &[u8]) -> Result<Vec<u8>, Trouble> {
-    let front = b"(query [] [(select all plain [(as 1:x int ";
-    let mut text = Vec::from_slice(alloc, front)?;
-    text.extend_from_slice(expression)?;
-    text.extend_from_slice(b")] [] none [] none)])")?;
-    Ok(text)
+fn of_expression(alloc: Global, expression: &[u8]) -> Pen {
+    let mut text = Pen::new(alloc);
+    text.put(b"(query [] [(select all plain [(as 1:x int ");
+    text.put(expression);
+    text.put(b")] [] none [] none)])");
+    text
 }
 
 /// The rows of a seed, or those of a query over the tables.
@@ -99,9 +110,10 @@ fn rows_of(alloc: Global, tables: &Inputs, own: &Own) -> Result<Rows, Trouble> {
     }
 }
 
-fn put_distinct(alloc: Global, report: &mut Vec<u8>, rows: Rows) -> Result<(), Trouble> {
+fn put_distinct(pen: &mut Pen, rows: Rows) -> Result<(), Trouble> {
     let kept = distinct_rows(rows)?;
-    put_rows(alloc, report, &kept)
+    put_rows(pen, &kept);
+    Ok(())
 }
 
 impl Stage {
@@ -125,32 +137,34 @@ impl Stage {
     }
 
     /// Adds the places of rows in the last table.
-    fn places(&mut self, alloc: Global, rows: &Rows) -> Result<(), Trouble> {
+    fn places(&mut self, rows: &Rows) -> Result<(), Trouble> {
         match self.tables.as_slice() {
-            [.., last] => put_places(alloc, &mut self.report, &last.rows, rows),
+            [.., last] => put_places(&mut self.pen, &last.rows, rows),
             [] => Err(Trouble::Case),
         }
     }
 
     /// Adds what rows show.
-    fn rows(&mut self, alloc: Global, head: &[u8], rows: Rows) -> Result<(), Trouble> {
+    fn rows(&mut self, head: &[u8], rows: Rows) -> Result<(), Trouble> {
         if head.starts_with(b"sum ") {
-            put_sum(alloc, &mut self.report, &rows)
+            put_sum(&mut self.pen, &rows);
+            Ok(())
         } else if head.starts_with(b"distinct ") {
-            put_distinct(alloc, &mut self.report, rows)
+            put_distinct(&mut self.pen, rows)
         } else if head.starts_with(b"places ") {
-            self.places(alloc, &rows)
+            self.places(&rows)
         } else {
-            put_rows(alloc, &mut self.report, &rows)
+            put_rows(&mut self.pen, &rows);
+            Ok(())
         }
     }
 
     /// Adds the line of a case.
-    fn line(&mut self, alloc: Global, head: &[u8], rows: Rows) -> Result<(), Trouble> {
-        self.report.extend_from_slice(head)?;
-        self.report.push(b':')?;
-        self.rows(alloc, head, rows)?;
-        self.report.push(b'\n')?;
+    fn line(&mut self, head: &[u8], rows: Rows) -> Result<(), Trouble> {
+        self.pen.put(head);
+        self.pen.put(b":");
+        self.rows(head, rows)?;
+        self.pen.put(b"\n");
         Ok(())
     }
 
@@ -179,7 +193,7 @@ impl Stage {
     /// Adds the line of a definition's rows.
     fn told(&mut self, alloc: Global, head: &[u8], own: &Own) -> Result<(), Trouble> {
         let rows = rows_of(alloc, &self.tables, own)?;
-        self.line(alloc, head, rows)
+        self.line(head, rows)
     }
 
     /// Runs a line whose text stands behind a head.
@@ -198,8 +212,9 @@ impl Stage {
     /// Runs a line that is an expression.
     fn expression(&mut self, alloc: Global, line: &[u8]) -> Result<(), Trouble> {
         let text = expanded(alloc, self.words.as_slice(), line)?;
-        let query = of_expression(alloc, text.as_slice())?;
-        self.case(alloc, line, query.as_slice())
+        let query = of_expression(alloc, text.as_slice());
+        query.done()?;
+        self.case(alloc, line, query.text())
     }
 
     pub fn run(&mut self, alloc: Global, line: &[u8]) -> Result<(), Trouble> {

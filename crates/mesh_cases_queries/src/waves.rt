@@ -5,7 +5,7 @@ ghost use Rattle.mesh_base.specs.declared.jobs.Job.{Job};
 
 use crate::jobs::{jobs, pools, query};
 use mesh_base::{Jobs, Pools, Query};
-use mesh_cases::{Trouble, put_count};
+use mesh_cases::{Pen, Trouble};
 use mesh_cases_gates::Holding;
 use mesh_values::{Cell, RowsList};
 use mesh_wave::{Gate, OpenGate, wave};
@@ -63,21 +63,20 @@ fn are_placed(lists: &RowsList) -> bool {
     true
 }
 
-fn put_lists(alloc: Global, report: &mut Vec<u8>, lists: &RowsList) -> Result<(), Trouble> {
-    put_count(alloc, report, lists.len() as u64)?;
-    let places: &[u8] = if are_placed(lists) {
+fn put_lists(pen: &mut Pen, lists: &RowsList) {
+    pen.count(lists.len() as u64);
+    pen.put(if are_placed(lists) {
         b" lists, each at its own place\n"
     } else {
         b" lists at other places\n"
-    };
-    Ok(report.extend_from_slice(places)?)
+    });
 }
 
 /// Adds where the lists of a wave of these jobs stand.
 fn put_jobs<R: Threads + Sync, G: Gate>(
     rt: &R,
     alloc: Global,
-    report: &mut Vec<u8>,
+    pen: &mut Pen,
     pools: &Pools,
     jobs: &Jobs,
     workers: u32,
@@ -86,7 +85,10 @@ fn put_jobs<R: Threads + Sync, G: Gate>(
     requires { (1 ≤ workers) × (workers ≤ 64) }
 {
     match lists(rt, alloc, pools, jobs, workers, gate) {
-        Ok(lists) => put_lists(alloc, report, &lists),
+        Ok(lists) => {
+            put_lists(pen, &lists);
+            Ok(())
+        }
         Err(trouble) => Err(trouble),
     }
 }
@@ -95,7 +97,7 @@ fn put_jobs<R: Threads + Sync, G: Gate>(
 fn put_wave<R: Threads + Sync, G: Gate>(
     rt: &R,
     alloc: Global,
-    report: &mut Vec<u8>,
+    pen: &mut Pen,
     over: &Over,
     count: u32,
     workers: u32,
@@ -104,7 +106,7 @@ fn put_wave<R: Threads + Sync, G: Gate>(
     requires { (1 ≤ workers) × (workers ≤ 64) }
 {
     match jobs(alloc, over.query, count) {
-        Ok(jobs) => put_jobs(rt, alloc, report, over.pools, &jobs, workers, gate),
+        Ok(jobs) => put_jobs(rt, alloc, pen, over.pools, &jobs, workers, gate),
         Err(trouble) => Err(trouble),
     }
 }
@@ -113,40 +115,38 @@ fn put_wave<R: Threads + Sync, G: Gate>(
 fn put_held<R: Threads + Sync>(
     rt: &R,
     alloc: Global,
-    report: &mut Vec<u8>,
+    pen: &mut Pen,
     over: &Over,
 ) -> Result<(), Trouble> {
     let gate = Holding::new();
-    put_wave(rt, alloc, report, over, 2, 2, &gate)?;
-    if gate.is_late() {
-        report.extend_from_slice(b"too late\n")?;
-    }
+    put_wave(rt, alloc, pen, over, 2, 2, &gate)?;
+    pen.put_if(gate.is_late(), b"too late\n");
     Ok(())
 }
 
 fn put_all<R: Threads + Sync>(
     rt: &R,
     alloc: Global,
-    report: &mut Vec<u8>,
+    pen: &mut Pen,
     over: &Over,
 ) -> Result<(), Trouble> {
-    put_wave(rt, alloc, report, over, 0, 64, &OpenGate)?;
-    put_held(rt, alloc, report, over)?;
-    put_wave(rt, alloc, report, over, 256, 1, &OpenGate)?;
-    put_wave(rt, alloc, report, over, 256, 3, &OpenGate)
+    put_wave(rt, alloc, pen, over, 0, 64, &OpenGate)?;
+    put_held(rt, alloc, pen, over)?;
+    put_wave(rt, alloc, pen, over, 256, 1, &OpenGate)?;
+    put_wave(rt, alloc, pen, over, 256, 3, &OpenGate)
 }
 
 fn put_over<R: Threads + Sync>(
     rt: &R,
     alloc: Global,
-    report: &mut Vec<u8>,
+    pen: &mut Pen,
     query: &Query,
 ) -> Result<(), Trouble> {
     match pools(alloc, 256) {
         Ok(pools) => put_all(
             rt,
             alloc,
-            report,
+            pen,
             &Over {
                 query,
                 pools: &pools,
@@ -157,13 +157,9 @@ fn put_over<R: Threads + Sync>(
 }
 
 /// Adds what comes of waves without a job, of two of which one waits for the other, and of 256.
-pub fn put_waves<R: Threads + Sync>(
-    rt: &R,
-    alloc: Global,
-    report: &mut Vec<u8>,
-) -> Result<(), Trouble> {
+pub fn put_waves<R: Threads + Sync>(rt: &R, alloc: Global, pen: &mut Pen) -> Result<(), Trouble> {
     match query(alloc) {
-        Ok(query) => put_over(rt, alloc, report, &query),
+        Ok(query) => put_over(rt, alloc, pen, &query),
         Err(trouble) => Err(trouble),
     }
 }
