@@ -1,10 +1,10 @@
 // What is read, and lists of it.
-ghost use Rattle.std.specs.Prelude.{◌≡◌, ◌-◌, ℕ, List, Option, length};
-ghost use Rattle.mesh_canon_words.specs.Words.{Gives, then_at};
+ghost use Rattle.std.specs.Prelude.{◌≡◌, ◌-◌, ℕ, List, [], ◌∷◌, Option, Some, IfOk, length};
+ghost use Rattle.mesh_canon_words.specs.Words.{◌>>=◌ as and_then, Gives, after, then_at};
 ghost use Rattle.mesh_canon_reading.specs.Reading.{list_at, members_at, more_at, with_front};
 
 use mesh_canon_words::{CanonFault, after, expect};
-use mesh_list::Seq;
+use mesh_list::{Memory, Seq};
 use std::alloc::Global;
 
 /// A value that stands at the front of some bytes.
@@ -14,6 +14,28 @@ pub trait Readable: Drop {
     /// The value, and what is left behind it.
     fn read(alloc: Global, bytes: &[u8]) -> Result<(Self, &[u8]), CanonFault>
         ensures { Gives (λ x. (x.0, x.1.now)) result (reading bytes.now) };
+}
+
+/// A value that was read, and what is left behind the sign that has to come. It takes the value, which is let go here
+/// where the sign doesn't come.
+pub(crate) fn shut<'a, T: Drop>(
+    value: T,
+    bytes: &'a [u8],
+    sign: &[u8],
+) -> Result<(T, &'a [u8]), CanonFault>
+    ensures { Gives {Y = T × List ℕ} (λ x. (x.0, x.1.now)) result (and_then (after sign.now bytes.now) (λ rest. Some (value, rest))) }
+{
+    let rest = expect(bytes, sign)?;
+    Ok((value, rest))
+}
+
+/// The list of one member.
+pub(crate) fn one<T: Drop>(alloc: Global, item: T) -> Result<Seq<T>, Memory>
+    ensures { IfOk result (λ made. made ≡ item ∷ []) }
+{
+    let mut made = Seq::new(alloc);
+    made.push(item)?;
+    Ok(made)
 }
 
 /// A value and the sign behind it.
@@ -26,8 +48,7 @@ pub(crate) fn part<'a, T: Readable>(
     ensures { Gives (λ x. (x.0, x.1.now)) result (then_at sign.now T.reading bytes.now) }
 {
     let (value, rest) = T::read(alloc, bytes)?;
-    let rest = expect(rest, sign)?;
-    Ok((value, rest))
+    shut(value, rest, sign)
 }
 
 /// A list in brackets and the sign behind it.
@@ -40,8 +61,7 @@ pub(crate) fn list_then<'a, T: Readable>(
     ensures { Gives (λ x. (x.0, x.1.now)) result (then_at sign.now (list_at T.reading) bytes.now) }
 {
     let (made, rest) = list(alloc, bytes)?;
-    let rest = expect(rest, sign)?;
-    Ok((made, rest))
+    shut(made, rest, sign)
 }
 
 /// A list in brackets.
@@ -61,8 +81,7 @@ fn members<T: Readable>(alloc: Global, bytes: &[u8]) -> Result<(Seq<T>, &[u8]), 
     ensures { Gives (λ x. (x.0, x.1.now)) result (members_at T.reading bytes.now) }
 {
     let (first, rest) = T::read(alloc, bytes)?;
-    let mut made = Seq::new(alloc);
-    made.push(first)?;
+    let made = one(alloc, first)?;
     more(alloc, made, rest)
 }
 

@@ -35,21 +35,26 @@ fn put_fields(out: &mut Vec<u8>, cron: &Cron) -> Result<(), Memory>
 fn put_hours(out: &mut Vec<u8>, cron: &Cron) -> Result<(), Memory>
     ensures { OnOk result (out.new.items ≡ out.old.items ++ (field_text (cron.now.minute == 0xfff_ffff_ffff_ffff) 60 cron.now.minute · codes " " · field_text (cron.now.hour == 0xff_ffff) 24 cron.now.hour · codes " ")) }
 {
-    put_field(out, cron.minute == EACH_MINUTE, 60, cron.minute)?;
-    put(out, b" ")?;
-    put_field(out, cron.hour == EACH_HOUR, 24, u64::from(cron.hour))?;
-    put(out, b" ")
+    put_field_then(out, cron.minute == EACH_MINUTE, 60, cron.minute)?;
+    put_field_then(out, cron.hour == EACH_HOUR, 24, u64::from(cron.hour))
 }
 
 // The day of the month, the month and the day of the week.
 fn put_days(out: &mut Vec<u8>, cron: &Cron) -> Result<(), Memory>
     ensures { OnOk result (out.new.items ≡ out.old.items ++ (field_text cron.now.dom_star 32 cron.now.dom · codes " " · field_text (cron.now.month == 0x1ffe) 13 cron.now.month · codes " " · field_text cron.now.dow_star 7 cron.now.dow)) }
 {
-    put_field(out, cron.dom_star, 32, u64::from(cron.dom))?;
-    put(out, b" ")?;
-    put_field(out, cron.month == EACH_MONTH, 13, u64::from(cron.month))?;
-    put(out, b" ")?;
+    put_field_then(out, cron.dom_star, 32, u64::from(cron.dom))?;
+    put_field_then(out, cron.month == EACH_MONTH, 13, u64::from(cron.month))?;
     put_field(out, cron.dow_star, 7, u64::from(cron.dow))
+}
+
+// A field and a space.
+fn put_field_then(out: &mut Vec<u8>, star: bool, count: u32, set: u64) -> Result<(), Memory>
+    requires { count ≤ 60 }
+    ensures { OnOk result (out.new.items ≡ out.old.items ++ (field_text star count set ++ codes " ")) }
+{
+    put_field(out, star, count, set)?;
+    put(out, b" ")
 }
 
 // `*`, or the ascending values of a set with a comma between.
@@ -59,8 +64,7 @@ fn put_field(out: &mut Vec<u8>, star: bool, count: u32, set: u64) -> Result<(), 
     ensures { OnOk result (out.new.items ≡ out.old.items ++ field_text star count set) }
 {
     if star {
-        out.push(b'*')?;
-        Ok(())
+        put(out, b"*")
     } else {
         put_values(out, count, 0, set)
     }

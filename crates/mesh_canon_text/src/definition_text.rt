@@ -6,10 +6,10 @@ ghost use Rattle.mesh_canon_text.specs.Text.{◌·◌, body_text, cron_text, kin
 
 use crate::cron_text::put_cron;
 use crate::form::Form;
-use crate::number_text::{put, put_number, put_signed, put_text};
+use crate::number_text::{put, put_between, put_number, put_signed, put_text, put_text_behind};
 use crate::query_text::put_query;
-use crate::value_text::put_name;
-use crate::written::{Written, put_list};
+use crate::value_text::put_name_between;
+use crate::written::{Written, put_list, put_list_then};
 use mesh_base::{Decl, Defn, Own, Ref, Refs};
 use mesh_list::{Memory, Seq};
 use mesh_values::{Kind, Str, Strs, Unit};
@@ -33,11 +33,9 @@ fn put_lookback(out: &mut Vec<u8>, form: Form, lookback: u32) -> Result<(), Memo
 fn put_incremental(out: &mut Vec<u8>, form: Form, time: &[u8], lookback: u32) -> Result<(), Memory>
     ensures { OnOk result (out.new.items ≡ out.old.items ++ (codes "(incremental " · text_of time.now · lookback_by form lookback · codes ")")) }
 {
-    put(out, b"(incremental ")?;
-    put_text(out, time)?;
+    put_text_behind(out, b"(incremental ", time)?;
     put_lookback(out, form, lookback)?;
-    put(out, b")")?;
-    Ok(())
+    put(out, b")")
 }
 
 #[tactic(auto, unfolding(crate::specs::Text::kind_by))]
@@ -72,10 +70,7 @@ fn put_start(out: &mut Vec<u8>, start: Option<i32>) -> Result<(), Memory>
     ensures { OnOk result (out.new.items ≡ out.old.items ++ start_text start) }
 {
     match start {
-        None => {
-            out.extend_from_slice(b"none")?;
-            Ok(())
-        }
+        None => put(out, b"none"),
         Some(day) => put_signed(out, i64::from(day)),
     }
 }
@@ -86,10 +81,7 @@ fn put_time(out: &mut Vec<u8>, time: &Option<Str>) -> Result<(), Memory>
     ensures { OnOk result (out.new.items ≡ out.old.items ++ time_text time.now) }
 {
     match time {
-        None => {
-            out.extend_from_slice(b"none")?;
-            Ok(())
-        }
+        None => put(out, b"none"),
         Some(time) => put_text(out, time.as_slice()),
     }
 }
@@ -99,14 +91,10 @@ impl Written for Decl {
 
     #[tactic(auto, unfolding(crate::specs::Text::source_text))]
     fn put(&self, out: &mut Vec<u8>) -> Result<(), Memory> {
-        out.extend_from_slice(b"(source ")?;
-        put_name(out, &self.name)?;
-        out.push(b' ')?;
-        put_list(out, self.columns.as_slice())?;
-        out.push(b' ')?;
+        put_name_between(out, b"(source ", &self.name, b" ")?;
+        put_list_then(out, self.columns.as_slice(), b" ")?;
         put_time(out, &self.time)?;
-        out.push(b')')?;
-        Ok(())
+        put(out, b")")
     }
 }
 
@@ -116,12 +104,9 @@ fn put_body(out: &mut Vec<u8>, body: &Defn) -> Result<(), Memory>
 {
     match body {
         Defn::Seed { columns, rows } => {
-            out.extend_from_slice(b"(seed ")?;
-            put_list(out, columns.as_slice())?;
-            out.push(b' ')?;
-            put_list(out, rows.as_slice())?;
-            out.push(b')')?;
-            Ok(())
+            put(out, b"(seed ")?;
+            put_list_then(out, columns.as_slice(), b" ")?;
+            put_list_then(out, rows.as_slice(), b")")
         }
         Defn::Sql(query) => put_query(out, query),
     }
@@ -140,9 +125,7 @@ fn put_own(alloc: Global, out: &mut Vec<u8>, form: Form, m: &Own) -> Result<(), 
 fn put_head(out: &mut Vec<u8>, form: Form, m: &Own) -> Result<(), Memory>
     ensures { OnOk result (out.new.items ≡ out.old.items ++ (codes "(own " · text_of m.now.name.schema · codes " " · text_of m.now.name.model · codes " " · kind_by form m.now.kind · codes " ")) }
 {
-    put(out, b"(own ")?;
-    put_name(out, &m.name)?;
-    put(out, b" ")?;
+    put_name_between(out, b"(own ", &m.name, b" ")?;
     put_kind(out, form, &m.kind)?;
     put(out, b" ")
 }
@@ -152,9 +135,7 @@ fn put_times(alloc: Global, out: &mut Vec<u8>, m: &Own) -> Result<(), Memory>
     ensures { OnOk result (out.new.items ≡ out.old.items ++ (cron_text m.now.cron · codes " " · unit_word m.now.unit · codes " " · start_text m.now.start · codes " ")) }
 {
     put_cron(alloc, out, &m.cron)?;
-    put(out, b" ")?;
-    put(out, unit_word(m.unit))?;
-    put(out, b" ")?;
+    put_between(out, b" ", unit_word(m.unit), b" ")?;
     put_start(out, m.start)?;
     put(out, b" ")
 }
@@ -163,8 +144,7 @@ fn put_times(alloc: Global, out: &mut Vec<u8>, m: &Own) -> Result<(), Memory>
 fn put_rest(out: &mut Vec<u8>, m: &Own) -> Result<(), Memory>
     ensures { OnOk result (out.new.items ≡ out.old.items ++ (list_of source_text m.now.sources · codes " " · body_text m.now.defn · codes ")")) }
 {
-    put_list(out, m.sources.as_slice())?;
-    put(out, b" ")?;
+    put_list_then(out, m.sources.as_slice(), b" ")?;
     put_body(out, &m.defn)?;
     put(out, b")")
 }
@@ -174,12 +154,9 @@ fn put_rest(out: &mut Vec<u8>, m: &Own) -> Result<(), Memory>
 fn put_parent(out: &mut Vec<u8>, parent: &Ref) -> Result<(), Memory>
     ensures { OnOk result (out.new.items ≡ out.old.items ++ parent_text parent.now) }
 {
-    out.extend_from_slice(b"(parent ")?;
-    put_name(out, &parent.name)?;
-    out.push(b' ')?;
+    put_name_between(out, b"(parent ", &parent.name, b" ")?;
     put_fingerprint(out, &parent.fingerprint)?;
-    out.extend_from_slice(b")\n")?;
-    Ok(())
+    put(out, b")\n")
 }
 
 fn put_fingerprint(out: &mut Vec<u8>, fingerprint: &[u8; 32]) -> Result<(), Memory>

@@ -3,7 +3,7 @@ ghost use Rattle.std.specs.Prelude.{◌≡◌, ◌++◌, codes, map, OnOk};
 ghost use Rattle.mesh_base.specs.declared.expressions.Expr.TheOpen.{Col, Macro};
 ghost use Rattle.mesh_canon_text.specs.Text.{agg_word, expr_here, expr_text, func_word, gap, list_of, macro_word, op_word, option_text, when_text};
 
-use crate::number_text::{put, put_number, put_text};
+use crate::number_text::{put, put_between, put_number, put_pair, put_text_between};
 use crate::value_text::{put_cell, type_word};
 use crate::written::Written;
 use mesh_base::{AggKind, Expr, Func, Op, Var, When};
@@ -76,31 +76,20 @@ fn gap(place: usize) -> &'static [u8]
     if place == 0 { b"" } else { b" " }
 }
 
-// These bytes, and those behind them.
-fn put_pair(out: &mut Vec<u8>, first: &[u8], second: &[u8]) -> Result<(), Memory>
-    ensures { OnOk result (out.new.items ≡ out.old.items ++ (first.now ++ second.now)) }
-{
-    put(out, first)?;
-    put(out, second)
-}
-
 #[tactic(auto, unfolding(crate::specs::Text::expr_here))]
 fn put_col(out: &mut Vec<u8>, item: u32, name: &Str) -> Result<(), Memory>
     ensures { OnOk result (out.new.items ≡ out.old.items ++ expr_here (Col item name.now)) }
 {
     put(out, b"(col ")?;
     put_number(out, u64::from(item))?;
-    put(out, b" ")?;
-    put_text(out, name.as_slice())?;
-    put(out, b")")
+    put_text_between(out, b" ", name.as_slice(), b")")
 }
 
 #[tactic(auto, unfolding(crate::specs::Text::expr_here))]
 fn put_macro(out: &mut Vec<u8>, var: Var) -> Result<(), Memory>
     ensures { OnOk result (out.new.items ≡ out.old.items ++ expr_here (Macro var)) }
 {
-    put_pair(out, b"(var ", macro_word(var))?;
-    put(out, b")")
+    put_between(out, b"(var ", macro_word(var), b")")
 }
 
 #[cycle(put)]
@@ -158,9 +147,9 @@ fn put_behind(out: &mut Vec<u8>, before: &[u8], e: &Expr) -> Result<(), Memory>
     put_expr(out, e)
 }
 
-// The last part of a node, behind these bytes.
+/// The last part of a node, behind these bytes.
 #[cycle(put)]
-fn put_last(out: &mut Vec<u8>, before: &[u8], e: &Expr) -> Result<(), Memory>
+pub(crate) fn put_last(out: &mut Vec<u8>, before: &[u8], e: &Expr) -> Result<(), Memory>
     ensures { OnOk result (out.new.items ≡ out.old.items ++ (before.now ++ (expr_text e.now ++ codes ")"))) }
 {
     put_behind(out, before, e)?;
@@ -228,16 +217,25 @@ impl Written for Expr {
     }
 }
 
-/// An expression, or `none`.
+// An expression, or `none`.
 #[tactic(auto, unfolding(crate::specs::Text::option_text))]
-pub(crate) fn put_option(out: &mut Vec<u8>, e: &Option<Expr>) -> Result<(), Memory>
+fn put_option(out: &mut Vec<u8>, e: &Option<Expr>) -> Result<(), Memory>
     ensures { OnOk result (out.new.items ≡ out.old.items ++ option_text e.now) }
 {
     match e {
-        None => {
-            out.extend_from_slice(b"none")?;
-            Ok(())
-        }
+        None => put(out, b"none"),
         Some(e) => put_expr(out, e),
     }
+}
+
+/// The same, and these bytes behind it.
+pub(crate) fn put_option_then(
+    out: &mut Vec<u8>,
+    e: &Option<Expr>,
+    behind: &[u8],
+) -> Result<(), Memory>
+    ensures { OnOk result (out.new.items ≡ out.old.items ++ (option_text e.now ++ behind.now)) }
+{
+    put_option(out, e)?;
+    put(out, behind)
 }

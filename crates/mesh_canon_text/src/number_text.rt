@@ -15,6 +15,27 @@ pub(crate) fn put(out: &mut Vec<u8>, bytes: &[u8]) -> Result<(), Memory>
     }
 }
 
+/// These bytes, and those behind them.
+pub(crate) fn put_pair(out: &mut Vec<u8>, first: &[u8], second: &[u8]) -> Result<(), Memory>
+    ensures { OnOk result (out.new.items ≡ out.old.items ++ (first.now ++ second.now)) }
+{
+    put(out, first)?;
+    put(out, second)
+}
+
+/// These bytes between two others.
+pub(crate) fn put_between(
+    out: &mut Vec<u8>,
+    before: &[u8],
+    bytes: &[u8],
+    behind: &[u8],
+) -> Result<(), Memory>
+    ensures { OnOk result (out.new.items ≡ out.old.items ++ (before.now ++ (bytes.now ++ behind.now))) }
+{
+    put(out, before)?;
+    put_pair(out, bytes, behind)
+}
+
 /// Decimal, without leading zeros.
 #[tactic(auto, using(crate::proofs::Digits::one_digit, crate::proofs::Digits::last_digit))]
 pub(crate) fn put_number(out: &mut Vec<u8>, number: u64) -> Result<(), Memory>
@@ -45,7 +66,40 @@ pub(crate) fn put_text(out: &mut Vec<u8>, bytes: &[u8]) -> Result<(), Memory>
     ensures { OnOk result (out.new.items ≡ out.old.items ++ text_of bytes.now) }
 {
     put_number(out, bytes.len() as u64)?;
-    out.push(b':')?;
-    out.extend_from_slice(bytes)?;
-    Ok(())
+    put_pair(out, b":", bytes)
+}
+
+/// A text behind these bytes.
+pub(crate) fn put_text_behind(out: &mut Vec<u8>, before: &[u8], bytes: &[u8]) -> Result<(), Memory>
+    ensures { OnOk result (out.new.items ≡ out.old.items ++ (before.now ++ text_of bytes.now)) }
+{
+    put(out, before)?;
+    put_text(out, bytes)
+}
+
+/// A text between these bytes.
+pub(crate) fn put_text_between(
+    out: &mut Vec<u8>,
+    before: &[u8],
+    bytes: &[u8],
+    behind: &[u8],
+) -> Result<(), Memory>
+    ensures { OnOk result (out.new.items ≡ out.old.items ++ (before.now ++ (text_of bytes.now ++ behind.now))) }
+{
+    put_text_behind(out, before, bytes)?;
+    put(out, behind)
+}
+
+/// A number of either sign between these bytes.
+pub(crate) fn put_signed_between(
+    out: &mut Vec<u8>,
+    before: &[u8],
+    number: i64,
+    behind: &[u8],
+) -> Result<(), Memory>
+    ensures { OnOk result (out.new.items ≡ out.old.items ++ (before.now ++ (signed_decimal number ++ behind.now))) }
+{
+    put(out, before)?;
+    put_signed(out, number)?;
+    put(out, behind)
 }

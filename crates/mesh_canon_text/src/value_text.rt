@@ -2,7 +2,9 @@
 ghost use Rattle.std.specs.Prelude.{◌≡◌, ◌++◌, codes, IfOk, OnOk};
 ghost use Rattle.mesh_canon_text.specs.Text.{◌·◌, cell_text, column_text, row_text, text_of, type_word};
 
-use crate::number_text::{put, put_signed, put_text};
+use crate::number_text::{
+    put, put_between, put_signed_between, put_text, put_text_behind, put_text_between,
+};
 use crate::written::{Written, put_list};
 use mesh_list::{Memory, Seq};
 use mesh_values::{Cell, ColType, Column, Name, Row, Str};
@@ -33,12 +35,8 @@ impl Written for Column {
 
     #[tactic(auto, unfolding(crate::specs::Text::column_text))]
     fn put(&self, out: &mut Vec<u8>) -> Result<(), Memory> {
-        out.extend_from_slice(b"(column ")?;
-        put_text(out, self.name.as_slice())?;
-        out.push(b' ')?;
-        out.extend_from_slice(type_word(self.kind))?;
-        out.push(b')')?;
-        Ok(())
+        put_text_behind(out, b"(column ", self.name.as_slice())?;
+        put_between(out, b" ", type_word(self.kind), b")")
     }
 }
 
@@ -56,26 +54,13 @@ pub(crate) fn put_cell(out: &mut Vec<u8>, cell: &Cell) -> Result<(), Memory>
     ensures { OnOk result (out.new.items ≡ out.old.items ++ cell_text cell.now) }
 {
     match cell {
-        Cell::Null => out.extend_from_slice(b"null")?,
-        Cell::Int(number) => {
-            out.extend_from_slice(b"(int ")?;
-            put_signed(out, *number)?;
-            out.push(b')')?;
-        }
-        Cell::Text(text) => {
-            out.extend_from_slice(b"(text ")?;
-            put_text(out, text.as_slice())?;
-            out.push(b')')?;
-        }
-        Cell::Date(day) => {
-            out.extend_from_slice(b"(date ")?;
-            put_signed(out, i64::from(*day))?;
-            out.push(b')')?;
-        }
-        Cell::Bool(true) => out.extend_from_slice(b"true")?,
-        Cell::Bool(false) => out.extend_from_slice(b"false")?,
+        Cell::Null => put(out, b"null"),
+        Cell::Int(number) => put_signed_between(out, b"(int ", *number, b")"),
+        Cell::Text(text) => put_text_between(out, b"(text ", text.as_slice(), b")"),
+        Cell::Date(day) => put_signed_between(out, b"(date ", i64::from(*day), b")"),
+        Cell::Bool(true) => put(out, b"true"),
+        Cell::Bool(false) => put(out, b"false"),
     }
-    Ok(())
 }
 
 /// The text of a cell on its own.
@@ -105,11 +90,15 @@ impl Written for Row {
     }
 }
 
-/// A schema and a model.
-pub(crate) fn put_name(out: &mut Vec<u8>, name: &Name) -> Result<(), Memory>
-    ensures { OnOk result (out.new.items ≡ out.old.items ++ (text_of name.now.schema · codes " " · text_of name.now.model)) }
+/// A schema and a model between these bytes.
+pub(crate) fn put_name_between(
+    out: &mut Vec<u8>,
+    before: &[u8],
+    name: &Name,
+    behind: &[u8],
+) -> Result<(), Memory>
+    ensures { OnOk result (out.new.items ≡ out.old.items ++ (before.now · text_of name.now.schema · codes " " · text_of name.now.model · behind.now)) }
 {
-    put_text(out, name.schema.as_slice())?;
-    put(out, b" ")?;
-    put_text(out, name.model.as_slice())
+    put_text_behind(out, before, name.schema.as_slice())?;
+    put_text_between(out, b" ", name.model.as_slice(), behind)
 }

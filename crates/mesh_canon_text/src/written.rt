@@ -2,6 +2,7 @@
 ghost use Rattle.std.specs.Prelude.{◌≡◌, ◌++◌, ℕ, List, OnOk};
 ghost use Rattle.mesh_canon_text.specs.Text.{list_of, members, spaced};
 
+use crate::number_text::put;
 use mesh_list::Memory;
 
 /// A value that is written at the end of what is written so far.
@@ -17,10 +18,21 @@ pub(crate) trait Written {
 pub(crate) fn put_list<T: Written>(out: &mut Vec<u8>, all: &[T]) -> Result<(), Memory>
     ensures { OnOk result (out.new.items ≡ out.old.items ++ list_of T.text all.now) }
 {
-    out.push(b'[')?;
+    put(out, b"[")?;
     put_members(out, all)?;
-    out.push(b']')?;
-    Ok(())
+    put(out, b"]")
+}
+
+/// The same, and these bytes behind it.
+pub(crate) fn put_list_then<T: Written>(
+    out: &mut Vec<u8>,
+    all: &[T],
+    behind: &[u8],
+) -> Result<(), Memory>
+    ensures { OnOk result (out.new.items ≡ out.old.items ++ (list_of T.text all.now ++ behind.now)) }
+{
+    put_list(out, all)?;
+    put(out, behind)
 }
 
 #[tactic(auto, unfolding(crate::specs::Text::members))]
