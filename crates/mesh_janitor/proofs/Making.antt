@@ -7,6 +7,7 @@ use Rattle.mesh_house.specs.declared.house.WhFail.TheVariants.{Failed, Memory}
 use Rattle.mesh_house.specs.House.{Told}
 use Rattle.mesh_house.specs.Runs.{Makes, Stopped}
 use Rattle.mesh_house.proofs.Runs.{makes_ok, memory_then, ran_nothing}
+use Rattle.mesh_janitor.specs.declared.faults.SweepFault.{SweepFault}
 use Rattle.mesh_janitor.specs.declared.faults.SweepFault.TheVariants.{Moment, EnvUnknown}
 use Rattle.mesh_janitor.specs.Sweeping.{Sweeps, as_fault}
 
@@ -16,6 +17,13 @@ sweeps_ok list a b x y m = record { ok = m.ok; err = tt; failed = λ is. cc }
 pub sweeps_err : {T U : Type 0} (list : List Change) (a b : Told) (e : WhFail) → Makes {T = T} (λ w. list) a b (Err e) → Sweeps {T = U} list a b (Err (as_fault e))
 sweeps_err list a b Failed m = record { ok = tt; err = m.err; failed = λ is. m.failed refl }
 sweeps_err list a b Memory m = record { ok = tt; err = m.err; failed = λ is. cc }
+
+-- the same of a list at a moment, which is passed on
+pub swept_ok : {T U : Type 0} (list : ℤ → List Change) (s t : ℤ) (a b : Told) (x : T) (y : U) → s ≡ t → Makes (λ w. list s) a b (Ok x) → Sweeps (list t) a b (Ok y)
+swept_ok {U = U} list s t a b x y same m = subst (λ (k : ℤ). Sweeps {T = U} (list k) a b (Ok y)) same (sweeps_ok (list s) a b x y m)
+
+pub swept_err : {T U : Type 0} (list : ℤ → List Change) (s t : ℤ) (a b : Told) (e : WhFail) (f : SweepFault) → s ≡ t → f ≡ as_fault e → Makes {T = T} (λ w. list s) a b (Err e) → Sweeps {T = U} (list t) a b (Err f)
+swept_err {T = T} {U = U} list s t a b e f same is m = rw is (subst (λ (k : ℤ). Sweeps {T = U} (list k) a b (Err (as_fault e))) same (sweeps_err {T = T} (list s) a b e m))
 
 not_begun : (list : List Change) (a : Told) → Stopped (λ w. list) a a
 not_begun list a = record {

@@ -1,5 +1,5 @@
 -- An object is used where a snapshot that stays has it; and names by their order.
-use Rattle.std.proofs.Common.{◌≡◌, ℤ, Bool, true, false, cond, not, List, [], ◌∷◌, ◌++◌, Some, refl, ap, ◌∙◌}
+use Rattle.std.proofs.Common.{◌≡◌, ◌<◌, ◌≤◌, ◌-◌, ℕ, suc, length, drop, map, get_or, drop-cons, sym, arith, ℤ, Bool, true, false, cond, not, List, [], ◌∷◌, ◌++◌, Some, refl, ap, ◌∙◌}
 use Rattle.std.specs.Prelude.{◌||◌}
 use Rattle.std.specs.List.{All, filter, list_any}
 use Rattle.std.specs.Option.{is_some}
@@ -18,6 +18,14 @@ use Rattle.mesh_due.specs.Parts.{same_name}
 use Rattle.mesh_changes.specs.Changes.{name_itself, names_by_order}
 use Rattle.mesh_changes.specs.Kept.{gone_tables, is_kept, is_table_kept, tables}
 use Rattle.mesh_janitor.specs.Walk.{is_absent, object_after, objects_after, stays, with_names}
+
+-- one more name, from the last to the first
+pub one_earlier : {A : Type 0} (f : A → Name) (xs : List A) (left : ℕ) (x : A) (names old : List Name) → 0 < left → left ≤ length xs → names ≡ with_names (map f (drop left xs)) old
+    → placed name_cmp name_itself (f (get_or xs (left - 1) x)) names ≡ with_names (map f (drop (left - 1) xs)) old
+one_earlier f xs left x names old any le is =
+    let next : suc (left - 1) ≡ left = omega arith in
+    ap (placed name_cmp name_itself (f (get_or xs (left - 1) x))) (is ∙ ap (λ k. with_names (map f (drop k xs)) old) (sym next))
+    ∙ sym (ap (λ l. with_names (map f l) old) (drop-cons xs (left - 1) x (omega arith)))
 
 -- names with no others, and names with those that are in order
 pub alone : (ys : List Name) → with_names ys [] ≡ names_by_order ys

@@ -12,7 +12,7 @@ ghost use Rattle.mesh_changes.specs.Kept.{both_lists, gone_snapshots, gone_table
 ghost use Rattle.mesh_janitor.specs.Walk.{deletes, deletes_by, deletes_of, discards, forgets, goes, stays, with_names};
 
 use crate::kept::{is_over, rank_limit, stays, wanted};
-use crate::tables::gone_tables;
+use crate::tables::{gone_tables, place_copy};
 use mesh_base::{Env, Ref, Snapshot};
 use mesh_book::Book;
 use mesh_house::{Change, Changes};
@@ -90,7 +90,7 @@ fn add_names(refs: &[Ref], names: &mut Sorted<Name>) -> Result<(), Memory>
     let mut left = refs.len();
     while left > 0 {
         left -= 1;
-        names.place(refs[left].name.copy()?)?;
+        place_copy(names, &refs[left].name)?;
     }
     Ok(())
 }

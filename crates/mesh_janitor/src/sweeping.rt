@@ -91,8 +91,7 @@ fn expire<W: Warehouse>(alloc: Global, house: &mut W, env: &Str) -> Result<u64, 
     ensures calls { IfOk result (λ made. (W.told house.new).calls ≡ risen made (W.told house.old).calls) }
 {
     let list = expiring(alloc, env)?;
-    let made = make_counted(alloc, house, list.as_slice())?;
-    Ok(made)
+    make_counted(alloc, house, list.as_slice())
 }
 
 /// Makes an environment one that is over, so that a sweep takes it out. Production never is. Where this book, which was

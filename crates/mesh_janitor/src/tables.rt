@@ -13,9 +13,16 @@ ghost use Rattle.mesh_janitor.specs.Walk.{is_absent, object_after, objects_after
 use crate::kept::stays;
 use mesh_base::{Ref, Snapshot};
 use mesh_book::{Book, Version};
-use mesh_list::{Duplicate, Memory, Register, Seq, Sorted};
+use mesh_list::{Duplicate, Memory, Register, Seq, Sorted, push_made};
 use mesh_values::{Name, Names};
 use std::alloc::Global;
+
+/// A name comes to others, by their order.
+pub(crate) fn place_copy(names: &mut Sorted<Name>, name: &Name) -> Result<(), Memory>
+    ensures { OnOk result (names.new ≡ placed name_cmp name_itself name.now names.old) }
+{
+    names.place(name.copy()?)
+}
 
 // The objects of versions, by name.
 fn add_versions(versions: &[Version], names: &mut Sorted<Name>) -> Result<(), Memory>
@@ -24,7 +31,7 @@ fn add_versions(versions: &[Version], names: &mut Sorted<Name>) -> Result<(), Me
     let mut left = versions.len();
     while left > 0 {
         left -= 1;
-        names.place(versions[left].object.copy()?)?;
+        place_copy(names, &versions[left].object)?;
     }
     Ok(())
 }
@@ -36,7 +43,7 @@ fn add_objects(all: &[Snapshot], names: &mut Sorted<Name>) -> Result<(), Memory>
     let mut left = all.len();
     while left > 0 {
         left -= 1;
-        names.place(all[left].object.copy()?)?;
+        place_copy(names, &all[left].object)?;
     }
     Ok(())
 }
@@ -60,7 +67,7 @@ fn add_object(
     ensures { OnOk result (names.new ≡ object_after t wanted.now s.now names.old) }
 {
     if stays(t, wanted, s)? {
-        names.place(s.object.copy()?)?;
+        place_copy(names, &s.object)?;
     }
     Ok(())
 }
@@ -87,7 +94,7 @@ fn absent(alloc: Global, used: &Sorted<Name>, all: &[Name]) -> Result<Names, Mem
     let mut made = Seq::new(alloc);
     for name in all {
         if used.find(name).is_none() {
-            made.push(name.copy()?)?;
+            push_made(&mut made, name.copy())?;
         }
     }
     Ok(made)

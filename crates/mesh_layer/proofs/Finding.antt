@@ -1,5 +1,6 @@
 -- Calls that look for something, one after another.
-use Rattle.std.proofs.Common.{◌≡◌, ◌⊎◌, ⊎_elim, Some, Ok, Err, Result, refl, ◌∙◌, ap, arith}
+use Rattle.std.proofs.Common.{◌≡◌, ◌⊎◌, ⊎_elim, ℕ, ◌+◌, ◌<◌, List, [], ◌∷◌, ◌++◌, length, map, take, get_or, Some, Ok, Err, Result, refl, sym, ◌∙◌, ap, arith}
+use Rattle.std.proofs.lemmas.List.{map_more}
 use Rattle.std.specs.Result.{IsErrAnd}
 use Rattle.std.specs.declared.option.Option.{Option}
 use Rattle.mesh_list.specs.Counts.{Rose}
@@ -11,6 +12,10 @@ use Rattle.mesh_house.specs.House.{Told, Reads}
 use Rattle.mesh_layer.specs.declared.faults.ShowFault.{ShowFault}
 use Rattle.mesh_layer.specs.declared.faults.ShowFault.TheVariants as fault
 use Rattle.mesh_layer.specs.Shows.{IsUntouched, Finds, of_house}
+
+-- one more of what is made of a list
+pub one_more : {A B : Type 0} (f : A → B) (xs : List A) (i : ℕ) (x : A) (ys : List B) (y : B) → i < length xs → x ≡ get_or xs i x → ys ≡ map f (take i xs) → y ≡ f x → ys ++ y ∷ [] ≡ map f (take (i + 1) xs)
+one_more f xs i x ys y lt here all is = (λ k. all k ++ (is ∙ ap f here) k ∷ []) ∙ sym (map_more f xs i x lt)
 
 -- something is so of the world that a house told at first, where something else is given
 pub record Has (given fact : World → Type 0) (old new : Told) : Type 0 where

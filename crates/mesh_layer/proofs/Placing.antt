@@ -1,5 +1,5 @@
 -- A row is read by place as it is by name.
-use Rattle.std.proofs.Common.{◌≡◌, ℕ, zero, suc, ◌+◌, ◌<◌, Bool, true, false, cond, List, [], ◌∷◌, ◌++◌, length, take, get_or, Some, None, refl, sym, ◌∙◌, ap}
+use Rattle.std.proofs.Common.{◌≡◌, ℕ, zero, suc, ◌+◌, ◌<◌, Bool, true, false, cond, List, [], ◌∷◌, ◌++◌, length, map, take, get_or, Some, None, refl, sym, ◌∙◌, ap}
 use Rattle.std.proofs.lemmas.List.{take_more, map-append}
 use Rattle.std.specs.declared.option.Option.{Option}
 use Rattle.std.specs.Option.{option_map}
@@ -34,6 +34,18 @@ row_at-places_of (n ∷ ns) columns row = λ i. cell_at-place_of columns row n i
 pub rows_at-places_of : (names : List (List ℕ)) (columns : List Column) (rows : List (List Cell)) → rows_at rows (places_of columns names) ≡ picked_rows names columns rows
 rows_at-places_of names columns [] = refl
 rows_at-places_of names columns (row ∷ rows) = λ i. row_at-places_of names columns row i ∷ rows_at-places_of names columns rows i
+
+-- one more place
+pub places_of-more : (columns declared : List Column) (i : ℕ) (d : Column) → i < length declared → d ≡ get_or declared i d
+    → places_of columns (map (λ (c : Column). c.name) (take (i + 1) declared)) ≡ places_of columns (map (λ (c : Column). c.name) (take i declared)) ++ place_of columns d.name ∷ []
+places_of-more columns declared i d lt here =
+    ap (λ (l : List Column). places_of columns (map (λ (c : Column). c.name) l)) (take_more declared i d lt ∙ ap (λ r. take i declared ++ r ∷ []) (sym here))
+    ∙ ap (places_of columns) (map-append (λ (c : Column). c.name) (take i declared) (d ∷ []))
+    ∙ map-append (place_of columns) (map (λ (c : Column). c.name) (take i declared)) (d.name ∷ [])
+
+-- one more cell
+pub row_at-more : (row : List Cell) (places : List (Option ℕ)) (i : ℕ) (d : Option ℕ) → i < length places → row_at row (take (i + 1) places) ≡ row_at row (take i places) ++ cell_at row (get_or places i d) ∷ []
+row_at-more row places i d lt = ap (row_at row) (take_more places i d lt) ∙ map-append (cell_at row) (take i places) (get_or places i d ∷ [])
 
 -- one more row
 pub rows_at-more : (rows : List (List Cell)) (places : List (Option ℕ)) (i : ℕ) (row : List Cell) → i < length rows → row ≡ get_or rows i row → rows_at (take (i + 1) rows) places ≡ rows_at (take i rows) places ++ row_at row places ∷ []

@@ -8,7 +8,7 @@ ghost use Rattle.mesh_layer.specs.Asked.{asked_models};
 
 use mesh_base::{Query, Ref};
 use mesh_book::Book;
-use mesh_list::{Duplicate, Memory, Seq};
+use mesh_list::{Duplicate, Memory, Seq, push_made};
 use mesh_rules::is_named;
 use mesh_values::{Names, Str};
 use std::alloc::Global;
@@ -20,7 +20,7 @@ fn named(alloc: Global, q: &Query, list: &[Ref]) -> Result<Names, Memory>
     let mut names = Seq::new(alloc);
     for r in list {
         if is_named(q, &r.name) {
-            names.push(r.name.copy()?)?;
+            push_made(&mut names, r.name.copy())?;
         }
     }
     Ok(names)

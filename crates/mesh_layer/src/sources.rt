@@ -14,7 +14,7 @@ ghost use Rattle.mesh_layer.specs.Shows.{Finds};
 use crate::faults::ShowFault;
 use mesh_base::{Decl, Input, Inputs};
 use mesh_house::{Body, Warehouse};
-use mesh_list::{Duplicate, Memory, Seq, both};
+use mesh_list::{Duplicate, Memory, Seq, both, push_made};
 use mesh_values::{Cell, ColType, Column, Columns, Row, Rows, Str, has_two_underscores, same_text};
 use std::alloc::Global;
 
@@ -60,21 +60,21 @@ fn cell_at(row: &Row, place: Option<usize>) -> Result<Cell, Memory>
 fn row_at(alloc: Global, row: &Row, places: &[Option<usize>]) -> Result<Row, Memory>
     ensures { IfOk result (λ made. made ≡ row_at row.now places.now) }
 {
-    let mut made = Vec::with_capacity(alloc, places.len())?;
+    let mut made = Seq::from_vec(Vec::with_capacity(alloc, places.len())?);
     for place in places {
-        made.push(cell_at(row, *place)?)?;
+        push_made(&mut made, cell_at(row, *place))?;
     }
-    Ok(Seq::from_vec(made))
+    Ok(made)
 }
 
 fn rows_at(alloc: Global, rows: &[Row], places: &[Option<usize>]) -> Result<Rows, Memory>
     ensures { IfOk result (λ made. made ≡ rows_at rows.now places.now) }
 {
-    let mut made = Vec::with_capacity(alloc, rows.len())?;
+    let mut made = Seq::from_vec(Vec::with_capacity(alloc, rows.len())?);
     for row in rows {
-        made.push(row_at(alloc, row, places)?)?;
+        push_made(&mut made, row_at(alloc, row, places))?;
     }
-    Ok(Seq::from_vec(made))
+    Ok(made)
 }
 
 /// Whether a column of that name is there, and the first of them has this type.

@@ -1,10 +1,15 @@
-use Rattle.std.proofs.Common.{rules, ◌≡◌, FitsSigned, w64, to_z, of_z, ℤ, ℕ, List, subst}
+use Rattle.std.proofs.Common.{rules, ◌≡◌, FitsSigned, w64, to_z, of_z, ℤ, ℕ, List, inl, subst}
 use Rattle.std.proofs.lemmas.Int.{to_z-of_z}
 use Rattle.std.specs.Option.{option_copied}
 use Rattle.mesh_commands.specs.Answers.{Answers}
-use Rattle.mesh_commands.proofs.Answering.{read_first}
+use Rattle.mesh_commands.proofs.Answering.{not_present, read_first}
 use Rattle.mesh_applying.specs.Applying.{ApplyGives, ApplyMakes}
 use Rattle.mesh_applying.proofs.applying.apply_project.Goals as goal
+
+pub returns-in-Err : goal.returns-in-Err
+returns-in-Err g c =
+    not_present (ApplyMakes c.args.project.now.nodes c.args.env.now c.args.t (option_copied c.args.again)) (ApplyGives c.args.project.now.nodes c.args.env.now c.args.t (option_copied c.args.again)) _ _
+    c.in-Err.refusal c.in-Err.ensures (λ w told is. inl (inl is))
 
 pub returns-in-Ok : goal.returns-in-Ok
 returns-in-Ok g c =

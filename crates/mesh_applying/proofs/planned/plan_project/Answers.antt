@@ -1,12 +1,18 @@
-use Rattle.std.proofs.Common.{rules, ◌≡◌, FitsSigned, w64, to_z, of_z, subst, IfOk, IfErr, ℤ, ◌⊎◌}
+use Rattle.std.proofs.Common.{rules, ◌≡◌, FitsSigned, w64, to_z, of_z, subst, IfOk, IfErr, ℤ, ◌⊎◌, inl}
 use Rattle.std.proofs.lemmas.Int.{to_z-of_z}
 use Rattle.std.specs.Option.{option_copied}
 use Rattle.mesh_rules.specs.declared.plans.Plan.{Plan}
 use Rattle.mesh_plan_text.specs.PlanText.{plan_text}
 use Rattle.mesh_printed.specs.declared.refusals.Refusal.TheVariants.{Memory}
+use Rattle.mesh_commands.specs.Answers.{no_changes}
+use Rattle.mesh_commands.proofs.Answering.{not_present}
+use Rattle.mesh_applying.specs.Applying.{PlanGives}
 use Rattle.mesh_applying.specs.Planning.{IsPlanned, PlanRefused}
 use Rattle.mesh_applying.proofs.Refusing.{looked}
 use Rattle.mesh_applying.proofs.planned.plan_project.Goals as goal
+
+pub returns-in-Err : goal.returns-in-Err
+returns-in-Err g c = not_present no_changes (PlanGives c.args.project.now.nodes c.args.env.now c.args.t (option_copied c.args.again)) _ _ c.in-Err.refusal c.in-Err.ensures (λ w told is. inl is)
 
 pub returns-in-Ok : goal.returns-in-Ok
 returns-in-Ok g c =

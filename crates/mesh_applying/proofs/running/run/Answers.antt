@@ -1,9 +1,12 @@
-use Rattle.std.proofs.Common.{rules, ◌≡◌, FitsSigned, w64, to_z, of_z, ℤ, ℕ, List, subst}
+use Rattle.std.proofs.Common.{rules, ◌≡◌, FitsSigned, w64, to_z, of_z, ℤ, ℕ, List, inl, subst}
 use Rattle.std.proofs.lemmas.Int.{to_z-of_z}
 use Rattle.mesh_commands.specs.Answers.{Answers}
-use Rattle.mesh_commands.proofs.Answering.{read_first}
+use Rattle.mesh_commands.proofs.Answering.{not_present, read_first}
 use Rattle.mesh_applying.specs.Applying.{RunGives, RunMakes}
 use Rattle.mesh_applying.proofs.running.run.Goals as goal
+
+pub returns-in-Err : goal.returns-in-Err
+returns-in-Err g c = not_present (RunMakes c.args.env.now c.args.t) (RunGives c.args.env.now c.args.t) _ _ c.in-Err.refusal c.in-Err.ensures (λ w told is. inl (inl is))
 
 pub returns-in-Ok : goal.returns-in-Ok
 returns-in-Ok g c =

@@ -1,7 +1,8 @@
-use Rattle.std.proofs.Common.{◌≡◌, [], ◌∷◌, rules, arith}
-use Rattle.std.proofs.lemmas.Grind.{common_steps}
+use Rattle.std.proofs.Common.{List, [], ◌∷◌, subst, ◌∙◌}
+use Rattle.mesh_house.specs.declared.world.Change.{Change}
 use Rattle.mesh_house.specs.declared.world.Change.TheVariants.{Expire}
-use Rattle.mesh_janitor.proofs.Making.{list_made, wanting}
+use Rattle.mesh_house.specs.Runs.{Makes}
+use Rattle.mesh_janitor.proofs.Making.{wanting}
 use Rattle.mesh_janitor.proofs.sweeping.expire.Goals as goal
 
 pub returns-in_err-list-clause-makes : goal.returns-in_err-list-clause-makes
@@ -9,5 +10,4 @@ returns-in_err-list-clause-makes g c = wanting (Expire c.args.env.now ∷ []) _ 
 
 pub returns-clause-makes : goal.returns-clause-makes
 returns-clause-makes g c =
-    let list : c.as_slice.result.now ≡ Expire c.args.env.now ∷ [] = first_of (search rules, grind (arith, common_steps)) in
-    list_made _ _ _ _ _ _ list c.in_ok-made.ensures.makes
+    subst (λ (l : List Change). Makes (λ w. l) (g.W.Warehouse.told c.args.house.now) (g.W.Warehouse.told c.make_counted.new.house) c.make_counted.result) (c.as_slice.ensures ∙ c.in_ok-list.ensures) c.make_counted.ensures.makes

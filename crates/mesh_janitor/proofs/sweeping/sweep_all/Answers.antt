@@ -1,5 +1,5 @@
-use Rattle.std.proofs.Common.{◌≡◌, rules, arith}
-use Rattle.std.proofs.lemmas.Grind.{common_steps}
+use Rattle.std.proofs.Common.{◌≡◌, FitsSigned, w64, to_z, of_z, ap, ◌∙◌}
+use Rattle.std.proofs.lemmas.Int.{to_z-of_z}
 use Rattle.mesh_changes.specs.Kept.{sweeps}
 use Rattle.mesh_janitor.proofs.Making.{list_made, wanting}
 use Rattle.mesh_janitor.proofs.sweeping.sweep_all.Goals as goal
@@ -9,5 +9,6 @@ returns-in_err-sweep-clause-makes g c = wanting (sweeps c.args.b.now c.args.t) _
 
 pub returns-clause-makes : goal.returns-clause-makes
 returns-clause-makes g c =
-    let list : c.as_slice.result.now ≡ sweeps c.args.b.now c.args.t = first_of (search rules, grind (arith, common_steps)) in
-    list_made _ _ _ _ _ _ list c.in_ok-changes.ensures.makes
+    let fits : FitsSigned w64 c.args.t = c.ranges.t in
+    let same : to_z w64 (of_z w64 c.args.t) ≡ c.args.t = simp to_z-of_z in
+    list_made _ (sweeps c.args.b.now c.args.t) _ _ _ _ (c.as_slice.ensures ∙ c.in_ok-sweep.ensures.changes ∙ ap (sweeps c.args.b.now) same) c.in_ok-changes.ensures.makes
