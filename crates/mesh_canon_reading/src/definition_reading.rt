@@ -5,7 +5,7 @@ ghost use Rattle.mesh_canon_reading.specs.Reading.{body_at, incremental_at, kind
 
 use crate::cron_reading::{Fields, cron_fields, made};
 use crate::query_reading::query;
-use crate::read::{Readable, list_then};
+use crate::read::{Readable, list_then, shut};
 use crate::value_reading::name_then_space;
 use mesh_base::{Decl, Defn, Own};
 use mesh_canon_text::Form;
@@ -51,13 +51,7 @@ impl Readable for Decl {
             columns,
             time,
         };
-        match expect(rest, b")") {
-            Ok(rest) => Ok((made, rest)),
-            Err(fault) => {
-                drop(made);
-                Err(fault)
-            }
-        }
+        shut(made, rest, b")")
     }
 }
 
@@ -104,8 +98,7 @@ fn incremental(alloc: Global, form: Form, bytes: &[u8]) -> Result<(Kind, &[u8]),
     let rest = expect(bytes, b"(incremental ")?;
     let (time, rest) = text(alloc, rest)?;
     let (lookback, rest) = lookback(form, rest)?;
-    let rest = expect(rest, b")")?;
-    Ok((Kind::Incremental { time, lookback }, rest))
+    shut(Kind::Incremental { time, lookback }, rest, b")")
 }
 
 #[tactic(auto, unfolding(crate::specs::Reading::kind_at))]
@@ -175,11 +168,5 @@ pub fn own(alloc: Global, form: Form, bytes: &[u8]) -> Result<(Own, &[u8]), Cano
         sources,
         defn,
     };
-    match expect(rest, b")") {
-        Ok(rest) => Ok((made, rest)),
-        Err(fault) => {
-            drop(made);
-            Err(fault)
-        }
-    }
+    shut(made, rest, b")")
 }

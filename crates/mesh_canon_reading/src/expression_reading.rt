@@ -3,7 +3,7 @@ ghost use Rattle.std.specs.Prelude.{◌≡◌, length};
 ghost use Rattle.mesh_canon_words.specs.Words.{Gives, then_at};
 ghost use Rattle.mesh_canon_reading.specs.Reading.{agg_parts_at, any_expr_at, between_at, binary_at, call_at, case_at, cast_at, col_at, count_at, expr_at, list_at, literal_at, members_at, more_at, one_of_at, option_at, parts_at, variable_at, when_at, with_front};
 
-use crate::read::Readable;
+use crate::read::{Readable, shut};
 use crate::value_reading::cell_parts;
 use mesh_base::{Expr, Exprs, Op, When, Whens};
 use mesh_canon_words::{
@@ -78,16 +78,14 @@ fn variable(bytes: &[u8]) -> Result<(Expr, &[u8]), CanonFault>
     let Some((var, rest)) = macro_var(bytes) else {
         return Err(CanonFault::NotCanonical);
     };
-    let rest = expect(rest, b")")?;
-    Ok((Expr::Macro(var), rest))
+    shut(Expr::Macro(var), rest, b")")
 }
 
 #[tactic(auto, unfolding(crate::specs::Reading::count_at))]
 fn count_all(bytes: &[u8]) -> Result<(Expr, &[u8]), CanonFault>
     ensures { Gives (λ x. (x.0, x.1.now)) result (count_at bytes.now) }
 {
-    let rest = expect(bytes, b")")?;
-    Ok((Expr::CountAll, rest))
+    shut(Expr::CountAll, bytes, b")")
 }
 
 #[tactic(auto, unfolding(crate::specs::Reading::col_at))]
@@ -113,13 +111,7 @@ fn expr_then<'a>(
     ensures { Gives (λ x. (x.0, x.1.now)) result (then_at sign.now (expr_at depth) bytes.now) }
 {
     let (value, rest) = expr(alloc, depth, bytes)?;
-    match expect(rest, sign) {
-        Ok(rest) => Ok((value, rest)),
-        Err(fault) => {
-            drop(value);
-            Err(fault)
-        }
-    }
+    shut(value, rest, sign)
 }
 
 #[cycle(read)]
@@ -163,8 +155,7 @@ fn one_of(alloc: Global, depth: usize, bytes: &[u8]) -> Result<(Expr, &[u8]), Ca
 {
     let (value, rest) = boxed_then(alloc, depth, bytes, b" ")?;
     let (of, rest) = exprs(alloc, depth, rest)?;
-    let rest = expect(rest, b")")?;
-    Ok((Expr::OneOf { value, of }, rest))
+    shut(Expr::OneOf { value, of }, rest, b")")
 }
 
 #[cycle(read)]
@@ -186,8 +177,7 @@ fn call(alloc: Global, depth: usize, bytes: &[u8]) -> Result<(Expr, &[u8]), Cano
         return Err(CanonFault::NotCanonical);
     };
     let (args, rest) = exprs(alloc, depth, rest)?;
-    let rest = expect(rest, b")")?;
-    Ok((Expr::Call { func, args }, rest))
+    shut(Expr::Call { func, args }, rest, b")")
 }
 
 #[cycle(read)]
@@ -325,13 +315,7 @@ pub(crate) fn option_then<'a>(
     ensures { Gives (λ x. (x.0, x.1.now)) result (then_at sign.now option_at bytes.now) }
 {
     let (value, rest) = option(alloc, bytes)?;
-    match expect(rest, sign) {
-        Ok(rest) => Ok((value, rest)),
-        Err(fault) => {
-            drop(value);
-            Err(fault)
-        }
-    }
+    shut(value, rest, sign)
 }
 
 // An expression, or `none`.

@@ -4,7 +4,7 @@ ghost use Rattle.mesh_canon_words.specs.Words.{Gives, then_at};
 ghost use Rattle.mesh_canon_reading.specs.Reading.{cte_at, filters_at, from_at, item_at, modes_at, named_at, place_at, query_at, rel_at, select_at, tables_at};
 
 use crate::expression_reading::option_then;
-use crate::read::{Readable, list, list_then, part};
+use crate::read::{Readable, list, list_then, part, shut};
 use crate::value_reading::name;
 use mesh_base::{Expr, Exprs, FromItem, Froms, Item, Items, Query, Rel, Select, Selects};
 use mesh_canon_words::{
@@ -32,8 +32,7 @@ fn named(alloc: Global, bytes: &[u8]) -> Result<(Rel, &[u8]), CanonFault>
     ensures { Gives (λ x. (x.0, x.1.now)) result (named_at bytes.now) }
 {
     let (name, rest) = name(alloc, bytes)?;
-    let rest = expect(rest, b")")?;
-    Ok((Rel::Named(name), rest))
+    shut(Rel::Named(name), rest, b")")
 }
 
 #[tactic(auto, unfolding(crate::specs::Reading::place_at))]
@@ -41,8 +40,7 @@ fn place(bytes: &[u8]) -> Result<(Rel, &[u8]), CanonFault>
     ensures { Gives (λ x. (x.0, x.1.now)) result (place_at bytes.now) }
 {
     let (at, rest) = number(bytes, MOST_PLACE)?;
-    let rest = expect(rest, b")")?;
-    Ok((Rel::Cte(at as u32), rest))
+    shut(Rel::Cte(at as u32), rest, b")")
 }
 
 #[tactic(auto, unfolding(crate::specs::Reading::rel_at))]
@@ -61,13 +59,7 @@ fn rel_then_space(alloc: Global, bytes: &[u8]) -> Result<(Rel, &[u8]), CanonFaul
     ensures { Gives (λ x. (x.0, x.1.now)) result (then_at (codes " ") rel_at bytes.now) }
 {
     let (rel, rest) = rel(alloc, bytes)?;
-    match expect(rest, b" ") {
-        Ok(rest) => Ok((rel, rest)),
-        Err(fault) => {
-            drop(rel);
-            Err(fault)
-        }
-    }
+    shut(rel, rest, b" ")
 }
 
 impl Readable for FromItem {
@@ -166,8 +158,7 @@ impl Readable for Selects {
     fn read(alloc: Global, bytes: &[u8]) -> Result<(Selects, &[u8]), CanonFault> {
         let rest = expect(bytes, b"(cte ")?;
         let (selects, rest) = list(alloc, rest)?;
-        let rest = expect(rest, b")")?;
-        Ok((selects, rest))
+        shut(selects, rest, b")")
     }
 }
 

@@ -1,6 +1,6 @@
 // What is read, and lists of it.
-ghost use Rattle.std.specs.Prelude.{◌≡◌, ◌-◌, ℕ, List, Option, length};
-ghost use Rattle.mesh_canon_words.specs.Words.{Gives, then_at};
+ghost use Rattle.std.specs.Prelude.{◌≡◌, ◌-◌, ℕ, List, Option, Some, length};
+ghost use Rattle.mesh_canon_words.specs.Words.{◌>>=◌ as and_then, Gives, after, then_at};
 ghost use Rattle.mesh_canon_reading.specs.Reading.{list_at, members_at, more_at, with_front};
 
 use mesh_canon_words::{CanonFault, after, expect};
@@ -16,6 +16,19 @@ pub trait Readable: Drop {
         ensures { Gives (λ x. (x.0, x.1.now)) result (reading bytes.now) };
 }
 
+/// A value that was read, and what is left behind the sign that has to come. It takes the value, which is let go here
+/// where the sign doesn't come.
+pub(crate) fn shut<'a, T: Drop>(
+    value: T,
+    bytes: &'a [u8],
+    sign: &[u8],
+) -> Result<(T, &'a [u8]), CanonFault>
+    ensures { Gives {Y = T × List ℕ} (λ x. (x.0, x.1.now)) result (and_then (after sign.now bytes.now) (λ rest. Some (value, rest))) }
+{
+    let rest = expect(bytes, sign)?;
+    Ok((value, rest))
+}
+
 /// A value and the sign behind it.
 #[tactic(auto, unfolding(mesh_canon_words::specs::Words::then_at))]
 pub(crate) fn part<'a, T: Readable>(
@@ -26,8 +39,7 @@ pub(crate) fn part<'a, T: Readable>(
     ensures { Gives (λ x. (x.0, x.1.now)) result (then_at sign.now T.reading bytes.now) }
 {
     let (value, rest) = T::read(alloc, bytes)?;
-    let rest = expect(rest, sign)?;
-    Ok((value, rest))
+    shut(value, rest, sign)
 }
 
 /// A list in brackets and the sign behind it.
@@ -40,8 +52,7 @@ pub(crate) fn list_then<'a, T: Readable>(
     ensures { Gives (λ x. (x.0, x.1.now)) result (then_at sign.now (list_at T.reading) bytes.now) }
 {
     let (made, rest) = list(alloc, bytes)?;
-    let rest = expect(rest, sign)?;
-    Ok((made, rest))
+    shut(made, rest, sign)
 }
 
 /// A list in brackets.

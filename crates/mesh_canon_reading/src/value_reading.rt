@@ -3,7 +3,7 @@ ghost use Rattle.std.specs.Prelude.{◌≡◌, codes};
 ghost use Rattle.mesh_canon_words.specs.Words.{Gives, text_at, then_at};
 ghost use Rattle.mesh_canon_reading.specs.Reading.{cell_at, cell_parts_at, column_at, date_at, int_at, name_at, row_at, text_cell_at};
 
-use crate::read::{Readable, list};
+use crate::read::{Readable, list, shut};
 use mesh_canon_words::{
     CanonFault, CellHead, cell_head, day, expect, signed, text, text_then, type_then,
 };
@@ -43,24 +43,21 @@ fn int_cell(bytes: &[u8]) -> Result<(Cell, &[u8]), CanonFault>
     ensures { Gives (λ x. (x.0, x.1.now)) result (int_at bytes.now) }
 {
     let (number, rest) = signed(bytes, MOST_INT)?;
-    let rest = expect(rest, b")")?;
-    Ok((Cell::Int(number), rest))
+    shut(Cell::Int(number), rest, b")")
 }
 
 fn text_cell(alloc: Global, bytes: &[u8]) -> Result<(Cell, &[u8]), CanonFault>
     ensures { Gives (λ x. (x.0, x.1.now)) result (text_cell_at bytes.now) }
 {
     let (text, rest) = text(alloc, bytes)?;
-    let rest = expect(rest, b")")?;
-    Ok((Cell::Text(text), rest))
+    shut(Cell::Text(text), rest, b")")
 }
 
 fn date_cell(bytes: &[u8]) -> Result<(Cell, &[u8]), CanonFault>
     ensures { Gives (λ x. (x.0, x.1.now)) result (date_at bytes.now) }
 {
     let (day, rest) = day(bytes)?;
-    let rest = expect(rest, b")")?;
-    Ok((Cell::Date(day), rest))
+    shut(Cell::Date(day), rest, b")")
 }
 
 impl Readable for Cell {
@@ -112,6 +109,5 @@ pub(crate) fn name_then_space(alloc: Global, bytes: &[u8]) -> Result<(Name, &[u8
     ensures { Gives (λ x. (x.0, x.1.now)) result (then_at (codes " ") name_at bytes.now) }
 {
     let (name, rest) = name(alloc, bytes)?;
-    let rest = expect(rest, b" ")?;
-    Ok((name, rest))
+    shut(name, rest, b" ")
 }
