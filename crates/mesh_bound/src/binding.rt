@@ -107,7 +107,11 @@ fn bind_node(
             bind_part(alloc, value.get(), columns, keys, u),
             bind_each(alloc, of.as_slice(), columns, keys, u),
         ),
-        Expr::Cast { to, value } => cast(alloc, *to, bind_part(alloc, value.get(), columns, keys, u)),
+        Expr::Cast { to, value } => cast(
+            alloc,
+            *to,
+            bind_part(alloc, value.get(), columns, keys, u),
+        ),
         Expr::Call { func, args } => call(
             *func,
             bind_each(alloc, args.as_slice(), columns, keys, u),

@@ -40,8 +40,7 @@ fn is_plain(b: &Bound) -> bool {
             are_plain_whens(whens.as_slice()) && is_plain(otherwise.get())
         }
         Bound::Cast { to, value } => !writes_text(*to) && is_plain(value.get()),
-        Bound::CountAll
-        | Bound::Agg { kind: _, value: _ } => false,
+        Bound::CountAll | Bound::Agg { kind: _, value: _ } => false,
     }
 }
 

@@ -3,7 +3,7 @@ ghost use Rattle.std.specs.Prelude.{◌≡◌, length};
 ghost use Rattle.mesh_canon_words.specs.Words.{Gives, then_at};
 ghost use Rattle.mesh_canon_reading.specs.Reading.{agg_parts_at, any_expr_at, between_at, binary_at, call_at, case_at, cast_at, col_at, count_at, expr_at, list_at, literal_at, members_at, more_at, one_of_at, option_at, parts_at, variable_at, when_at, with_front};
 
-use crate::read::{Readable, one, shut};
+use crate::read::{Readable, shut};
 use crate::value_reading::cell_parts;
 use mesh_base::{Expr, Exprs, Op, When, Whens};
 use mesh_canon_words::{
@@ -229,7 +229,8 @@ fn exprs(alloc: Global, depth: usize, bytes: &[u8]) -> Result<(Exprs, &[u8]), Ca
         return Ok((Seq::new(alloc), rest));
     }
     let (first, rest) = expr(alloc, depth, inner)?;
-    let made = one(alloc, first)?;
+    let mut made = Seq::new(alloc);
+    made.push(first)?;
     more_exprs(alloc, depth, made, rest)
 }
 
@@ -267,7 +268,8 @@ fn whens(alloc: Global, depth: usize, bytes: &[u8]) -> Result<(Whens, &[u8]), Ca
         return Ok((Seq::new(alloc), rest));
     }
     let (first, rest) = when(alloc, depth, inner)?;
-    let made = one(alloc, first)?;
+    let mut made = Seq::new(alloc);
+    made.push(first)?;
     more_whens(alloc, depth, made, rest)
 }
 

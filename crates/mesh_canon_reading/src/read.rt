@@ -1,10 +1,10 @@
 // What is read, and lists of it.
-ghost use Rattle.std.specs.Prelude.{◌≡◌, ◌-◌, ℕ, List, [], ◌∷◌, Option, Some, IfOk, length};
+ghost use Rattle.std.specs.Prelude.{◌≡◌, ◌-◌, ℕ, List, Option, Some, length};
 ghost use Rattle.mesh_canon_words.specs.Words.{◌>>=◌ as and_then, Gives, after, then_at};
 ghost use Rattle.mesh_canon_reading.specs.Reading.{list_at, members_at, more_at, with_front};
 
 use mesh_canon_words::{CanonFault, after, expect};
-use mesh_list::{Memory, Seq};
+use mesh_list::Seq;
 use std::alloc::Global;
 
 /// A value that stands at the front of some bytes.
@@ -27,15 +27,6 @@ pub(crate) fn shut<'a, T: Drop>(
 {
     let rest = expect(bytes, sign)?;
     Ok((value, rest))
-}
-
-/// The list of one member.
-pub(crate) fn one<T: Drop>(alloc: Global, item: T) -> Result<Seq<T>, Memory>
-    ensures { IfOk result (λ made. made ≡ item ∷ []) }
-{
-    let mut made = Seq::new(alloc);
-    made.push(item)?;
-    Ok(made)
 }
 
 /// A value and the sign behind it.
@@ -81,7 +72,8 @@ fn members<T: Readable>(alloc: Global, bytes: &[u8]) -> Result<(Seq<T>, &[u8]), 
     ensures { Gives (λ x. (x.0, x.1.now)) result (members_at T.reading bytes.now) }
 {
     let (first, rest) = T::read(alloc, bytes)?;
-    let made = one(alloc, first)?;
+    let mut made = Seq::new(alloc);
+    made.push(first)?;
     more(alloc, made, rest)
 }
 

@@ -123,11 +123,7 @@ fn null_test<'v>(value: Option<Plain>) -> Option<Plain<'v>>
     }
 }
 
-fn placed<'v>(
-    value: Option<Plain>,
-    low: Option<Plain>,
-    high: Option<Plain>,
-) -> Option<Plain<'v>>
+fn placed<'v>(value: Option<Plain>, low: Option<Plain>, high: Option<Plain>) -> Option<Plain<'v>>
     ensures { (x a b : Cell) → IfSome value.entry (λ p. cell_of p ≡ x) → IfSome low.entry (λ p. cell_of p ≡ a) → IfSome high.entry (λ p. cell_of p ≡ b) → IfSome result (λ p. cell_of p ≡ between x a b) }
 {
     match (value, low, high) {

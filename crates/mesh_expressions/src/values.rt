@@ -148,14 +148,7 @@ fn placed<'v>(
     ensures { (x a b : Cell) → IfOk value.entry (λ v. v ≡ x) → IfOk low.entry (λ v. v ≡ a) → IfOk high.entry (λ v. v ≡ b) → IfOk result (λ v. v ≡ between x a b) }
 {
     let (x, (a, b)) = together(value, together(low, high))?;
-    made_of(
-        lies_between(
-            Plain::of(x.get()),
-            Plain::of(a.get()),
-            Plain::of(b.get()),
-        )
-        .into_cell(),
-    )
+    made_of(lies_between(Plain::of(x.get()), Plain::of(a.get()), Plain::of(b.get())).into_cell())
 }
 
 fn converted<'v>(
@@ -198,11 +191,7 @@ fn null_if<'v>(
 }
 
 // Whether one was found before, or x equals one more value.
-fn or_equal<'v>(
-    found: Plain,
-    x: &Held,
-    value: Result<Held, Memory>,
-) -> Result<Plain<'v>, Memory>
+fn or_equal<'v>(found: Plain, x: &Held, value: Result<Held, Memory>) -> Result<Plain<'v>, Memory>
     ensures { (y : Cell) → IfOk value.entry (λ v. v ≡ y) → IfOk result (λ v. cell_of v ≡ either (cell_of found.entry) (compared is_eq x.now y)) }
 {
     match value {
