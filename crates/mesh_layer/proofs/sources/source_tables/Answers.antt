@@ -17,5 +17,5 @@ loop-decl-preserved g c =
       told = λ w told plain.
           c.in_ok-push.ensures.ok
           ∙ one_more (declared w.sources) c.args.sources.now c.loop-decl.decl-index c.decl-item.result c.loop-decl.tables c.in_ok-table.table (omega arith) c.decl-item.is
-              (so_far.told w told plain) (there.ok w (told_later _ _ w so_far.untouched told) plain);
+          (so_far.told w told plain) (there.ok w (told_later _ _ w so_far.untouched told) plain);
     }
