@@ -237,7 +237,7 @@ impl Beside {
     ) -> Result<(), Trouble> {
         if self.is_mapped {
             self.tally.mapped = self.tally.mapped.saturating_add(1);
-            let other = stage.run_beside(rt, words, &mut self.mapped)?;
+            let other = stage.run_mapped(rt, words, &mut self.mapped)?;
             put_other(stage.alloc, report, MAPPED, outcome, other)?;
         }
         if self.is_stored {

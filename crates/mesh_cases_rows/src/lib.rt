@@ -44,10 +44,13 @@
 mod arrange;
 mod beside;
 mod gated;
+mod mapped;
 mod report;
 mod stage;
 mod trouble;
 mod turns;
+
+pub use mapped::mesh_over_a_map;
 
 use crate::arrange::{arrange, is};
 use crate::beside::{Beside, Tally};

@@ -1,8 +1,11 @@
 // What the commands of an example run on: everything is in memory.
+use crate::mapped::mesh_over_a_map;
 use crate::report::Outcome;
 use crate::trouble::Trouble;
 use mesh_house::{Fail, Fails, MemHouse, Warehouse, World};
 use mesh_io::{File, Folder, MemClock, MemFolder, MemSink, MemSource, Numbers};
+use mesh_keep::MapKeeper;
+use mesh_kept::KeptHouse;
 use mesh_list::{Duplicate, Memory, Seq, both, together};
 use mesh_values::{LAST_MOMENT, Str};
 use std::alloc::Global;
@@ -185,6 +188,29 @@ impl Stage {
         let over = self.streams()?;
         run_over(rt, self.alloc, words, &mut self.folder, house, over)
     }
+
+    /// Runs one command over records in a map.
+    pub fn run_mapped<R: Threads + Sync>(
+        &mut self,
+        rt: &R,
+        words: &[Str],
+        house: &mut KeptHouse<MapKeeper>,
+    ) -> Result<Outcome, Trouble> {
+        let mut over = self.streams()?;
+        let before = house.calls();
+        let status = mesh_over_a_map(
+            rt,
+            self.alloc,
+            words,
+            &mut self.folder,
+            house,
+            &mut over.clock,
+            &mut over.input,
+            &mut over.out,
+            &mut over.err,
+        );
+        outcome(status, house.calls().saturating_sub(before), &over)
+    }
 }
 
 /// What comes of a command over a warehouse.
@@ -209,7 +235,11 @@ fn run_over<R: Threads + Sync, W: Warehouse>(
         &mut over.out,
         &mut over.err,
     );
-    let changes = house.calls().saturating_sub(before);
+    outcome(status, house.calls().saturating_sub(before), &over)
+}
+
+/// What came of a command that made so many changes.
+fn outcome(status: u8, changes: u64, over: &Streams) -> Result<Outcome, Trouble> {
     let (out, err) = both(over.out.bytes(), over.err.bytes())?;
     Ok(Outcome {
         status,

@@ -1,0 +1,31 @@
+// The top call over records in a map.
+ghost use Rattle.mesh_cli.specs.Scripts.{WordsEnd};
+ghost use Rattle.mesh_cli.specs.Sides.{sides};
+ghost use Rattle.mesh_keep.specs.MapKeeper.{map_told};
+ghost use Rattle.mesh_kept.specs.House.{house_told};
+ghost use Rattle.mesh_printed.specs.Printing.{sinks};
+
+use mesh_io::{Clock, Folder, Sink, Source};
+use mesh_keep::MapKeeper;
+use mesh_kept::KeptHouse;
+use mesh_values::Str;
+use std::alloc::Global;
+use std::thread::Threads;
+
+/// Runs one command line over records in a map: what it ends with is said of the world that the records hold.
+pub fn mesh_over_a_map<R: Threads + Sync, F: Folder, C: Clock, S: Source, O: Sink, E: Sink>(
+    rt: &R,
+    alloc: Global,
+    words: &[Str],
+    folder: &mut F,
+    house: &mut KeptHouse<MapKeeper>,
+    clock: &mut C,
+    input: &mut S,
+    out: &mut O,
+    err: &mut E,
+) -> u8
+    ensures { WordsEnd words.now (S.told input.old) (S.told input.new) (sides (F.told folder.old) (C.told clock.old) (house_told map_told house.old)) (sides (F.told folder.new) (C.told clock.new) (house_told map_told house.new))
+        (sinks (O.told out.old) (E.told err.old)) (sinks (O.told out.new) (E.told err.new)) result }
+{
+    mesh_cli::mesh(rt, alloc, words, folder, house, clock, input, out, err)
+}
