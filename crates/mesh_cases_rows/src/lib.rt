@@ -50,8 +50,6 @@ mod stage;
 mod trouble;
 mod turns;
 
-pub use mapped::mesh_over_a_map;
-
 use crate::arrange::{arrange, is};
 use crate::beside::{Beside, Tally};
 use crate::gated::{put_counted, put_held};
@@ -59,6 +57,7 @@ use crate::report::{put, put_counts, put_outcome, put_targets, put_views};
 use crate::stage::Stage;
 use crate::trouble::Trouble;
 use crate::turns::{cuts, stops};
+pub use mapped::mesh_over_a_map;
 use mesh_io::{DirFolder, Folder};
 use mesh_list::{Duplicate, Seq};
 use mesh_scripts::{is_skipped, line_words};
