@@ -1,4 +1,4 @@
-//! The program: it hands its words, the host's files, clock and streams, and a warehouse to the top call of `mesh_cli`, and
+//! The program: it hands its words, the host's files, clock and streams, and a warehouse to the top call of `mesh_cli::cli`, and
 //! ends with the status that the call answers. The warehouse is in memory where the words say `:memory:` or are no command
 //! line, and else in a file of SQLite. Where that file can't be opened, all that is printed is `warehouse fault`, and the
 //! status is 3; where memory is out here, it is `want of memory`, and 4. What lies here is trusted, not proved: which house
@@ -131,7 +131,7 @@ fn main(rt: HostRuntime) -> ExitCode {
     let mut err = StdSink::errors(&rt);
     let Some(file) = file else {
         let mut house = MemHouse::new(alloc);
-        let status = mesh_cli::mesh(
+        let status = mesh_cli::cli::mesh(
             &rt,
             alloc,
             words.as_slice(),
@@ -148,7 +148,7 @@ fn main(rt: HostRuntime) -> ExitCode {
         Err(memory) => without(&rt, memory),
         Ok(house) => {
             let mut house = house;
-            let status = mesh_cli::mesh(
+            let status = mesh_cli::cli::mesh(
                 &rt,
                 alloc,
                 words.as_slice(),

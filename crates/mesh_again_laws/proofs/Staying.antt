@@ -27,8 +27,8 @@ use Rattle.mesh_house.specs.declared.world.Change.TheVariants.{DeleteSnapshot, D
 use Rattle.mesh_house.specs.declared.world.World.{World}
 use Rattle.mesh_changes.specs.Environments.{is_over}
 use Rattle.mesh_changes.specs.Kept.{both_lists, downwards, gone_snapshots, gone_tables, is_kept, is_table_kept, kept, leaving, line, removes, roots, staying, sweeps, tables}
-use Rattle.mesh_janitor.proofs.Books.{is_there}
-use Rattle.mesh_janitor.proofs.Reached.{kept_parent}
+use Rattle.mesh_state_sync.proofs.janitor.Books.{is_there}
+use Rattle.mesh_state_sync.proofs.janitor.Reached.{kept_parent}
 use Rattle.mesh_again_laws.specs.Swept.{swept, swept_book}
 use Rattle.mesh_again_laws.proofs.Lists.{filter_all, filter_none}
 use Rattle.mesh_again_laws.proofs.Names.{from_order}

@@ -35,8 +35,8 @@ use Rattle.mesh_house.proofs.Runs.{run-append}
 use Rattle.mesh_changes.specs.Changes.{names_by_order}
 use Rattle.mesh_changes.specs.Environments.{env_at, is_over, view_in}
 use Rattle.mesh_changes.specs.Kept.{both_lists, gone_snapshots, gone_tables, is_kept, is_table_kept, leaving, removes, staying, sweeps, tables}
-use Rattle.mesh_janitor.proofs.Books.{snapshots_ascend}
-use Rattle.mesh_janitor.proofs.Goes.{gone_exactly}
+use Rattle.mesh_state_sync.proofs.janitor.Books.{snapshots_ascend}
+use Rattle.mesh_state_sync.proofs.janitor.Goes.{gone_exactly}
 use Rattle.mesh_sound.specs.Sound.{IsTyped}
 use Rattle.mesh_again_laws.specs.Swept.{gone_views, swept, views_of}
 use Rattle.mesh_again_laws.proofs.Lists.{all_without, all_without_is, filter_as, has_key, left_are, put_gone, without_more}

@@ -1,6 +1,6 @@
 //! Laws of doing the same again, each the contract of a function with an empty body: what a janitor's sweep leaves of a
 //! world is exactly what stays at its moment, and a second sweep at that moment leaves it as it is; a second promotion of a
-//! plan leaves everything that views show. Its definitions are those of `Swept`. It stands on `mesh_janitor`, `mesh_changes`
+//! plan leaves everything that views show. Its definitions are those of `Swept`. It stands on `mesh_state_sync::janitor`, `mesh_changes`
 //! and `mesh_sound`.
 #![tactic(auto)]
 

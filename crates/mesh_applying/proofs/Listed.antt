@@ -12,7 +12,7 @@ use Rattle.mesh_base.specs.declared.snapshots.Node.{Node}
 use Rattle.mesh_rules.specs.declared.plans.Plan.{Plan}
 use Rattle.mesh_due.specs.Plans.{Planned}
 use Rattle.mesh_changes.specs.Changes.{objects_by_name, pair_first, planned_ref, refs_by_name, target_of}
-use Rattle.mesh_promote.specs.Promotion.{paired}
+use Rattle.mesh_state_sync.specs.promote.Promotion.{paired}
 use Rattle.mesh_works.specs.Plain.{plain_models}
 use Rattle.mesh_exec.specs.Planned.{planned_models}
 use Rattle.mesh_exec.proofs.Books.{models_same, strip}

@@ -8,12 +8,12 @@ use Rattle.mesh_house.specs.House.{Told}
 use Rattle.mesh_house.specs.declared.world.Change.{Change}
 use Rattle.mesh_house.specs.declared.world.World.{World}
 use Rattle.mesh_io.specs.Told.{FolderTold}
-use Rattle.mesh_files.specs.Loading.{AsksAs}
-use Rattle.mesh_files.specs.declared.faults.LoadFault.{LoadFault}
-use Rattle.mesh_files.specs.declared.faults.LoadFault.TheVariants as load
-use Rattle.mesh_project.specs.Project.{IsLoaded}
-use Rattle.mesh_printed.specs.declared.refusals.Refusal.{Refusal}
-use Rattle.mesh_printed.specs.declared.refusals.Refusal.TheVariants.{Model, Warehouse, Input}
+use Rattle.mesh_files.specs.files.Loading.{AsksAs}
+use Rattle.mesh_files.specs.declared.files.faults.LoadFault.{LoadFault}
+use Rattle.mesh_files.specs.declared.files.faults.LoadFault.TheVariants as load
+use Rattle.mesh_project.specs.project.Project.{IsLoaded}
+use Rattle.mesh_printed.specs.declared.printed.refusals.Refusal.{Refusal}
+use Rattle.mesh_printed.specs.declared.printed.refusals.Refusal.TheVariants.{Model, Warehouse, Input}
 use Rattle.mesh_commands.specs.Answers.{Answers, IsAsked}
 use Rattle.mesh_commands.proofs.Answering.{alone_itself, answers_so, refused_alone, refused_first, wanting_first, within}
 use Rattle.mesh_commands.specs.Loads.{of_load}

@@ -14,10 +14,10 @@ use Rattle.mesh_changes.specs.Commands.{Command, Apply, RunAll}
 use Rattle.mesh_changes.specs.Environments.{env_at}
 use Rattle.mesh_plan.specs.Plans.{promised}
 use Rattle.mesh_plan.specs.Running.{IsRunIn}
-use Rattle.mesh_plan_text.specs.PlanText.{plan_text}
-use Rattle.mesh_printed.specs.Reports.{applied_line, ran_line}
-use Rattle.mesh_printed.specs.declared.refusals.Refusal.{Refusal}
-use Rattle.mesh_printed.specs.declared.refusals.Refusal.TheVariants.{Warehouse, Memory, Input}
+use Rattle.mesh_printed.specs.plans.PlanText.{plan_text}
+use Rattle.mesh_printed.specs.printed.Reports.{applied_line, ran_line}
+use Rattle.mesh_printed.specs.declared.printed.refusals.Refusal.{Refusal}
+use Rattle.mesh_printed.specs.declared.printed.refusals.Refusal.TheVariants.{Warehouse, Memory, Input}
 use Rattle.mesh_commands.specs.Answers.{Answers, IsMade}
 use Rattle.mesh_commands.proofs.Answering.{answers_so, refused_first, same_refusal, whole_prefix}
 use Rattle.mesh_applying.specs.Applying.{ApplyGives, ApplyMakes, AreOf, IsApplied, IsHeld, IsRan, IsReady, RunGives, RunMakes}

@@ -15,15 +15,15 @@ use Rattle.mesh_house.specs.House.{Told}
 use Rattle.mesh_house.specs.Runs.{Makes}
 use Rattle.mesh_layer.specs.Shows.{Tells}
 use Rattle.mesh_changes.specs.Commands.{MigrateAll, changes}
-use Rattle.mesh_migrate.specs.Migration.{IsMap, IsRefused, first_twins}
-use Rattle.mesh_migrate.specs.Walk.{layers, limit_from, rename_at}
-use Rattle.mesh_migrate.specs.declared.fault.MigrationFault.{MigrationFault}
-use Rattle.mesh_migrate.specs.declared.fault.MigrationFault.TheVariants.{Twins, Memory as NoRoom}
-use Rattle.mesh_migrate.proofs.Maps.{moves_apart}
-use Rattle.mesh_migrate.proofs.Put.{walk_makes_the_map}
-use Rattle.mesh_printed.specs.Reports.{migrated_line}
-use Rattle.mesh_printed.specs.declared.refusals.Refusal.{Refusal}
-use Rattle.mesh_printed.specs.declared.refusals.Refusal.TheVariants.{Memory}
+use Rattle.mesh_state_sync.specs.migrate.Migration.{IsMap, IsRefused, first_twins}
+use Rattle.mesh_state_sync.specs.migrate.Walk.{layers, limit_from, rename_at}
+use Rattle.mesh_state_sync.specs.declared.migrate.fault.MigrationFault.{MigrationFault}
+use Rattle.mesh_state_sync.specs.declared.migrate.fault.MigrationFault.TheVariants.{Twins, Memory as NoRoom}
+use Rattle.mesh_state_sync.proofs.migrate.Maps.{moves_apart}
+use Rattle.mesh_state_sync.proofs.migrate.Put.{walk_makes_the_map}
+use Rattle.mesh_printed.specs.printed.Reports.{migrated_line}
+use Rattle.mesh_printed.specs.declared.printed.refusals.Refusal.{Refusal}
+use Rattle.mesh_printed.specs.declared.printed.refusals.Refusal.TheVariants.{Memory}
 use Rattle.mesh_commands.specs.Answers.{Answers, as_refusal}
 use Rattle.mesh_commands.proofs.Answering.{alone_itself, refused_first, told_alone, wanting_first}
 use Rattle.mesh_applying.specs.Made.{HasBook}

@@ -36,8 +36,8 @@ use Rattle.mesh_plan.specs.Entries.{IsRecorded, entries_of}
 use Rattle.mesh_plan.specs.Plans.{IsPlanOf, promised}
 use Rattle.mesh_plan.specs.Running.{IsRunIn, IsRunOf}
 use Rattle.mesh_plan_laws.proofs.Executable.{plan_executable}
-use Rattle.mesh_promote.specs.Promotion.{paired, promotion}
-use Rattle.mesh_promote.proofs.Left.{promotes_its_models}
+use Rattle.mesh_state_sync.specs.promote.Promotion.{paired, promotion}
+use Rattle.mesh_state_sync.proofs.promote.Left.{promotes_its_models}
 use Rattle.mesh_applying.specs.Applying.{AreOf}
 use Rattle.mesh_applying.specs.Made.{IsPlanFor}
 use Rattle.mesh_applying.proofs.Ends.{all_come, ends_are, tail}

@@ -9,13 +9,13 @@ use Rattle.mesh_house.specs.House.{Told}
 use Rattle.mesh_changes.specs.Commands.{is_present}
 use Rattle.mesh_changes.specs.Environments.{env_at}
 use Rattle.mesh_changes.specs.Planning.{compared_list}
-use Rattle.mesh_plan_text.specs.PlanText.{plan_text}
+use Rattle.mesh_printed.specs.plans.PlanText.{plan_text}
 use Rattle.mesh_plan.specs.Plans.{IsPlanOf, RefusesPlan}
 use Rattle.mesh_plan.specs.Running.{RefusesRun}
-use Rattle.mesh_versions.specs.declared.faults.PlanFault.{PlanFault}
-use Rattle.mesh_versions.specs.declared.faults.PlanFault.TheVariants as fault
-use Rattle.mesh_printed.specs.declared.refusals.Refusal.{Refusal}
-use Rattle.mesh_printed.specs.declared.refusals.Refusal.TheVariants.{Memory}
+use Rattle.mesh_versions.specs.declared.versions.faults.PlanFault.{PlanFault}
+use Rattle.mesh_versions.specs.declared.versions.faults.PlanFault.TheVariants as fault
+use Rattle.mesh_printed.specs.declared.printed.refusals.Refusal.{Refusal}
+use Rattle.mesh_printed.specs.declared.printed.refusals.Refusal.TheVariants.{Memory}
 use Rattle.mesh_commands.specs.Answers.{Answers, is_fault, no_changes}
 use Rattle.mesh_commands.specs.Present.{ReadsPresent}
 use Rattle.mesh_commands.proofs.Answering.{is_beyond, not_outside, not_warehouse, present_beyond, refused_alone, told_alone}

@@ -20,8 +20,8 @@ use Rattle.mesh_exec.specs.declared.faults.ExecFault.TheVariants as fault
 use Rattle.mesh_exec.specs.Answers.{Executes, IsCut}
 use Rattle.mesh_exec.specs.Executed.{executed, outline}
 use Rattle.mesh_exec.proofs.Stepping.{prefix_more, prefix_then, run_then, whole_prefix}
-use Rattle.mesh_printed.specs.declared.refusals.Refusal.{Refusal}
-use Rattle.mesh_printed.specs.declared.refusals.Refusal.TheVariants.{Warehouse, Memory}
+use Rattle.mesh_printed.specs.declared.printed.refusals.Refusal.{Refusal}
+use Rattle.mesh_printed.specs.declared.printed.refusals.Refusal.TheVariants.{Warehouse, Memory}
 use Rattle.mesh_commands.specs.Answers.{as_refusal}
 use Rattle.mesh_applying.specs.Applying.{AreOf, IsStopped, of_exec}
 use Rattle.mesh_applying.specs.Making.{IsWhole, MakesAll, Promotes}

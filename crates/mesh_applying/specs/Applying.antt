@@ -11,8 +11,8 @@ use Rattle.mesh_house.specs.declared.world.Change.{Change}
 use Rattle.mesh_house.specs.declared.world.World.{World}
 use Rattle.mesh_house.specs.Step.{run}
 use Rattle.mesh_changes.specs.Commands.{Command, Apply, RunAll, changes}
-use Rattle.mesh_fault_text.specs.Lines.{name_text}
-use Rattle.mesh_plan_text.specs.PlanText.{plan_text}
+use Rattle.mesh_printed.specs.faults.Lines.{name_text}
+use Rattle.mesh_printed.specs.plans.PlanText.{plan_text}
 use Rattle.mesh_plan.specs.Plans.{promised}
 use Rattle.mesh_works.specs.Works.{parts}
 use Rattle.mesh_exec.specs.declared.faults.ExecFault.{ExecFault}
@@ -21,9 +21,9 @@ use Rattle.mesh_exec.specs.declared.sources.Lack.{Lack}
 use Rattle.mesh_exec.specs.Answers.{IsLostIn}
 use Rattle.mesh_exec.specs.Executed.{executed}
 use Rattle.mesh_exec.specs.Sources.{first_lack}
-use Rattle.mesh_printed.specs.Reports.{applied_line, ran_line}
-use Rattle.mesh_printed.specs.declared.refusals.Refusal.{Refusal}
-use Rattle.mesh_printed.specs.declared.refusals.Refusal.TheVariants.{Model, Warehouse, Memory, ObjectMissing}
+use Rattle.mesh_printed.specs.printed.Reports.{applied_line, ran_line}
+use Rattle.mesh_printed.specs.declared.printed.refusals.Refusal.{Refusal}
+use Rattle.mesh_printed.specs.declared.printed.refusals.Refusal.TheVariants.{Model, Warehouse, Memory, ObjectMissing}
 use Rattle.mesh_applying.specs.Planning.{IsPlanned, IsRunPlanned, PlanRefused, RunRefused}
 
 -- why the changes of a plan stopped, as a command tells it

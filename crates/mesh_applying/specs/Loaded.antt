@@ -6,9 +6,9 @@ use Rattle.mesh_tokens.specs.declared.faults.FaultKind.{FaultKind}
 use Rattle.mesh_base.specs.declared.snapshots.Node.{Node}
 use Rattle.mesh_rules.specs.Proper.{ProjectNodes}
 use Rattle.mesh_io.specs.declared.files.File.{File}
-use Rattle.mesh_project.specs.Project.{IsFirstFault, Loads}
-use Rattle.mesh_printed.specs.declared.refusals.Refusal.{Refusal}
-use Rattle.mesh_printed.specs.declared.refusals.Refusal.TheVariants.{Model}
+use Rattle.mesh_project.specs.project.Project.{IsFirstFault, Loads}
+use Rattle.mesh_printed.specs.declared.printed.refusals.Refusal.{Refusal}
+use Rattle.mesh_printed.specs.declared.printed.refusals.Refusal.TheVariants.{Model}
 
 -- a project, which is that of the files where the folder tells them
 pub record IsProject (files : Option (List File)) (dir : List ℕ) (of : List Node → Type 0) : Type 0 where

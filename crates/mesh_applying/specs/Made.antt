@@ -14,7 +14,7 @@ use Rattle.mesh_changes.specs.Commands.{Command}
 use Rattle.mesh_changes.specs.Environments.{env_at}
 use Rattle.mesh_plan.specs.Plans.{IsPlanOf}
 use Rattle.mesh_plan.specs.Running.{IsRunIn}
-use Rattle.mesh_printed.specs.declared.refusals.Refusal.{Refusal}
+use Rattle.mesh_printed.specs.declared.printed.refusals.Refusal.{Refusal}
 use Rattle.mesh_applying.specs.Applying.{AreOf, IsApplied, IsHeld, IsRan, IsReady}
 
 -- the plan is one of a proper project at a moment, by this book

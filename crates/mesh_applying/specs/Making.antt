@@ -10,8 +10,8 @@ use Rattle.mesh_house.specs.House.{Told}
 use Rattle.mesh_house.specs.Runs.{IsPrefixRun, IsRun, Makes, Ran}
 use Rattle.mesh_layer.specs.Shows.{Tells}
 use Rattle.mesh_changes.specs.Commands.{Command}
-use Rattle.mesh_printed.specs.declared.refusals.Refusal.{Refusal}
-use Rattle.mesh_printed.specs.declared.refusals.Refusal.TheVariants.{Input, Memory, Warehouse}
+use Rattle.mesh_printed.specs.declared.printed.refusals.Refusal.{Refusal}
+use Rattle.mesh_printed.specs.declared.printed.refusals.Refusal.TheVariants.{Input, Memory, Warehouse}
 use Rattle.mesh_commands.specs.Answers.{IsAlone, as_refusal, is_early, is_fault}
 use Rattle.mesh_applying.specs.Applying.{AreOf, IsHeld, IsReady}
 

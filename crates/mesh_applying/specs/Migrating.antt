@@ -13,13 +13,13 @@ use Rattle.mesh_house.specs.declared.world.World.{World}
 use Rattle.mesh_house.specs.House.{Told}
 use Rattle.mesh_house.specs.Runs.{Makes, Ran}
 use Rattle.mesh_changes.specs.Commands.{MigrateAll, changes}
-use Rattle.mesh_fault_text.specs.Lines.{name_text}
-use Rattle.mesh_migrate.specs.Migration.{IsMap, IsRefused}
-use Rattle.mesh_migrate.specs.declared.fault.MigrationFault.{MigrationFault}
-use Rattle.mesh_migrate.specs.declared.fault.MigrationFault.TheVariants.{Twins, Memory as NoRoom}
-use Rattle.mesh_printed.specs.Reports.{migrated_line}
-use Rattle.mesh_printed.specs.declared.refusals.Refusal.{Refusal}
-use Rattle.mesh_printed.specs.declared.refusals.Refusal.TheVariants.{Memory, Model}
+use Rattle.mesh_printed.specs.faults.Lines.{name_text}
+use Rattle.mesh_state_sync.specs.migrate.Migration.{IsMap, IsRefused}
+use Rattle.mesh_state_sync.specs.declared.migrate.fault.MigrationFault.{MigrationFault}
+use Rattle.mesh_state_sync.specs.declared.migrate.fault.MigrationFault.TheVariants.{Twins, Memory as NoRoom}
+use Rattle.mesh_printed.specs.printed.Reports.{migrated_line}
+use Rattle.mesh_printed.specs.declared.printed.refusals.Refusal.{Refusal}
+use Rattle.mesh_printed.specs.declared.printed.refusals.Refusal.TheVariants.{Memory, Model}
 use Rattle.mesh_commands.specs.Answers.{as_refusal}
 use Rattle.mesh_commands.specs.Present.{IsBroken}
 

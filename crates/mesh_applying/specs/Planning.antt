@@ -13,13 +13,13 @@ use Rattle.mesh_due.specs.Parts.{same_name}
 use Rattle.mesh_changes.specs.Commands.{is_present}
 use Rattle.mesh_changes.specs.Environments.{env_at}
 use Rattle.mesh_changes.specs.Planning.{compared_list}
-use Rattle.mesh_fault_text.specs.Lines.{name_text}
+use Rattle.mesh_printed.specs.faults.Lines.{name_text}
 use Rattle.mesh_plan.specs.Plans.{IsPlanOf, RefusesPlan}
 use Rattle.mesh_plan.specs.Running.{IsRunIn, RefusesRun}
-use Rattle.mesh_versions.specs.declared.faults.PlanFault.{PlanFault}
-use Rattle.mesh_versions.specs.declared.faults.PlanFault.TheVariants as fault
-use Rattle.mesh_printed.specs.declared.refusals.Refusal.{Refusal}
-use Rattle.mesh_printed.specs.declared.refusals.Refusal.TheVariants.{Model, Memory, MomentBehind, EnvUnknown, EnvPending}
+use Rattle.mesh_versions.specs.declared.versions.faults.PlanFault.{PlanFault}
+use Rattle.mesh_versions.specs.declared.versions.faults.PlanFault.TheVariants as fault
+use Rattle.mesh_printed.specs.declared.printed.refusals.Refusal.{Refusal}
+use Rattle.mesh_printed.specs.declared.printed.refusals.Refusal.TheVariants.{Model, Memory, MomentBehind, EnvUnknown, EnvPending}
 use Rattle.mesh_commands.specs.Present.{IsNotPresent}
 
 -- Why there is no plan, as a command tells it. A fault of a model has the model's name in the place of a file's.

@@ -1,18 +1,18 @@
 // Why a command isn't done, as it is told.
 ghost use Rattle.std.specs.Prelude.{◌≡◌, ◌⊎◌};
-ghost use Rattle.mesh_fault_text.specs.Lines.{name_text};
-ghost use Rattle.mesh_printed.specs.declared.refusals.Refusal.TheVariants.{Memory as NoMemory, Model as Fault};
-ghost use Rattle.mesh_versions.specs.declared.faults.PlanFault.TheVariants as why;
+ghost use Rattle.mesh_printed.specs.faults.Lines.{name_text};
+ghost use Rattle.mesh_printed.specs.declared.printed.refusals.Refusal.TheVariants.{Memory as NoMemory, Model as Fault};
+ghost use Rattle.mesh_versions.specs.declared.versions.faults.PlanFault.TheVariants as why;
 ghost use Rattle.mesh_applying.specs.Applying.{of_exec};
 ghost use Rattle.mesh_applying.specs.Planning.{of_plan};
 
 use mesh_exec::ExecFault;
-use mesh_fault_text::name_text;
 use mesh_list::Duplicate;
-use mesh_printed::Refusal;
+use mesh_printed::faults::name_text;
+use mesh_printed::printed::Refusal;
 use mesh_tokens::FaultKind;
 use mesh_values::{Name, Str};
-use mesh_versions::PlanFault;
+use mesh_versions::versions::PlanFault;
 use std::alloc::Global;
 
 /// A fault of a model, which has its name in the place of a file's.

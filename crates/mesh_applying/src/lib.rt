@@ -1,7 +1,7 @@
 //! The commands that plan: `plan` prints what an apply would do, `apply` and `run` do it, and `migrate` moves a book of the
 //! former version. Its contract: each makes exactly the changes that the promise has for the command (`mesh_changes`) in the
 //! world that the house tells, and answers the text that is printed, or a refusal whose cause stands there. It stands on
-//! `mesh_project` for projects, `mesh_plan` for plans, `mesh_exec` and `mesh_promote` for their changes, `mesh_migrate` for
+//! `mesh_project::project` for projects, `mesh_plan` for plans, `mesh_exec` and `mesh_state_sync::promote` for their changes, `mesh_state_sync::migrate` for
 //! maps of fingerprints, and `mesh_commands`.
 #![tactic(auto)]
 

@@ -4,7 +4,7 @@ ghost use Rattle.mesh_list.specs.Keyed.{placed};
 ghost use Rattle.mesh_changes.specs.Changes.{objects_by_name, refs_by_name};
 ghost use Rattle.mesh_values.specs.NameOrder.{names_exact, names_total};
 ghost use Rattle.mesh_values.specs.Names.{name_cmp};
-ghost use Rattle.mesh_promote.specs.Promotion.{paired};
+ghost use Rattle.mesh_state_sync.specs.promote.Promotion.{paired};
 ghost use Rattle.mesh_exec.specs.Planned.{planned_models};
 ghost use Rattle.mesh_applying.specs.Listing.{object_of, ref_of, target, target_name, targets};
 

@@ -1,9 +1,9 @@
 // `migrate`.
 ghost use Rattle.std.specs.Prelude.{◌≡◌, ◌⊎◌, true, false, nat_eq, None, IfOk, IfErr};
 ghost use Rattle.mesh_book.specs.WellFormed.{is_well_formed_book};
-ghost use Rattle.mesh_migrate.specs.Migration.{IsMap, first_twins};
-ghost use Rattle.mesh_printed.specs.Reports.{migrated_line};
-ghost use Rattle.mesh_printed.specs.declared.refusals.Refusal.TheVariants.{Memory as NoMemory};
+ghost use Rattle.mesh_state_sync.specs.migrate.Migration.{IsMap, first_twins};
+ghost use Rattle.mesh_printed.specs.printed.Reports.{migrated_line};
+ghost use Rattle.mesh_printed.specs.declared.printed.refusals.Refusal.TheVariants.{Memory as NoMemory};
 ghost use Rattle.mesh_commands.specs.Answers.{Answers};
 ghost use Rattle.mesh_applying.specs.Made.{HasBook};
 ghost use Rattle.mesh_applying.specs.Migrating.{MigrateGives, MigrateMakes, Moves, of_migration};
@@ -13,8 +13,8 @@ use mesh_base::Renames;
 use mesh_book::{Book, book_fault};
 use mesh_commands::as_refusal;
 use mesh_house::{Change, Warehouse, make};
-use mesh_migrate::{MigrationFault, book_renames};
-use mesh_printed::{Refusal, migrated_line};
+use mesh_printed::printed::{Refusal, migrated_line};
+use mesh_state_sync::migrate::{MigrationFault, book_renames};
 use mesh_tokens::FaultKind;
 use mesh_values::Str;
 use std::alloc::Global;

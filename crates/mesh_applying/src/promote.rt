@@ -12,9 +12,9 @@ use mesh_book::Book;
 use mesh_exec::execute;
 use mesh_house::Warehouse;
 use mesh_list::Memory;
-use mesh_printed::Refusal;
+use mesh_printed::printed::Refusal;
 use mesh_rules::Plan;
-use mesh_wave::OpenGate;
+use mesh_wave::wave::OpenGate;
 use std::alloc::Global;
 use std::thread::Threads;
 

@@ -5,8 +5,8 @@ ghost use Rattle.mesh_changes.specs.Changes.{objects_by_name, refs_by_name};
 ghost use Rattle.mesh_changes.specs.Commands.{Apply, is_present};
 ghost use Rattle.mesh_exec.specs.Planned.{planned_models};
 ghost use Rattle.mesh_plan.specs.Plans.{promised};
-ghost use Rattle.mesh_promote.specs.Promotion.{paired, promotion};
-ghost use Rattle.mesh_printed.specs.declared.refusals.Refusal.TheVariants.{Memory as NoMemory};
+ghost use Rattle.mesh_state_sync.specs.promote.Promotion.{paired, promotion};
+ghost use Rattle.mesh_printed.specs.declared.printed.refusals.Refusal.TheVariants.{Memory as NoMemory};
 ghost use Rattle.mesh_applying.specs.Made.{IsPlanFor};
 ghost use Rattle.mesh_applying.specs.Making.{MakesAll, Promotes};
 
@@ -16,10 +16,10 @@ use mesh_book::Book;
 use mesh_commands::as_refusal;
 use mesh_exec::execute;
 use mesh_house::Warehouse;
-use mesh_printed::Refusal;
-use mesh_promote::promote;
+use mesh_printed::printed::Refusal;
 use mesh_rules::Plan;
-use mesh_wave::OpenGate;
+use mesh_state_sync::promote::promote;
+use mesh_wave::wave::OpenGate;
 use std::alloc::Global;
 use std::thread::Threads;
 

@@ -1,15 +1,7 @@
-//! The commands that only look: `fetchdf` prints the rows of a query over an environment's models, and `evaluate` those of
-//! one model for some days. Its contract: each command answers exactly the text that its definition has for the world that
-//! the house tells, or the first refusal of it, and changes nothing. It stands on `mesh_layer` for what views show, on
-//! `mesh_query` and `mesh_resolve` for the words' query, on `mesh_exec` for the look at sources, and on `mesh_printed` for
-//! texts and refusals.
+//! The commands beside `plan`, `apply` and `run`: `asking` has those that only look, and `upkeep` those that keep a warehouse in
+//! order. Each module says its contract; they stand on `mesh_layer` for what views show, on `mesh_exec` for the look at sources,
+//! on `mesh_state_sync` for the janitor, and on `mesh_commands` and `mesh_printed`.
 #![tactic(auto)]
 
-mod books;
-mod evaluated;
-mod fetched;
-mod printed;
-mod words;
-
-pub use evaluated::evaluate;
-pub use fetched::fetchdf;
+pub mod asking;
+pub mod upkeep;

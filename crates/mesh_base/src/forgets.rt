@@ -71,16 +71,6 @@ impl Duplicate for Forget {
     }
 }
 
-impl Duplicate for Restate {
-    fn copy(&self) -> Result<Restate, Memory> {
-        Ok(Restate {
-            name: self.name.copy()?,
-            first: self.first,
-            last: self.last,
-        })
-    }
-}
-
 impl Duplicate for Rename {
     fn copy(&self) -> Result<Rename, Memory> {
         Ok(Rename {
@@ -106,12 +96,6 @@ impl Same for Forget {
                 Forget::Marks { object: o } => object.same(o),
             },
         }
-    }
-}
-
-impl Same for Restate {
-    fn same(&self, other: &Restate) -> bool {
-        self.name.same(&other.name) && self.first == other.first && self.last == other.last
     }
 }
 

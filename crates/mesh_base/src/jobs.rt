@@ -1,6 +1,6 @@
 // What a query is evaluated over, and what came of a command.
 use crate::queries::Query;
-use mesh_list::{Duplicate, Memory, Same, Seq, both};
+use mesh_list::Seq;
 use mesh_values::{Bounds, Columns, Name, Rows, Str};
 
 pub type Inputs = Seq<Input>;
@@ -60,69 +60,4 @@ pub struct Swept {
     pub objects: u64,
     pub snapshots: u64,
     pub changes: u64,
-}
-
-impl Duplicate for Input {
-    fn copy(&self) -> Result<Input, Memory> {
-        let name = self.name.copy()?;
-        let (columns, rows) = both(&self.columns, &self.rows)?;
-        Ok(Input {
-            name,
-            columns,
-            rows,
-        })
-    }
-}
-
-impl Duplicate for Job {
-    fn copy(&self) -> Result<Job, Memory> {
-        let (query, time) = both(&self.query, &self.time)?;
-        Ok(Job {
-            query,
-            pool: self.pool,
-            bounds: self.bounds,
-            time,
-        })
-    }
-}
-
-impl Duplicate for Done {
-    fn copy(&self) -> Result<Done, Memory> {
-        Ok(*self)
-    }
-}
-
-impl Duplicate for Swept {
-    fn copy(&self) -> Result<Swept, Memory> {
-        Ok(*self)
-    }
-}
-
-impl Same for Input {
-    fn same(&self, other: &Input) -> bool {
-        self.name.same(&other.name)
-            && self.columns.same(&other.columns)
-            && self.rows.same(&other.rows)
-    }
-}
-
-impl Same for Job {
-    fn same(&self, other: &Job) -> bool {
-        self.query.same(&other.query)
-            && self.pool == other.pool
-            && self.bounds.same(&other.bounds)
-            && self.time.same(&other.time)
-    }
-}
-
-impl Same for Done {
-    fn same(&self, other: &Done) -> bool {
-        self == other
-    }
-}
-
-impl Same for Swept {
-    fn same(&self, other: &Swept) -> bool {
-        self == other
-    }
 }

@@ -1,5 +1,5 @@
 // What a plan says of each model: how it differs from the environment's, and what is to be computed.
-use mesh_list::{Duplicate, Memory, Same, Seq, both};
+use mesh_list::Seq;
 use mesh_values::{Name, Names};
 
 /// Seconds: the last ticks that a table's rows were computed for.
@@ -68,83 +68,5 @@ impl Drop for Entry {
             object: _,
             made: _,
         } = self;
-    }
-}
-
-impl Duplicate for Category {
-    fn copy(&self) -> Result<Category, Memory> {
-        Ok(*self)
-    }
-}
-
-impl Duplicate for Categories {
-    fn copy(&self) -> Result<Categories, Memory> {
-        let (of, removed) = both(&self.of, &self.removed)?;
-        Ok(Categories { of, removed })
-    }
-}
-
-impl Duplicate for Due {
-    fn copy(&self) -> Result<Due, Memory> {
-        match self {
-            Due::Whole { node, marks } => Ok(Due::Whole {
-                node: *node,
-                marks: marks.copy()?,
-            }),
-            Due::Unit { node, start, end } => Ok(Due::Unit {
-                node: *node,
-                start: *start,
-                end: *end,
-            }),
-        }
-    }
-}
-
-impl Duplicate for Entry {
-    fn copy(&self) -> Result<Entry, Memory> {
-        Ok(Entry {
-            category: self.category,
-            object: self.object.copy()?,
-            made: self.made,
-        })
-    }
-}
-
-impl Same for Category {
-    fn same(&self, other: &Category) -> bool {
-        self == other
-    }
-}
-
-impl Same for Categories {
-    fn same(&self, other: &Categories) -> bool {
-        self.of.same(&other.of) && self.removed.same(&other.removed)
-    }
-}
-
-impl Same for Due {
-    fn same(&self, other: &Due) -> bool {
-        match self {
-            Due::Whole { node, marks } => match other {
-                Due::Whole { node: n, marks: m } => *node == *n && marks.same(m),
-                Due::Unit { .. } => false,
-            },
-            Due::Unit { node, start, end } => match other {
-                Due::Whole { .. } => false,
-                Due::Unit {
-                    node: n,
-                    start: s,
-                    end: e,
-                } => *node == *n && *start == *s && *end == *e,
-            },
-        }
-    }
-}
-
-impl Same for Entry {
-    fn same(&self, other: &Entry) -> bool {
-        self.category == other.category
-            && self.object.same(&other.object)
-            && self.made == other.made
     }
 }

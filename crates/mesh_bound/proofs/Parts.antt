@@ -28,8 +28,8 @@ use Rattle.mesh_meaning.specs.Ev.{Scope, Seen, Ev, Ev_each, Ev_whens, Ev_node, a
 use Rattle.mesh_meaning.specs.Macros.{macro_value}
 use Rattle.mesh_meaning.specs.Sel.{Joined}
 use Rattle.mesh_meaning.proofs.Nodes.{Ev_out, Ev_when_is, Ev_call, Ev_case, Ev_agg}
-use Rattle.mesh_joined.specs.declared.spots.Spot.{Spot}
-use Rattle.mesh_joined.specs.Spots.{cell_at}
+use Rattle.mesh_joined.specs.declared.joined.spots.Spot.{Spot}
+use Rattle.mesh_joined.specs.joined.Spots.{cell_at}
 use Rattle.mesh_bound.specs.declared.forms.Bound.{Bound, roll-Bound, fold-roll-Bound}
 use Rattle.mesh_bound.specs.declared.forms.Bound as bound
 use Rattle.mesh_bound.specs.declared.forms.Bound.TheOpen.{Lies, Known, Key, Binary, Neg, Not, IsNull, Between, OneOf, Cast, Call, Case, CountAll, Agg, Plain}

@@ -14,7 +14,7 @@ use Rattle.mesh_meaning.specs.Aggregates.{agg_value, count_of}
 use Rattle.mesh_meaning.specs.Cells.{is_null, op_value, negative, opposite, between, one_of, case_value, func_value}
 use Rattle.mesh_meaning.specs.Ev.{Scope, Ev, Ev_node, Ev_each, Ev_when, Ev_whens, seen}
 use Rattle.mesh_meaning.specs.Sel.{Joined}
-use Rattle.mesh_joined.specs.Spots.{cell_at}
+use Rattle.mesh_joined.specs.joined.Spots.{cell_at}
 use Rattle.mesh_bound.specs.declared.forms.Bound.{Bound, fold-Bound}
 use Rattle.mesh_bound.specs.declared.forms.Bound.TheOpen.{Bound-F, BoundWhen-F, Lies, Known, Key, Binary, Neg, Not, IsNull, Between, OneOf, Cast, Call, Case, CountAll, Agg, Plain}
 use Rattle.mesh_bound.specs.declared.forms.BoundWhen.{BoundWhen, fold-BoundWhen}

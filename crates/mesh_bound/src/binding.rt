@@ -11,7 +11,7 @@ use crate::nodes::{
 };
 use crate::settled::settled;
 use mesh_base::{Expr, Op, When};
-use mesh_joined::spot_of;
+use mesh_joined::joined::spot_of;
 use mesh_list::{Memory, push_made};
 use mesh_values::{Bounds, Columns};
 use std::alloc::Global;

@@ -1,6 +1,6 @@
 // Expressions whose names are looked up.
 use mesh_base::{AggKind, Func, Op};
-use mesh_joined::Spot;
+use mesh_joined::joined::Spot;
 use mesh_list::{Boxed, Seq};
 use mesh_values::{Cell, ColType};
 

@@ -1,13 +1,13 @@
 // Expressions that have no parts.
 ghost use Rattle.std.specs.Prelude.{◌≡◌, IfOk};
 ghost use Rattle.mesh_values.specs.declared.values.Cell.{Cell as Shown};
-ghost use Rattle.mesh_joined.specs.Spots.{cell_at};
+ghost use Rattle.mesh_joined.specs.joined.Spots.{cell_at};
 ghost use Rattle.mesh_meaning.specs.Macros.{macro_value};
 ghost use Rattle.mesh_bound.specs.Meaning.{Means};
 
 use crate::forms::Bound;
 use mesh_base::Var;
-use mesh_joined::Spot;
+use mesh_joined::joined::Spot;
 use mesh_list::{Duplicate, Memory};
 use mesh_operators::bound;
 use mesh_values::{Bounds, Cell};

@@ -1,6 +1,6 @@
 //! Expressions whose names are looked up before the first row. Its contract: what `bind` makes of an expression, over the
 //! columns of a FROM, under keys and for an interval, has the expression's value (`Ev` of `mesh_meaning`) whatever row, key
-//! values and group it is given. It stands on `mesh_list`, `mesh_values`, `mesh_casts`, `mesh_base`, `mesh_joined`,
+//! values and group it is given. It stands on `mesh_list`, `mesh_values`, `mesh_casts`, `mesh_base`, `mesh_joined::joined`,
 //! `mesh_operators` and the definitions of `mesh_meaning`.
 #![tactic(auto)]
 

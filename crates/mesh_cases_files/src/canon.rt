@@ -1,7 +1,7 @@
 // Canonical texts: definitions, lists and nodes.
 use crate::near::are_told_apart;
 use mesh_base::{Own, Ref, Refs};
-use mesh_canon::{
+use mesh_canon::canon::{
     CanonFault, list_text, node_text, own_text, own_text_old, read_list, read_own, read_own_old,
 };
 use mesh_cases::{Pen, Trouble, front_word, halves};

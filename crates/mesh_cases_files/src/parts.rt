@@ -1,6 +1,6 @@
 // Cells and types of columns on their own, by their canonical texts.
 use crate::canon::{Answer, put_answer, refusal, told};
-use mesh_canon::{cell_text, read_cell, read_type, type_text};
+use mesh_canon::canon::{cell_text, read_cell, read_type, type_text};
 use mesh_cases::{Pen, Trouble};
 use std::alloc::Global;
 

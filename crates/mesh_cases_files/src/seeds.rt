@@ -2,8 +2,8 @@
 use crate::answers::{put_column, put_count, put_fault};
 use crate::sources::{put_sources, put_sources_size};
 use mesh_cases::{Pen, Trouble, front_word, kind_of, put_cell};
-use mesh_csv::read_seed;
-use mesh_external::read_external;
+use mesh_csv::external::read_external;
+use mesh_csv::seeds::read_seed;
 use mesh_list::{Duplicate, Memory, Seq, push_made};
 use mesh_values::{Cell, ColType, Column, Columns, Row, Seed, Str};
 use std::alloc::Global;

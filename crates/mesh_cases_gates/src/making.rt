@@ -13,9 +13,9 @@ use mesh_house::Warehouse;
 use mesh_io::Folder;
 use mesh_list::Duplicate;
 use mesh_plan::plan;
-use mesh_project::load;
+use mesh_project::project::load;
 use mesh_rules::{Plan, Project};
-use mesh_wave::Gate;
+use mesh_wave::wave::Gate;
 use std::alloc::Global;
 use std::thread::Threads;
 

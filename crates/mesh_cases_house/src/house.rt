@@ -116,15 +116,10 @@ fn make_line(
     }
 }
 
-/// Makes copies of changes.
-fn make_copies(alloc: Global, house: &mut MemHouse, pen: &mut Pen, list: &Changes) {
-    match list.copy() {
-        Ok(copied) => {
-            let answer = make_all(house, alloc, copied.as_slice());
-            put_after(pen, answer, house.world());
-        }
-        Err(Memory) => pen.lose(),
-    }
+/// Makes changes by one call, and tells what there is then.
+fn make_listed(alloc: Global, house: &mut MemHouse, pen: &mut Pen, list: &[Change]) {
+    let answer = make_all(house, alloc, list);
+    put_after(pen, answer, house.world());
 }
 
 /// Makes changes themselves, and tells only what the book has then.
@@ -241,7 +236,7 @@ impl Stage {
     fn together(&mut self, pen: &mut Pen, line: &Line) -> Result<bool, Trouble> {
         if line.is(0, b"make_all") {
             let list = self.taken(line.alloc());
-            make_copies(line.alloc(), &mut self.house, pen, &list);
+            make_listed(line.alloc(), &mut self.house, pen, list.as_slice());
         } else if line.is(0, b"count_all") {
             let list = self.taken(line.alloc());
             make_counted(line.alloc(), &mut self.house, pen, list.as_slice())?;

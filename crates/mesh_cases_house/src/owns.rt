@@ -1,7 +1,7 @@
 // Definitions by their canonical texts.
 use crate::line::{Named, Owns};
 use mesh_base::{Defn, Own};
-use mesh_canon::{CanonFault, own_text, read_own};
+use mesh_canon::canon::{CanonFault, own_text, read_own};
 use mesh_cases::{Pen, Trouble, front_word};
 use mesh_columns::columns_of;
 use mesh_list::{Duplicate, Memory, Seq, together};

@@ -1,10 +1,10 @@
 // Projects that are loaded from a folder, and the lines of their faults.
 use mesh_cases::{Pen, Trouble};
-use mesh_fault_text::fault_line;
-use mesh_files::LoadFault;
+use mesh_files::files::LoadFault;
 use mesh_io::Folder;
 use mesh_list::Duplicate;
-use mesh_project::load;
+use mesh_printed::faults::fault_line;
+use mesh_project::project::load;
 use mesh_rules::Project;
 use mesh_tokens::FaultKind;
 use std::alloc::Global;

@@ -1,15 +1,15 @@
 // What the text of a query or of a model means, over models and sources that are known.
 use crate::cut::cut_at;
 use mesh_base::{Defn, Input, Inputs, Own, Query, Sources};
-use mesh_canon::{own_text, read_own};
+use mesh_canon::canon::{own_text, read_own};
 use mesh_cases::{Pen, Trouble};
-use mesh_external::read_external;
-use mesh_fault_text::fault_line;
+use mesh_csv::external::read_external;
+use mesh_files::text::read_model;
 use mesh_list::{Duplicate, Memory, both};
 use mesh_model::ModelText;
+use mesh_printed::faults::fault_line;
 use mesh_query::parse;
 use mesh_resolve::{Known, own_of, resolve};
-use mesh_text::read_model;
 use mesh_tokens::{ReadFault, tokens_of};
 use mesh_values::{Columns, Kind, Name, Rows, Seed, Str};
 use std::alloc::Global;

@@ -1,6 +1,6 @@
 // How rows, and places of rows, are shown.
 use mesh_cases::{Pen, Trouble};
-use mesh_index::Index;
+use mesh_joined::index::Index;
 use mesh_values::{Cell, Row, Rows};
 
 fn put_text(pen: &mut Pen, text: &[u8]) {

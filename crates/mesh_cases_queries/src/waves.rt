@@ -8,7 +8,7 @@ use mesh_base::{Jobs, Pools, Query};
 use mesh_cases::{Pen, Trouble};
 use mesh_cases_gates::Holding;
 use mesh_values::{Cell, RowsList};
-use mesh_wave::{Gate, OpenGate, wave};
+use mesh_wave::wave::{Gate, OpenGate, wave};
 use std::alloc::Global;
 use std::thread::Threads;
 

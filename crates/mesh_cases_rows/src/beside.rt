@@ -5,7 +5,7 @@ use crate::stage::Stage;
 use crate::trouble::Trouble;
 use mesh_house::{Fail, Fails, ViewOf, Warehouse};
 use mesh_keep::{KeepFail, Keeper, MapKeeper, Record, Records};
-use mesh_kept::{KeepFault, KeptHouse};
+use mesh_kept::kept::{KeepFault, KeptHouse};
 use mesh_list::Seq;
 use mesh_sqlite::{SqliteFault, SqliteHouse, house_over};
 use mesh_values::{Str, same_text};

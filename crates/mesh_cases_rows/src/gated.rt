@@ -9,7 +9,7 @@ use mesh_base::Done;
 use mesh_cases_gates::{Counting, Holding, make_behind};
 use mesh_days::moment_of;
 use mesh_values::Str;
-use mesh_wave::Gate;
+use mesh_wave::wave::Gate;
 use std::alloc::Global;
 use std::thread::Threads;
 

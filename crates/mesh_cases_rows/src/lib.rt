@@ -1,5 +1,5 @@
 //! Worked examples as data. Each folder `rows/NAME` has a project in `project/` and a `script` of steps, which are run
-//! through the top call of `mesh_cli` over a folder and a warehouse in memory. What each command answers is printed, and
+//! through the top call of `mesh_cli::cli` over a folder and a warehouse in memory. What each command answers is printed, and
 //! is compared with the program's `stdout`, whose values were worked out by hand.
 //!
 //! A script has one step a line, split as the lines of a batch are; empty lines and lines that begin with `#` are no steps:
@@ -60,7 +60,7 @@ use crate::turns::{cuts, stops};
 pub use mapped::mesh_over_a_map;
 use mesh_io::{DirFolder, Folder};
 use mesh_list::{Duplicate, Seq};
-use mesh_scripts::{is_skipped, line_words};
+use mesh_options::scripts::{is_skipped, line_words};
 use mesh_values::Str;
 use std::alloc::Global;
 use std::thread::Threads;

@@ -1,13 +1,13 @@
 // The top call over records in a map.
-ghost use Rattle.mesh_cli.specs.Scripts.{WordsEnd};
-ghost use Rattle.mesh_cli.specs.Sides.{sides};
+ghost use Rattle.mesh_cli.specs.cli.Scripts.{WordsEnd};
+ghost use Rattle.mesh_cli.specs.cli.Sides.{sides};
 ghost use Rattle.mesh_keep.specs.MapKeeper.{map_told};
-ghost use Rattle.mesh_kept.specs.House.{house_told};
-ghost use Rattle.mesh_printed.specs.Printing.{sinks};
+ghost use Rattle.mesh_kept.specs.kept.House.{house_told};
+ghost use Rattle.mesh_printed.specs.printed.Printing.{sinks};
 
 use mesh_io::{Clock, Folder, Sink, Source};
 use mesh_keep::MapKeeper;
-use mesh_kept::KeptHouse;
+use mesh_kept::kept::KeptHouse;
 use mesh_values::Str;
 use std::alloc::Global;
 use std::thread::Threads;
@@ -27,5 +27,5 @@ pub fn mesh_over_a_map<R: Threads + Sync, F: Folder, C: Clock, S: Source, O: Sin
     ensures { WordsEnd words.now (S.told input.old) (S.told input.new) (sides (F.told folder.old) (C.told clock.old) (house_told map_told house.old)) (sides (F.told folder.new) (C.told clock.new) (house_told map_told house.new))
         (sinks (O.told out.old) (E.told err.old)) (sinks (O.told out.new) (E.told err.new)) result }
 {
-    mesh_cli::mesh(rt, alloc, words, folder, house, clock, input, out, err)
+    mesh_cli::cli::mesh(rt, alloc, words, folder, house, clock, input, out, err)
 }

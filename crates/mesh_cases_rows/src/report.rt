@@ -3,7 +3,7 @@ use crate::trouble::Trouble;
 use mesh_house::{MemHouse, ViewOf, Warehouse, World};
 use mesh_layer::show;
 use mesh_list::{Duplicate, Seq};
-use mesh_printed::rows_text;
+use mesh_printed::printed::rows_text;
 use mesh_values::{Columns, Name, Rows, Str, same_text, sort_rows};
 use std::alloc::Global;
 

@@ -5,7 +5,7 @@ use crate::trouble::Trouble;
 use mesh_house::{Fail, Fails, MemHouse, Warehouse, World};
 use mesh_io::{File, Folder, MemClock, MemFolder, MemSink, MemSource, Numbers};
 use mesh_keep::MapKeeper;
-use mesh_kept::KeptHouse;
+use mesh_kept::kept::KeptHouse;
 use mesh_list::{Duplicate, Memory, Seq, both, together};
 use mesh_values::{LAST_MOMENT, Str};
 use std::alloc::Global;
@@ -224,7 +224,7 @@ fn run_over<R: Threads + Sync, W: Warehouse>(
 ) -> Result<Outcome, Trouble> {
     let mut over = over;
     let before = house.calls();
-    let status = mesh_cli::mesh(
+    let status = mesh_cli::cli::mesh(
         rt,
         alloc,
         words,

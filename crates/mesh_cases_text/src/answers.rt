@@ -6,10 +6,10 @@ use crate::query::put_query;
 use crate::refusals::{put_fault, put_fault_of};
 use crate::tokens::put_each;
 use mesh_cases::{Pen, Trouble, halves};
+use mesh_files::text::read_model;
 use mesh_list::{Duplicate, Same};
 use mesh_query::parse;
 use mesh_statement::read_statement;
-use mesh_text::read_model;
 use mesh_tokens::{ReadFault, Tokens, tokens_of};
 use mesh_values::Str;
 use std::alloc::Global;
@@ -87,11 +87,11 @@ fn file_of_models(alloc: Global) -> Result<Str, Trouble> {
     Ok(u8::copy_items(alloc, b"models/a.sql")?)
 }
 
-/// The model of the file `models/a.sql`, copied.
+/// The model of the file `models/a.sql`.
 pub fn put_model_file(alloc: Global, pen: &mut Pen, text: &[u8]) -> Result<(), Trouble> {
     match read_model(&file_of_models(alloc)?, text) {
         Ok(model) => {
-            put_model(pen, &model.copy()?);
+            put_model(pen, &model);
             pen.put(b"\n");
         }
         Err(fault) => put_fault(pen, &fault),

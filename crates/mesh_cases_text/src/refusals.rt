@@ -1,6 +1,6 @@
 // The lines of faults in print, each behind a blank.
 use mesh_cases::Pen;
-use mesh_fault_text::fault_line;
+use mesh_printed::faults::fault_line;
 use mesh_tokens::{FaultKind, ReadFault};
 
 /// The line of a fault in some file.

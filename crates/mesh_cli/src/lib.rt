@@ -1,20 +1,7 @@
-//! The top call of `mesh`: it reads the words, runs the command over the project's folder and the warehouse, prints, and answers
-//! a status. Its contract is that of `mesh`, and of `batch` for the lines of a script: what each status means of the warehouse,
-//! of what was printed, and of the outside. It stands on `mesh_line` for words, on `mesh_applying`, `mesh_asking` and
-//! `mesh_upkeep` for the commands, and on `mesh_printed` for what is printed.
+//! The program's calls: `cli` has the top call of `mesh`, and `demo` the demonstration, which goes over the same commands.
+//! Each module says its contract; they stand on `mesh_line` for words, on `mesh_applying`, `mesh_asking` and the commands of
+//! `mesh_upkeep`, and on `mesh_printed` for what is printed.
 #![tactic(auto)]
 
-mod batches;
-mod command;
-mod laws;
-mod moment;
-mod place;
-mod script;
-mod top;
-
-pub use batches::batch;
-pub use laws::{
-    commands_that_are_done_made_their_changes, commands_that_are_refused_change_nothing,
-    commands_without_a_refusal_are_done, plans_applied_at_once_are_applies, workers_change_nothing,
-};
-pub use top::mesh;
+pub mod cli;
+pub mod demo;

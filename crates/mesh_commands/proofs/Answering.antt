@@ -14,8 +14,8 @@ use Rattle.mesh_house.specs.House.{Told, Reads}
 use Rattle.mesh_house.specs.Runs.{IsPrefixRun, IsRun}
 use Rattle.mesh_house.specs.World.{book}
 use Rattle.mesh_layer.specs.Shows.{Tells}
-use Rattle.mesh_printed.specs.declared.refusals.Refusal.{Refusal}
-use Rattle.mesh_printed.specs.declared.refusals.Refusal.TheVariants.{Warehouse, Memory, Input}
+use Rattle.mesh_printed.specs.declared.printed.refusals.Refusal.{Refusal}
+use Rattle.mesh_printed.specs.declared.printed.refusals.Refusal.TheVariants.{Warehouse, Memory, Input}
 use Rattle.mesh_commands.specs.Answers.{Answers, IsAlone, IsMade, as_refusal, is_fault}
 use Rattle.mesh_commands.specs.Present.{IsNotPresent, ReadsPresent}
 

@@ -9,8 +9,8 @@ use Rattle.mesh_house.specs.House.{Told}
 use Rattle.mesh_house.specs.Runs.{IsPrefixRun, IsRun}
 use Rattle.mesh_io.specs.Told.{FolderTold}
 use Rattle.mesh_layer.specs.Shows.{Tells}
-use Rattle.mesh_printed.specs.declared.refusals.Refusal.{Refusal}
-use Rattle.mesh_printed.specs.declared.refusals.Refusal.TheVariants.{Warehouse, Memory, Input, ObjectMissing}
+use Rattle.mesh_printed.specs.declared.printed.refusals.Refusal.{Refusal}
+use Rattle.mesh_printed.specs.declared.printed.refusals.Refusal.TheVariants.{Warehouse, Memory, Input, ObjectMissing}
 
 -- a warehouse's failure, as a command tells it
 abbrev pub as_refusal : WhFail → Refusal

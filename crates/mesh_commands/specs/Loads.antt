@@ -1,8 +1,8 @@
 -- A fault of loading, as a command tells it.
-use Rattle.mesh_files.specs.declared.faults.LoadFault.{LoadFault}
-use Rattle.mesh_files.specs.declared.faults.LoadFault.TheVariants as load
-use Rattle.mesh_printed.specs.declared.refusals.Refusal.{Refusal}
-use Rattle.mesh_printed.specs.declared.refusals.Refusal.TheVariants.{Model, Input, Memory}
+use Rattle.mesh_files.specs.declared.files.faults.LoadFault.{LoadFault}
+use Rattle.mesh_files.specs.declared.files.faults.LoadFault.TheVariants as load
+use Rattle.mesh_printed.specs.declared.printed.refusals.Refusal.{Refusal}
+use Rattle.mesh_printed.specs.declared.printed.refusals.Refusal.TheVariants.{Model, Input, Memory}
 
 -- a fault of a file is one of the project, and a folder that fails is one of the input
 abbrev pub of_load : LoadFault → Refusal

@@ -7,8 +7,8 @@ use Rattle.mesh_book.specs.WellFormed.{book_fault, is_well_formed_book}
 use Rattle.mesh_changes.specs.Commands.{is_present}
 use Rattle.mesh_house.specs.declared.world.World.{World}
 use Rattle.mesh_house.specs.House.{Told}
-use Rattle.mesh_printed.specs.declared.refusals.Refusal.{Refusal}
-use Rattle.mesh_printed.specs.declared.refusals.Refusal.TheVariants.{Warehouse, Input, BookBroken, StateOld}
+use Rattle.mesh_printed.specs.declared.printed.refusals.Refusal.{Refusal}
+use Rattle.mesh_printed.specs.declared.printed.refusals.Refusal.TheVariants.{Warehouse, Input, BookBroken, StateOld}
 use Rattle.mesh_commands.specs.Answers.{IsAlone, is_fault}
 
 -- the book breaks a rule, and this is told

@@ -6,7 +6,7 @@ ghost use Rattle.mesh_commands.specs.Present.{IsNotPresent, ReadsPresent};
 
 use mesh_book::{BOOK_VERSION, Book, book_fault};
 use mesh_house::{Warehouse, WhFail};
-use mesh_printed::Refusal;
+use mesh_printed::printed::Refusal;
 use std::alloc::Global;
 
 /// What a command tells where a warehouse's call stopped.

@@ -2,8 +2,8 @@
 ghost use Rattle.std.specs.Prelude.{◌≡◌};
 ghost use Rattle.mesh_commands.specs.Loads.{of_load};
 
-use mesh_files::LoadFault;
-use mesh_printed::Refusal;
+use mesh_files::files::LoadFault;
+use mesh_printed::printed::Refusal;
 
 /// A fault of loading, as a command tells it.
 pub fn of_load(fault: LoadFault) -> Refusal

@@ -8,8 +8,8 @@ use Rattle.mesh_values.specs.declared.times.Bounds.{Bounds}
 use Rattle.mesh_values.specs.declared.values.Column.{Column}
 use Rattle.mesh_base.specs.declared.expressions.Expr.{Expr}
 use Rattle.mesh_meaning.specs.Sel.{Group, Joined, same_row, key_list, group_of}
-use Rattle.mesh_index.specs.Places.{places, places_from}
-use Rattle.mesh_index.proofs.OneOfEach.{distinct-more, same_row-exact}
+use Rattle.mesh_joined.specs.index.Places.{places, places_from}
+use Rattle.mesh_joined.proofs.index.OneOfEach.{distinct-more, same_row-exact}
 
 turn : (k at : ℕ) → k + suc at ≡ suc k + at
 turn k at = omega arith

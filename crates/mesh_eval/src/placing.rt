@@ -1,7 +1,7 @@
 // Expressions bound before the first row, and their values at rows.
 ghost use Rattle.std.specs.Prelude.{◌≡◌, map, IfOk};
 ghost use Rattle.mesh_values.specs.declared.values.Cell.{Cell as Shown};
-ghost use Rattle.mesh_joined.specs.Joined.{shown};
+ghost use Rattle.mesh_joined.specs.joined.Joined.{shown};
 ghost use Rattle.mesh_meaning.specs.Cells.{is_true};
 ghost use Rattle.mesh_bound.specs.Meaning.{Given, Means, bound_value, row_alone};
 ghost use Rattle.mesh_eval.specs.Placed.{AreItems, IsCondition, bound_holds, row_test, values_at};
@@ -9,7 +9,7 @@ ghost use Rattle.mesh_eval.specs.Placed.{AreItems, IsCondition, bound_holds, row
 use mesh_base::{Expr, Item};
 use mesh_bound::{Bound, Bounded, bind};
 use mesh_expressions::{Frame, holds, lent_at, value_alone};
-use mesh_joined::JoinedRows;
+use mesh_joined::joined::JoinedRows;
 use mesh_list::{Duplicate, Memory, push_made};
 use mesh_values::{Bounds, Cell, Columns, Row, Rows};
 use std::alloc::Global;

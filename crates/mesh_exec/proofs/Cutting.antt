@@ -22,7 +22,7 @@ use Rattle.mesh_scratch.specs.Scratch.{defn_rows, is_of_unit, lies_by, piece_ove
 use Rattle.mesh_due.specs.Plans.{Planned}
 use Rattle.mesh_changes.specs.Changes.{ascending}
 use Rattle.mesh_lineage.specs.Joinable.{is_joinable, is_joinable_as}
-use Rattle.mesh_wave.proofs.Ascending.{cut_ascending}
+use Rattle.mesh_wave.proofs.wave.Ascending.{cut_ascending}
 use Rattle.mesh_unit_laws.specs.Units.{IsInDays, IsUnit}
 use Rattle.mesh_unit_laws.proofs.Cuts.{sorted_rows}
 use Rattle.mesh_works.specs.Cuts.{cut_fills, rows_in, run_fills, second_in, seconds_by, seconds_of}

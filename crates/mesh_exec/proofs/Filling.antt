@@ -30,7 +30,7 @@ use Rattle.mesh_house.specs.declared.world.Change.{Change}
 use Rattle.mesh_due.specs.Marks.{is_computed}
 use Rattle.mesh_due.specs.Plans.{Planned}
 use Rattle.mesh_changes.specs.Changes.{ascending}
-use Rattle.mesh_wave.specs.Waves.{counts, job_rows}
+use Rattle.mesh_wave.specs.wave.Waves.{counts, job_rows}
 use Rattle.mesh_lineage.specs.Joinable.{is_joinable}
 use Rattle.mesh_works.specs.Executable.{is_due_of}
 use Rattle.mesh_works.specs.Fronts.{pool_at}

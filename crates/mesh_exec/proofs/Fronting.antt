@@ -13,7 +13,7 @@ use Rattle.mesh_rules.specs.Proper.{is_body_of}
 use Rattle.mesh_due.specs.Marks.{is_computed}
 use Rattle.mesh_due.specs.Plans.{Planned}
 use Rattle.mesh_lineage.specs.Joinable.{is_joinable}
-use Rattle.mesh_wave.specs.Waves.{job_rows}
+use Rattle.mesh_wave.specs.wave.Waves.{job_rows}
 use Rattle.mesh_works.specs.Executable.{is_due_of}
 use Rattle.mesh_works.specs.Fronts.{pool_at}
 use Rattle.mesh_works.specs.Plain.{work_model}

@@ -4,7 +4,7 @@ use Rattle.std.specs.List.{range_with_len}
 use Rattle.std.specs.Option.{option_map}
 use Rattle.mesh_expressions.specs.declared.frames.Frame.{Frame}
 use Rattle.mesh_expressions.specs.declared.frames.Members.{Members}
-use Rattle.mesh_joined.specs.Joined.{shown}
+use Rattle.mesh_joined.specs.joined.Joined.{shown}
 use Rattle.mesh_meaning.specs.Sel.{Joined}
 use Rattle.mesh_bound.specs.Meaning.{Given}
 

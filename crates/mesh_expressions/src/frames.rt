@@ -2,10 +2,10 @@
 ghost use Rattle.std.specs.Prelude.{◌≡◌, map, slice_index_or, IfOk};
 ghost use Rattle.mesh_bound.specs.Meaning.{row_alone};
 ghost use Rattle.mesh_expressions.specs.Frames.{given_of, members};
-ghost use Rattle.mesh_joined.specs.Joined.{shown};
-ghost use Rattle.mesh_joined.specs.Spots.{cell_at};
+ghost use Rattle.mesh_joined.specs.joined.Joined.{shown};
+ghost use Rattle.mesh_joined.specs.joined.Spots.{cell_at};
 
-use mesh_joined::{JoinedRows, Spot, cell_at};
+use mesh_joined::joined::{JoinedRows, Spot, cell_at};
 use mesh_list::Memory;
 use mesh_operators::{Held, Helds};
 use mesh_values::Cell;

@@ -6,14 +6,14 @@ ghost use Rattle.mesh_casts.specs.Casts.{cast_value};
 ghost use Rattle.mesh_meaning.specs.Cells.{is_null, op_value, negative, opposite, between, one_of, chosen, func_value, coalesce};
 ghost use Rattle.mesh_bound.specs.Meaning.{bound_value, bound_each, bound_whens};
 ghost use Rattle.mesh_expressions.specs.Frames.{given_of};
-ghost use Rattle.mesh_joined.specs.Joined.{shown};
-ghost use Rattle.mesh_joined.specs.Spots.{cell_at};
+ghost use Rattle.mesh_joined.specs.joined.Joined.{shown};
+ghost use Rattle.mesh_joined.specs.joined.Spots.{cell_at};
 ghost use Rattle.mesh_operators.specs.Plain.{cell_of};
 
 use crate::frames::Frame;
 use mesh_base::{Func, Op};
 use mesh_bound::{Bound, BoundWhen};
-use mesh_joined::{Spot, cell_at};
+use mesh_joined::joined::{Spot, cell_at};
 use mesh_operators::{
     Plain, call_plain, cast_plain, equal, lies_between, negate, not, operate, or,
 };

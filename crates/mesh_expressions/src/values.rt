@@ -7,7 +7,7 @@ ghost use Rattle.mesh_casts.specs.Casts.{cast_value};
 ghost use Rattle.mesh_meaning.specs.Aggregates.{agg_value, count_of};
 ghost use Rattle.mesh_bound.specs.Meaning.{bound_value, bound_each, bound_when, bound_whens, row_alone, over_rows};
 ghost use Rattle.mesh_expressions.specs.Frames.{given_of, members};
-ghost use Rattle.mesh_joined.specs.Joined.{shown};
+ghost use Rattle.mesh_joined.specs.joined.Joined.{shown};
 ghost use Rattle.mesh_operators.specs.Plain.{cell_of};
 
 use crate::aggregates::aggregate;

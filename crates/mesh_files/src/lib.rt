@@ -1,19 +1,6 @@
-//! The files of a project, whatever the form of its models. Its contract: `read_files` gives what the relation `AreFiles`
-//! says of the files of a folder: the declared sources, and each model's file with its seed in the order of their paths,
-//! or their first fault with its file and place. It stands on `mesh_list`, `mesh_values`, `mesh_base`, `mesh_io`,
-//! `mesh_text`, `mesh_csv` and `mesh_external`.
+//! The files of a project: `text` reads the file of a model, and `files` those of a folder, whatever form its models have.
+//! Each module says its contract; they stand on `mesh_query` and `mesh_statement` for text, on `mesh_csv` and on `mesh_io`.
 #![tactic(auto)]
 
-mod faults;
-mod files;
-mod laws;
-mod models;
-mod places;
-mod project;
-mod read;
-
-pub use faults::{LoadFault, bad_path, in_file, outside, too_large};
-pub use files::{read_sources, read_within};
-pub use laws::files_say_one_thing;
-pub use project::{ModelFile, ProjectFiles};
-pub use read::read_files;
+pub mod files;
+pub mod text;

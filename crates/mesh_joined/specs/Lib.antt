@@ -1,4 +1,4 @@
--- Joined: rows of the items of a FROM, as the code keeps them.
-pub mod Joined
--- Spots: where a cell of a joined row lies.
-pub mod Spots
+-- index: the definitions of the module `index`.
+pub mod index
+-- joined: the definitions of the module `joined`.
+pub mod joined

@@ -1,17 +1,9 @@
-//! A warehouse over the records of a keeper. It holds the world that the records say in memory: it reads all records once,
-//! at its first call, and makes each change in memory and then by one write of the records that the change is about; after
-//! a refusal the records are read anew. Its contract: where the keeper tells its records, and these are those of a world,
-//! it tells that world, and is a warehouse of it; and where it tells a world, a call fails only where the keeper fails. It
-//! stands on `mesh_list`, `mesh_values`, `mesh_book`, `mesh_house`, `mesh_record_text`, `mesh_record_reading`, `mesh_keep`,
-//! `mesh_stored`, which reads a world's records, and `mesh_touched`, which writes them.
+//! A warehouse over the records of a keeper: `bodies` writes what records say, `touched` tells which records a change is about,
+//! `stored` reads the world that records say, and `kept` is the warehouse. Each module says its contract; they stand on
+//! `mesh_keep` for what it is to know a world, and on `mesh_record_text` and `mesh_record_reading` for texts.
 #![tactic(auto)]
 
-mod fault;
-mod house;
-mod laws;
-mod reading;
-mod writing;
-
-pub use fault::KeepFault;
-pub use house::KeptHouse;
-pub use laws::empty_records_begin_with_the_empty_world;
+pub mod bodies;
+pub mod kept;
+pub mod stored;
+pub mod touched;

@@ -4,7 +4,7 @@ use Rattle.std.specs.Option.{option_and_then, unwrap_or, is_some}
 use Rattle.std.specs.declared.option.Option.{Option}
 use Rattle.clap.specs.Walk.{Row, Text}
 use Rattle.mesh_values.specs.Picked.{same_text}
-use Rattle.mesh_options.specs.Values.{is_other, other_than_prod}
+use Rattle.mesh_options.specs.options.Values.{is_other, other_than_prod}
 use Rattle.mesh_line.specs.declared.line.Command.{Command}
 use Rattle.mesh_line.specs.declared.line.Command.TheVariants.{Invalidate}
 use Rattle.mesh_line.specs.declared.line.Line.{Line}

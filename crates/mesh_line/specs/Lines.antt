@@ -12,7 +12,7 @@ use Rattle.mesh_base.specs.declared.forgets.Restate.{Restate}
 use Rattle.mesh_line.specs.declared.line.Command.{Command}
 use Rattle.mesh_line.specs.declared.line.Command.TheVariants.{Plan, Apply, Run, Evaluate, Fetchdf, Ingest, Janitor, Invalidate, Migrate, Batch, Demo}
 use Rattle.mesh_line.specs.declared.line.Line.{Line}
-use Rattle.mesh_options.specs.Values.{IsMomentOf, again_named, count_named, days_named, env_named, expiring_named, is_other, name_named, workers_named}
+use Rattle.mesh_options.specs.options.Values.{IsMomentOf, again_named, count_named, days_named, env_named, expiring_named, is_other, name_named, workers_named}
 use Rattle.mesh_line.specs.Words.{mesh_app}
 
 -- the value that was given under this name

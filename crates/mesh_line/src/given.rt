@@ -3,13 +3,13 @@ ghost use Rattle.std.specs.Prelude.{◌≡◌, codes, IfOk};
 ghost use Rattle.std.specs.Option.{option_and_then, option_map};
 ghost use Rattle.clap.specs.Walk.{rows_of};
 ghost use Rattle.clap.specs.Matches.{found_of};
-ghost use Rattle.mesh_options.specs.Values.{count_named, name_named};
+ghost use Rattle.mesh_options.specs.options.Values.{count_named, name_named};
 ghost use Rattle.mesh_line.specs.Lines.{again_given, count_given, days_between, days_given, env_given, expiring_given, given, is_flagged, is_yes, model_given, workers_given};
 
 use clap::ArgMatches;
 use mesh_base::Restate;
 use mesh_list::{Memory, Seq};
-use mesh_options::{
+use mesh_options::options::{
     again_named, count_named, days_named, env_named, expiring_named, name_named, workers_named,
 };
 use mesh_values::{Name, Str, same_text};

@@ -1,5 +1,5 @@
 //! Command lines: which command a list of words asks for. Its contract: `read_words` answers a line exactly where the words
-//! are such words, and what they ask for. It stands on `clap` for the rules of the words, and on `mesh_options` for what
+//! are such words, and what they ask for. It stands on `clap` for the rules of the words, and on `mesh_options::options` for what
 //! their values are.
 #![tactic(auto)]
 

@@ -18,7 +18,7 @@ use crate::line::{Line, UsageFault};
 use clap::error::ErrorKind;
 use clap::{ArgMatches, Error};
 use mesh_list::Memory;
-use mesh_options::moment_named;
+use mesh_options::options::moment_named;
 use mesh_values::Str;
 use std::alloc::Global;
 

@@ -1,5 +1,4 @@
 // What a model's file says.
-use mesh_list::{Duplicate, Memory, both, together};
 use mesh_surface::Surface;
 use mesh_tokens::Tokens;
 use mesh_values::{Columns, Cron, Kind, Name, Str, Unit};
@@ -36,29 +35,5 @@ impl Drop for ModelText {
             audits: _,
             query: _,
         } = self;
-    }
-}
-
-impl Duplicate for ModelText {
-    fn copy(&self) -> Result<ModelText, Memory> {
-        let head = together(
-            both(&self.file, &self.name),
-            both(&self.kind, &self.columns),
-        );
-        let rest = together(both(&self.path, &self.audits), self.query.copy());
-        let (((file, name), (kind, columns)), ((path, audits), query)) = together(head, rest)?;
-        Ok(ModelText {
-            file,
-            name,
-            kind,
-            cron: self.cron,
-            unit: self.unit,
-            start: self.start,
-            columns,
-            path,
-            path_at: self.path_at,
-            audits,
-            query,
-        })
     }
 }

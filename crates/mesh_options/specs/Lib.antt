@@ -1,2 +1,4 @@
--- Values: what the values of options and places stand for.
-pub mod Values
+-- scripts: the definitions of the module `scripts`.
+pub mod scripts
+-- options: the definitions of the module `options`.
+pub mod options

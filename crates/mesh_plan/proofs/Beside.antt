@@ -20,7 +20,7 @@ use Rattle.mesh_book.proofs.Exchanged.{found_key}
 use Rattle.mesh_scratch.specs.Closures.{own_of}
 use Rattle.mesh_laws.proofs.Finding.{one_passes}
 use Rattle.mesh_laws.proofs.Has.{Has}
-use Rattle.mesh_category.specs.Stated.{stated as stated_all, stated_name, stated_with}
+use Rattle.mesh_versions.specs.category.Stated.{stated as stated_all, stated_name, stated_with}
 use Rattle.mesh_reuse.specs.Categories.{Stated}
 use Rattle.mesh_listed.specs.Closing.{closed, closing}
 use Rattle.mesh_listed.specs.Listed.{as_node, entries, is_list_fit, listed}
@@ -29,8 +29,8 @@ use Rattle.mesh_listed.proofs.Entries.{entry_of, env_lists_fit, is_entry, one_of
 use Rattle.mesh_listed.proofs.Projects.{closures_are}
 use Rattle.mesh_changes.specs.Environments.{env_at}
 use Rattle.mesh_changes.specs.Planning.{stated}
-use Rattle.mesh_versions.specs.Clashes.{compared_in}
-use Rattle.mesh_versions.proofs.Without.{all_at}
+use Rattle.mesh_versions.specs.versions.Clashes.{compared_in}
+use Rattle.mesh_versions.proofs.versions.Without.{all_at}
 
 same_names : (a b : Name) → is_eq (name_cmp a b) ≡ true → a ≡ b
 same_names a b e = names_exact a b ((Equal-is (name_cmp a b)).0 e)

@@ -13,14 +13,14 @@ use Rattle.mesh_book.specs.declared.book.Book.{Book}
 use Rattle.mesh_book.specs.WellFormed.{is_well_formed_book}
 use Rattle.mesh_scratch.specs.Closures.{Closure, closures, own_of}
 use Rattle.mesh_scratch.proofs.Listed.{one_each}
-use Rattle.mesh_category.specs.Stated.{HaveCategories, IsCategoryAmong, stated as stated_all, stated_with}
+use Rattle.mesh_versions.specs.category.Stated.{HaveCategories, IsCategoryAmong, stated as stated_all, stated_with}
 use Rattle.mesh_reuse.specs.Categories.{HasCategory, Stated}
 use Rattle.mesh_listed.specs.Listed.{is_list_fit, listed}
 use Rattle.mesh_due.specs.Plans.{Planned, planned, planned_by}
 use Rattle.mesh_due.specs.Versions.{version}
 use Rattle.mesh_changes.specs.Planning.{HasObject, compared_list, stated}
-use Rattle.mesh_versions.specs.Clashes.{compared_in, versions}
-use Rattle.mesh_versions.proofs.Steps.{have_as_many, take_got, versions_long}
+use Rattle.mesh_versions.specs.versions.Clashes.{compared_in, versions}
+use Rattle.mesh_versions.proofs.versions.Steps.{have_as_many, take_got, versions_long}
 use Rattle.mesh_plan.specs.Entries.{AreEntries, entries_of, entry_of}
 use Rattle.mesh_plan.proofs.Beside.{counterpart_is}
 

@@ -30,9 +30,9 @@ use Rattle.mesh_due.specs.Versions.{node_ref}
 use Rattle.mesh_changes.specs.Environments.{env_at}
 use Rattle.mesh_changes.specs.Planning.{IsKept}
 use Rattle.mesh_marks.specs.Long.{first_too_long}
-use Rattle.mesh_versions.specs.declared.faults.PlanFault.{PlanFault}
-use Rattle.mesh_versions.specs.declared.faults.PlanFault.TheVariants.{Model, Moment, EnvUnknown, EnvPending, Memory}
-use Rattle.mesh_versions.proofs.Steps.{take_got}
+use Rattle.mesh_versions.specs.declared.versions.faults.PlanFault.{PlanFault}
+use Rattle.mesh_versions.specs.declared.versions.faults.PlanFault.TheVariants.{Model, Moment, EnvUnknown, EnvPending, Memory}
+use Rattle.mesh_versions.proofs.versions.Steps.{take_got}
 use Rattle.mesh_plan.specs.Entries.{IsRecorded}
 use Rattle.mesh_plan.specs.Intervals.{RefusesUnits}
 use Rattle.mesh_plan.specs.Running.{IsRunOf, RefusesRunOf}

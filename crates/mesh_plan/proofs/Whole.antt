@@ -22,9 +22,9 @@ use Rattle.mesh_due.specs.Dues.{again, dues}
 use Rattle.mesh_due.specs.Plans.{planned}
 use Rattle.mesh_changes.specs.Planning.{IsPlan, compared_list}
 use Rattle.mesh_marks.specs.Long.{first_too_long}
-use Rattle.mesh_versions.specs.declared.faults.PlanFault.{PlanFault}
-use Rattle.mesh_versions.specs.declared.faults.PlanFault.TheVariants.{Model, Moment, EnvUnknown, EnvPending, Memory}
-use Rattle.mesh_versions.proofs.Without.{none_clashes}
+use Rattle.mesh_versions.specs.declared.versions.faults.PlanFault.{PlanFault}
+use Rattle.mesh_versions.specs.declared.versions.faults.PlanFault.TheVariants.{Model, Moment, EnvUnknown, EnvPending, Memory}
+use Rattle.mesh_versions.proofs.versions.Without.{none_clashes}
 use Rattle.mesh_plan.specs.Intervals.{RefusesUnits}
 use Rattle.mesh_plan.specs.Plans.{IsPlanOf, RefusesEntries, RefusesPlan, Unclashed, promised, removed}
 use Rattle.mesh_plan.proofs.Models.{as_many, closures_are, nodes_are, objects_are}

@@ -13,12 +13,12 @@ use Rattle.mesh_rules.specs.Proper.{has_node}
 use Rattle.mesh_book.specs.declared.book.Book.{Book}
 use Rattle.mesh_book.specs.WellFormed.{snapshot_at}
 use Rattle.mesh_house.specs.World.{version_of}
-use Rattle.mesh_category.specs.Stated.{HaveCategories}
+use Rattle.mesh_versions.specs.category.Stated.{HaveCategories}
 use Rattle.mesh_listed.specs.Listed.{listed}
 use Rattle.mesh_due.specs.Plans.{is_made}
 use Rattle.mesh_due.specs.Versions.{node_ref}
-use Rattle.mesh_versions.specs.Clashes.{versions}
-use Rattle.mesh_plan_text.specs.PlanText.{kind_word}
+use Rattle.mesh_versions.specs.versions.Clashes.{versions}
+use Rattle.mesh_printed.specs.plans.PlanText.{kind_word}
 
 -- a model's entry: its category, its object, and whether that is made
 abbrev pub entry_of : Book → Category → Name → Entry

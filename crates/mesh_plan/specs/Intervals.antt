@@ -10,8 +10,8 @@ use Rattle.mesh_tokens.specs.declared.faults.FaultKind.TheVariants.{TooLarge}
 use Rattle.mesh_scratch.specs.Closures.{closures}
 use Rattle.mesh_scratch.specs.Horizons.{Clock, Shows, horizon}
 use Rattle.mesh_marks.specs.Long.{first_too_long}
-use Rattle.mesh_versions.specs.declared.faults.PlanFault.{PlanFault}
-use Rattle.mesh_versions.specs.declared.faults.PlanFault.TheVariants.{Model, Moment, EnvUnknown, EnvPending, Memory}
+use Rattle.mesh_versions.specs.declared.versions.faults.PlanFault.{PlanFault}
+use Rattle.mesh_versions.specs.declared.versions.faults.PlanFault.TheVariants.{Model, Moment, EnvUnknown, EnvPending, Memory}
 
 -- what is said of a model that has more units than may be
 abbrev pub too_many : FaultKind

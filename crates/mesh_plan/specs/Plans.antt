@@ -15,7 +15,7 @@ use Rattle.mesh_rules.specs.declared.plans.Plan.{Plan}
 use Rattle.mesh_book.specs.declared.book.Book.{Book}
 use Rattle.mesh_scratch.specs.Closures.{closures}
 use Rattle.mesh_scratch.specs.Horizons.{Clock, Shows}
-use Rattle.mesh_category.specs.Stated.{HaveCategories}
+use Rattle.mesh_versions.specs.category.Stated.{HaveCategories}
 use Rattle.mesh_lineage.specs.Unsteady.{unsteady}
 use Rattle.mesh_listed.specs.Listed.{listed}
 use Rattle.mesh_due.specs.Dues.{dues}
@@ -23,9 +23,9 @@ use Rattle.mesh_due.specs.Plans.{planned}
 use Rattle.mesh_changes.specs.Changes.{Plan as Promised}
 use Rattle.mesh_changes.specs.Planning.{IsPlan, compared_list}
 use Rattle.mesh_marks.specs.Long.{first_too_long}
-use Rattle.mesh_versions.specs.declared.faults.PlanFault.{PlanFault}
-use Rattle.mesh_versions.specs.declared.faults.PlanFault.TheVariants.{Model, Moment, EnvUnknown, EnvPending, Memory}
-use Rattle.mesh_versions.specs.Clashes.{IsAlone, IsFirstClash}
+use Rattle.mesh_versions.specs.declared.versions.faults.PlanFault.{PlanFault}
+use Rattle.mesh_versions.specs.declared.versions.faults.PlanFault.TheVariants.{Model, Moment, EnvUnknown, EnvPending, Memory}
+use Rattle.mesh_versions.specs.versions.Clashes.{IsAlone, IsFirstClash}
 use Rattle.mesh_plan.specs.Entries.{AreEntries, gone_of}
 use Rattle.mesh_plan.specs.Intervals.{IsTooLong}
 

@@ -10,7 +10,7 @@ ghost use Rattle.mesh_due.specs.Dues.{again, dues};
 ghost use Rattle.mesh_due.specs.Plans.{planned};
 ghost use Rattle.mesh_marks.specs.Long.{first_too_long};
 ghost use Rattle.mesh_plan.specs.Intervals.{IsLongest, RefusesUnits, too_many};
-ghost use Rattle.mesh_versions.specs.declared.faults.PlanFault.TheVariants.{Model};
+ghost use Rattle.mesh_versions.specs.declared.versions.faults.PlanFault.TheVariants.{Model};
 
 use mesh_base::{Dues, Entry, Forgets, Node, Restate};
 use mesh_book::Book;
@@ -18,7 +18,7 @@ use mesh_list::{Duplicate, Memory, Seq};
 use mesh_marks::{Horizons, agains, dues, first_too_long, horizons_of};
 use mesh_tokens::FaultKind;
 use mesh_values::MOST_INTERVALS;
-use mesh_versions::PlanFault;
+use mesh_versions::versions::PlanFault;
 use std::alloc::Global;
 
 /// What is forgotten, and what is due.

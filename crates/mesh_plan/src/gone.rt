@@ -6,14 +6,14 @@ ghost use Rattle.mesh_values.specs.Names.{name_cmp};
 ghost use Rattle.mesh_values.specs.declared.values.Name.{Name};
 ghost use Rattle.mesh_base.specs.declared.snapshots.Node.{Node};
 ghost use Rattle.mesh_rules.specs.Proper.{has_node};
-ghost use Rattle.mesh_plan_text.specs.PlanText.{kind_word};
+ghost use Rattle.mesh_printed.specs.plans.PlanText.{kind_word};
 ghost use Rattle.mesh_plan.specs.Entries.{gone_as, gone_of};
 ghost use Rattle.mesh_plan.specs.Plans.{removed};
 
 use mesh_base::{Node, Ref, Snapshot};
 use mesh_book::Book;
 use mesh_list::{Duplicate, Memory, Seq};
-use mesh_plan_text::kind_word;
+use mesh_printed::plans::kind_word;
 use mesh_values::{Kind, Name, Pair, Pairs};
 use std::alloc::Global;
 use std::collections::BTreeSet;

@@ -20,7 +20,7 @@ use mesh_lineage::unsteady;
 use mesh_list::{Duplicate, Memory, Seq, both};
 use mesh_rules::{Plan, Project};
 use mesh_values::{Pairs, Str};
-use mesh_versions::PlanFault;
+use mesh_versions::versions::PlanFault;
 use std::alloc::Global;
 
 // The models that are gone, and those that aren't steady.

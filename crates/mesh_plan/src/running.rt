@@ -17,7 +17,7 @@ use mesh_book::Book;
 use mesh_list::{Duplicate, Memory, Seq};
 use mesh_rules::{Plan, Project};
 use mesh_values::Str;
-use mesh_versions::{PlanFault, project_of};
+use mesh_versions::versions::{PlanFault, project_of};
 use std::alloc::Global;
 
 fn node_ref(node: &Node) -> Result<Ref, Memory>

@@ -1,16 +1,7 @@
-//! What commands print: rows, reports and refusals, on which sink, and with which exit status. Its contract: each call gives
-//! exactly the text that its definition has, and `printed` writes it or a beginning of it. It stands on `csv` for records, on
-//! `mesh_fault_text` for faults of a project, on `mesh_plan_text` for moments and on `mesh_io` for sinks.
+//! What is printed: `faults` has the line of a fault, `plans` the text of a plan, and `printed` rows, reports and refusals,
+//! their sinks and statuses. Each module says its contract; they stand on `csv` for records and on `mesh_io` for sinks.
 #![tactic(auto)]
 
-mod printing;
-mod records;
-mod refusals;
-mod reports;
-
-pub use printing::printed;
-pub use records::rows_text;
-pub use refusals::{Refusal, refusal_line, status};
-pub use reports::{
-    applied_line, ingested_line, invalidated_line, janitor_line, migrated_line, ran_line,
-};
+pub mod faults;
+pub mod plans;
+pub mod printed;

@@ -1,2 +1,6 @@
--- Project: what the files of a project mean.
-pub mod Project
+-- order: the definitions of the module `order`.
+pub mod order
+-- nodes: the definitions of the module `nodes`.
+pub mod nodes
+-- project: the definitions of the module `project`.
+pub mod project

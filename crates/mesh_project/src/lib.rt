@@ -1,16 +1,8 @@
-//! Whole projects: the files of a folder, whatever forms their models have, as models by rank and name. Its contract: `load`
-//! gives the project that the relation `IsLoaded` says of the files of a folder, or their first fault with its file and
-//! place, and a project is proper by its type's rule: that a resolved query names the relations that its text names, and
-//! that the models in order are a proper project, are laws. It stands on `mesh_files` for the files, on `mesh_order` for
-//! ranks and cycles, on `mesh_nodes` for the models over one another, and on `mesh_resolve_laws` for what is proper.
+//! Projects out of their files: `order` puts models by rank and name, `nodes` gives each its definition, its parents' places
+//! and its fingerprint, and `project` is the whole, as `load` reads it from a folder. Each module says its contract; they stand
+//! on `mesh_files` for the files, on `mesh_resolve` with `mesh_resolve_laws` for definitions, and on `mesh_fingerprint`.
 #![tactic(auto)]
 
-mod laws;
-mod order;
-mod project;
-
-pub use laws::{
-    files_are_one_project, models_in_order_are_a_project, models_that_are_named_suffice,
-    resolved_names_are_those_of_the_text,
-};
-pub use project::load;
+pub mod nodes;
+pub mod order;
+pub mod project;

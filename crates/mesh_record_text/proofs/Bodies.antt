@@ -9,7 +9,7 @@ use Rattle.mesh_base.specs.declared.definitions.Own.{Own}
 use Rattle.mesh_house.specs.declared.objects.Body.{Body}
 use Rattle.mesh_house.specs.declared.objects.Body.TheVariants.{Rows, Stored}
 use Rattle.mesh_canon_reading.specs.Fits.{is_own}
-use Rattle.mesh_canon.specs.Forms.{IsOwnText}
+use Rattle.mesh_canon.specs.canon.Forms.{IsOwnText}
 use Rattle.mesh_record_text.specs.Records.{AreBodyParts, AreRowParts, AreStoredParts, all_fit, body_fits, each_text, pair_fits, pair_list, rows_fit, rows_list}
 use Rattle.mesh_record_text.proofs.Words.{cons_is}
 

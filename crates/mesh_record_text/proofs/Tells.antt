@@ -22,7 +22,7 @@ use Rattle.mesh_canon_reading.proofs.Exact.{one_value}
 use Rattle.mesh_canon_reading.proofs.Forms.{forms_agree}
 use Rattle.mesh_canon_reading.proofs.Lone.{cell_is_read, type_is_read}
 use Rattle.mesh_record_text.specs.Parts.{bool_word, digits_in, is_count, is_digest, number_in, option_fits, option_parts, signed_in}
-use Rattle.mesh_canon.specs.Forms.{IsOwnText}
+use Rattle.mesh_canon.specs.canon.Forms.{IsOwnText}
 use Rattle.mesh_record_text.specs.Records.{all_fit, bounds_fits, bounds_list, column_list, each_text, moment_fits, name_list, option_list, pair_fits, pair_list, ref_fits, ref_list, rows_fit, rows_list}
 use Rattle.mesh_record_text.proofs.Digits.{digits_are_read}
 use Rattle.mesh_record_text.proofs.Inside.{parts_fit}

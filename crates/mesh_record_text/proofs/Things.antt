@@ -18,7 +18,7 @@ use Rattle.mesh_canon_text.specs.Text.{list_text}
 use Rattle.mesh_canon_reading.specs.Fits.{are_texts, column_fits, is_own, text_fits}
 use Rattle.mesh_record_text.specs.declared.book_records.BookHead.{BookHead}
 use Rattle.mesh_record_text.specs.Parts.{bool_word, is_count, is_digest, option_fits}
-use Rattle.mesh_canon.specs.Forms.{IsOwnText}
+use Rattle.mesh_canon.specs.canon.Forms.{IsOwnText}
 use Rattle.mesh_record_text.specs.Records.{IsObjectText, IsSnapshotText, IsStoredText, body_fits, body_parts, bounds_fits, bounds_list, column_list, each_text, env_fits, env_parts, env_text, head_fits, head_parts, head_text, moment_fits, name_list, newer_parts, object_fits, option_list, pair_fits, pair_list, ranges_fit, ref_fits, ref_list, rows_fit, rows_list, snapshot_fits, snapshot_parts, source_fits, source_text, version_fits, version_parts, version_text, view_text}
 use Rattle.mesh_record_text.proofs.Words.{cons_is}
 use Rattle.mesh_record_text.proofs.Tells.{bool_tells, both_fit, bounds_tells, column_tells, count_tells, digits_tells, first_fits, name_tells, option_tells, own_tells, pair_tells, ref_tells, rows_tell, same_parts, seq_tells, signed_tells, three_parts, two_parts}

@@ -22,7 +22,7 @@ use Rattle.mesh_house.specs.declared.objects.Object.{Object}
 use Rattle.mesh_house.specs.declared.world.ViewOf.{ViewOf}
 use Rattle.mesh_canon_text.specs.Text.{cell_text, list_text, own_text, type_word}
 use Rattle.mesh_canon_reading.specs.Fits.{cell_fits, column_fits, is_own, name_fits, signed_fits}
-use Rattle.mesh_canon.specs.Forms.{IsOwnText}
+use Rattle.mesh_canon.specs.canon.Forms.{IsOwnText}
 use Rattle.mesh_record_text.specs.declared.book_records.BookHead.{BookHead}
 use Rattle.mesh_record_text.specs.Parts.{bool_word, is_count, is_digest, option_fits, option_parts}
 

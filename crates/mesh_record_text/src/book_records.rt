@@ -11,7 +11,7 @@ use crate::held::{env_rule, head_rule, snapshot_rule, version_rule};
 use crate::part::{Listed, Part, add, add_both, read_as_list};
 use mesh_base::{Env, Marks, Refs, Snapshot};
 use mesh_book::{OLD_VERSION, Version};
-use mesh_canon::read_definition;
+use mesh_canon::canon::read_definition;
 use mesh_canon_words::CanonFault;
 use mesh_list::Memory;
 use mesh_time::Ranges;

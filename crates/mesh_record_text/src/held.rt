@@ -6,7 +6,7 @@ use crate::book_records::BookHead;
 use crate::part::Part;
 use mesh_base::{Env, Input, Snapshot};
 use mesh_book::Version;
-use mesh_held::own_rule;
+use mesh_canon::held::own_rule;
 use mesh_house::{Body, Object};
 
 /// What a book has besides its lists fits.

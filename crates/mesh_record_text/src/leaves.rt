@@ -12,9 +12,9 @@ use crate::numbers::{
     read_signed, signed_text,
 };
 use crate::part::Part;
-use mesh_canon::{cell_text, read_cell, read_type, type_text};
+use mesh_canon::canon::{cell_text, read_cell, read_type, type_text};
+use mesh_canon::held::{cell_rule, signed_rule};
 use mesh_canon_words::CanonFault;
-use mesh_held::{cell_rule, signed_rule};
 use mesh_list::Memory;
 use mesh_values::{Cell, ColType, Str};
 use std::alloc::Global;

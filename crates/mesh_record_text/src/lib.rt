@@ -2,7 +2,7 @@
 //! its body, read. Its contract: what is read is exactly the thing whose body, as `specs/Records.antt` spells it out, a
 //! text is; any other text is refused. A definition in a body has its canonical text or its former one. It stands on
 //! `mesh_list`, `mesh_values`, `mesh_time`, `mesh_base`, `mesh_book`, `mesh_house`, `mesh_canon_text`, `mesh_canon_words`,
-//! `mesh_canon_reading`, `mesh_canon`, `mesh_held`, `hex` and `itoa`; `mesh_record_bodies` writes bodies.
+//! `mesh_canon_reading`, `mesh_canon::canon`, `mesh_canon::held`, `hex` and `itoa`; `mesh_kept::bodies` writes bodies.
 #![tactic(auto)]
 
 mod book_records;

@@ -3,7 +3,7 @@ ghost use Rattle.std.specs.Prelude.{◌≡◌, IfOk};
 ghost use Rattle.mesh_record_text.specs.Keys.{env_key, head_key, snapshot_key, thing_key};
 
 use crate::part::{add, add_both, write_as_list};
-use mesh_canon::list_text;
+use mesh_canon::canon::list_text;
 use mesh_list::{Memory, Seq};
 use mesh_values::{Name, Str};
 use std::alloc::Global;

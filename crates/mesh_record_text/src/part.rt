@@ -3,7 +3,7 @@ ghost use Rattle.std.specs.Prelude.{◌≡◌, ℕ, Bool, true, ◌<◌, ◌^◌
 ghost use Rattle.mesh_canon_text.specs.Text.{list_text};
 ghost use Rattle.mesh_canon_words.specs.Words.{Gives};
 
-use mesh_canon::{list_text, read_list};
+use mesh_canon::canon::{list_text, read_list};
 use mesh_canon_words::CanonFault;
 use mesh_list::{Memory, Seq};
 use mesh_values::{Str, Strs};

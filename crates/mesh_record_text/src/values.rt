@@ -5,8 +5,8 @@ ghost use Rattle.mesh_record_text.specs.Records.{bounds_fits, bounds_list, bound
 
 use crate::part::{Listed, Part, add_both, read_as_list, write_as_list};
 use mesh_base::Ref;
+use mesh_canon::held::{name_rule, text_rule};
 use mesh_canon_words::CanonFault;
-use mesh_held::{name_rule, text_rule};
 use mesh_list::Memory;
 use mesh_values::{Bounds, ColType, Column, Name, Pair, Str, Strs};
 use std::alloc::Global;

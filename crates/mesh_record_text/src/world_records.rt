@@ -11,7 +11,7 @@ use crate::held::{object_rule, source_rule};
 use crate::numbers::is_same;
 use crate::part::{Listed, parts_of, read_as_list};
 use mesh_base::Input;
-use mesh_canon::read_definition;
+use mesh_canon::canon::read_definition;
 use mesh_canon_words::CanonFault;
 use mesh_house::{Body, Object, ViewOf};
 use mesh_values::{Columns, Name, Pairs, Rows, Str};

@@ -3,7 +3,7 @@ use Rattle.std.proofs.Common.{◌≡◌, ◌≢◌, suc, false, ◌&&◌, List, 
 use Rattle.mesh_values.specs.declared.values.Column.{Column}
 use Rattle.mesh_values.specs.Picked.{same_text}
 use Rattle.mesh_values.specs.Types.{same_type}
-use Rattle.mesh_outputs.proofs.Unlike.{and_false}
+use Rattle.mesh_selects.proofs.outputs.Unlike.{and_false}
 use Rattle.mesh_resolve.specs.Owns.{are_same_columns}
 
 pub unlike_columns : (a b : List Column) → length a ≢ length b → false ≡ are_same_columns a b

@@ -11,9 +11,9 @@ use Rattle.mesh_tokens.specs.Gives.{◌>>=◌}
 use Rattle.mesh_tokens.specs.declared.faults.ReadFault.{ReadFault}
 use Rattle.mesh_types.specs.Faults.{duplicate}
 use Rattle.mesh_tokens.specs.Walk.{provided, along}
-use Rattle.mesh_outputs.specs.declared.commons.Common.{Common}
-use Rattle.mesh_outputs.specs.Commons.{is_cte, selects_of}
-use Rattle.mesh_outputs.specs.Sides.{with_sides_alike}
+use Rattle.mesh_selects.specs.declared.outputs.commons.Common.{Common}
+use Rattle.mesh_selects.specs.outputs.Commons.{is_cte, selects_of}
+use Rattle.mesh_selects.specs.outputs.Sides.{with_sides_alike}
 use Rattle.mesh_resolve.specs.declared.known.Known.{Known}
 use Rattle.mesh_resolve.specs.Selects.{select}
 

@@ -22,9 +22,9 @@ use Rattle.mesh_surface.specs.declared.queries.SurfaceJoin.TheVariants as writte
 use Rattle.mesh_surface.specs.declared.queries.SurfaceRel.{SurfaceRel}
 use Rattle.mesh_tokens.specs.Gives.{◌>>=◌}
 use Rattle.mesh_tokens.specs.declared.faults.ReadFault.{ReadFault}
-use Rattle.mesh_outputs.specs.declared.commons.Common.{Common}
-use Rattle.mesh_outputs.specs.Commons.{Found, cte_named}
-use Rattle.mesh_selects.specs.declared.parts.Drawn.{Drawn}
+use Rattle.mesh_selects.specs.declared.outputs.commons.Common.{Common}
+use Rattle.mesh_selects.specs.outputs.Commons.{Found, cte_named}
+use Rattle.mesh_selects.specs.declared.selects.parts.Drawn.{Drawn}
 use Rattle.mesh_resolve.specs.declared.known.Known.{Known}
 use Rattle.mesh_resolve.specs.declared.drawn.Drawing.{Drawing}
 use Rattle.mesh_sight.specs.InSight.{Sight}

@@ -13,12 +13,12 @@ use Rattle.mesh_sight.specs.InSight.{Sight}
 use Rattle.mesh_types.specs.declared.typed.Typed.{Typed}
 use Rattle.mesh_tokens.specs.Walk.{some_of}
 use Rattle.mesh_types.specs.Forms.{expr_of}
-use Rattle.mesh_outputs.specs.declared.commons.Common.{Common}
-use Rattle.mesh_outputs.specs.Outputs.{items, resolved_item}
-use Rattle.mesh_outputs.specs.Keys.{keys, key_exprs}
-use Rattle.mesh_selects.specs.declared.parts.Drawn.{Drawn}
-use Rattle.mesh_selects.specs.declared.parts.Walked.{Walked}
-use Rattle.mesh_selects.specs.Standing.{is_grouped, stands}
+use Rattle.mesh_selects.specs.declared.outputs.commons.Common.{Common}
+use Rattle.mesh_selects.specs.outputs.Outputs.{items, resolved_item}
+use Rattle.mesh_selects.specs.outputs.Keys.{keys, key_exprs}
+use Rattle.mesh_selects.specs.declared.selects.parts.Drawn.{Drawn}
+use Rattle.mesh_selects.specs.declared.selects.parts.Walked.{Walked}
+use Rattle.mesh_selects.specs.selects.Standing.{is_grouped, stands}
 use Rattle.mesh_resolve.specs.declared.known.Known.{Known}
 use Rattle.mesh_resolve.specs.Relations.{condition, drawn_from}
 

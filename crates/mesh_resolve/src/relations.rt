@@ -4,15 +4,15 @@ ghost use Rattle.mesh_tokens.specs.Gives.{Gives};
 ghost use Rattle.mesh_sight.specs.Sight.{seeing};
 ghost use Rattle.mesh_resolve.specs.Relations.{condition, conditional, dotted, drawn_from, item_drawn, joined, name_in_from, relation, two_part, unconditional};
 ghost use Rattle.mesh_tokens.specs.Walk.{along};
-ghost use Rattle.mesh_outputs.specs.Leads.{Leads};
+ghost use Rattle.mesh_selects.specs.outputs.Leads.{Leads};
 
 use crate::catalog::Catalog;
 use crate::drawn::Drawing;
 use mesh_base::{Join, Rel};
 use mesh_list::{Duplicate, Memory, Seq, both};
-use mesh_outputs::{Commons, cte_named};
 use mesh_scope::typed_expression;
-use mesh_selects::Drawn;
+use mesh_selects::outputs::{Commons, cte_named};
+use mesh_selects::selects::Drawn;
 use mesh_sight::Sight;
 use mesh_surface::{OrExpr, SurfaceFrom, SurfaceJoin, SurfaceRel};
 use mesh_tokens::ReadFault;
@@ -172,7 +172,7 @@ fn joined(
 }
 
 // Further FROM items.
-#[tactic(auto, using(mesh_outputs::proofs::Steps::none_along, mesh_outputs::proofs::Steps::one_more, mesh_outputs::proofs::Steps::stops, mesh_outputs::proofs::Steps::all_along))]
+#[tactic(auto, using(mesh_selects::outputs::proofs::Steps::none_along, mesh_selects::outputs::proofs::Steps::one_more, mesh_selects::outputs::proofs::Steps::stops, mesh_selects::outputs::proofs::Steps::all_along))]
 fn all_joined(
     alloc: Global,
     known: &Catalog,

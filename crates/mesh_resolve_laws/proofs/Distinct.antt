@@ -14,13 +14,13 @@ use Rattle.mesh_tokens.specs.Gives.{◌>>=◌}
 use Rattle.mesh_tokens.specs.Walk.{along}
 use Rattle.mesh_types.specs.Faults.{duplicate}
 use Rattle.mesh_resolve.specs.declared.known.Known.{Known}
-use Rattle.mesh_outputs.specs.declared.commons.Common.{Common}
-use Rattle.mesh_outputs.specs.declared.outputs.Output.{Output}
-use Rattle.mesh_selects.specs.declared.parts.Walked.{Walked}
-use Rattle.mesh_selects.specs.Apart.{Taken, new_output, no_names, with_name, outputs_apart, items_apart}
-use Rattle.mesh_outputs.specs.Keys.{key_exprs}
-use Rattle.mesh_outputs.specs.Outputs.{resolved_item}
-use Rattle.mesh_selects.specs.Standing.{is_grouped, keeps_groups, stands}
+use Rattle.mesh_selects.specs.declared.outputs.commons.Common.{Common}
+use Rattle.mesh_selects.specs.declared.outputs.outputs.Output.{Output}
+use Rattle.mesh_selects.specs.declared.selects.parts.Walked.{Walked}
+use Rattle.mesh_selects.specs.selects.Apart.{Taken, new_output, no_names, with_name, outputs_apart, items_apart}
+use Rattle.mesh_selects.specs.outputs.Keys.{key_exprs}
+use Rattle.mesh_selects.specs.outputs.Outputs.{resolved_item}
+use Rattle.mesh_selects.specs.selects.Standing.{is_grouped, keeps_groups, stands}
 use Rattle.mesh_resolve.specs.Selects.{resolved_as, right_keys, select, walked}
 use Rattle.mesh_base.specs.declared.queries.Query.{Query}
 use Rattle.mesh_resolve.specs.Queries.{resolved}

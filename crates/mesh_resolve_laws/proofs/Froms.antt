@@ -38,13 +38,13 @@ use Rattle.mesh_sight.specs.declared.sight.Seen.{Seen}
 use Rattle.mesh_sight.specs.declared.sight.Sight.{Sight}
 use Rattle.mesh_scope.specs.Expressions.{typed}
 use Rattle.mesh_resolve.specs.declared.drawn.Drawing.{Drawing}
-use Rattle.mesh_selects.specs.declared.parts.Drawn.{Drawn}
-use Rattle.mesh_outputs.specs.declared.commons.Common.{Common}
+use Rattle.mesh_selects.specs.declared.selects.parts.Drawn.{Drawn}
+use Rattle.mesh_selects.specs.declared.outputs.commons.Common.{Common}
 use Rattle.mesh_resolve.specs.declared.known.Known.{Known}
-use Rattle.mesh_outputs.specs.Commons.{Found, place_named, selects_of}
+use Rattle.mesh_selects.specs.outputs.Commons.{Found, place_named, selects_of}
 use Rattle.mesh_resolve.specs.Relations.{columns_named, condition, conditional, decl_name, drawing, drawn_from, dotted, found_relation, item_drawn, joined, model_columns, nothing_drawn, or_else, or_unknown, relation, relation_by, seeing_relation, source_columns, unconditional}
 use Rattle.mesh_resolve.specs.Selects.{from_item}
-use Rattle.mesh_outputs.proofs.Places.{at_place, named_at, relation_of}
+use Rattle.mesh_selects.proofs.outputs.Places.{at_place, named_at, relation_of}
 use Rattle.mesh_resolve_laws.specs.Sight.{known_relations, model_relation}
 use Rattle.mesh_resolve_laws.proofs.Good.{AllByRecursion-push, Good, any, along_good, each_weaker, given, provided_good, refused, then_good}
 use Rattle.mesh_resolve_laws.proofs.Sees.{Standing, Stands, typed_seen}

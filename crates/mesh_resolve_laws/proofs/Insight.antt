@@ -24,18 +24,18 @@ use Rattle.mesh_sight.specs.declared.sight.Sight.{Sight}
 use Rattle.mesh_scope.specs.Expressions.{typed}
 use Rattle.mesh_scope.specs.Lone.{lone_name}
 use Rattle.mesh_sight.specs.Sight.{answers_to, qualified}
-use Rattle.mesh_outputs.specs.declared.keys.Key.{Key}
-use Rattle.mesh_outputs.specs.declared.keys.Key.TheVariants.{Item}
-use Rattle.mesh_outputs.specs.declared.commons.Common.{Common}
+use Rattle.mesh_selects.specs.declared.outputs.keys.Key.{Key}
+use Rattle.mesh_selects.specs.declared.outputs.keys.Key.TheVariants.{Item}
+use Rattle.mesh_selects.specs.declared.outputs.commons.Common.{Common}
 use Rattle.mesh_resolve.specs.declared.known.Known.{Known}
-use Rattle.mesh_outputs.specs.declared.outputs.Output.{Output}
-use Rattle.mesh_selects.specs.declared.parts.Walked.{Walked}
-use Rattle.mesh_outputs.specs.Keys.{by_number, is_input, item_at, item_meant, item_or_missing, key, key_by, key_expr, key_exprs, keys, number_of, one_key, output_named}
-use Rattle.mesh_outputs.specs.Outputs.{all_of_one, expanded, item, items, output, resolved_item, starred, within_limit}
+use Rattle.mesh_selects.specs.declared.outputs.outputs.Output.{Output}
+use Rattle.mesh_selects.specs.declared.selects.parts.Walked.{Walked}
+use Rattle.mesh_selects.specs.outputs.Keys.{by_number, is_input, item_at, item_meant, item_or_missing, key, key_by, key_expr, key_exprs, keys, number_of, one_key, output_named}
+use Rattle.mesh_selects.specs.outputs.Outputs.{all_of_one, expanded, item, items, output, resolved_item, starred, within_limit}
 use Rattle.mesh_resolve.specs.Queries.{resolved}
-use Rattle.mesh_outputs.specs.Commons.{selects_of}
+use Rattle.mesh_selects.specs.outputs.Commons.{selects_of}
 use Rattle.mesh_resolve.specs.Relations.{drawn_from}
-use Rattle.mesh_selects.specs.Standing.{is_grouped, stands}
+use Rattle.mesh_selects.specs.selects.Standing.{is_grouped, stands}
 use Rattle.mesh_resolve.specs.Selects.{from_item, resolved_as, right_keys, select, some_condition, walked}
 use Rattle.mesh_resolve_laws.specs.Sight.{known_relations}
 use Rattle.mesh_resolve_laws.proofs.Froms.{IsDrawn, condition_seen, conditions_seen, from_drawn, tables}

@@ -12,10 +12,10 @@ use Rattle.mesh_tokens.specs.Gives.{◌>>=◌}
 use Rattle.mesh_tokens.specs.Walk.{provided, along}
 use Rattle.mesh_types.specs.Faults.{duplicate, mismatch}
 use Rattle.mesh_resolve.specs.declared.known.Known.{Known}
-use Rattle.mesh_outputs.specs.declared.commons.Common.{Common}
-use Rattle.mesh_outputs.specs.Commons.{is_cte, selects_of}
+use Rattle.mesh_selects.specs.declared.outputs.commons.Common.{Common}
+use Rattle.mesh_selects.specs.outputs.Commons.{is_cte, selects_of}
 use Rattle.mesh_resolve.specs.Selects.{select}
-use Rattle.mesh_outputs.specs.Sides.{are_sides_alike, with_sides_alike}
+use Rattle.mesh_selects.specs.outputs.Sides.{are_sides_alike, with_sides_alike}
 use Rattle.mesh_resolve.specs.Queries.{cte, one_select, resolved, selects}
 use Rattle.mesh_resolve_laws.specs.Each.{EachSelect}
 use Rattle.mesh_resolve_laws.proofs.Good.{Good, given, then_good, along_good, AllByRecursion-push, provided_good, any}

@@ -19,7 +19,7 @@ use Rattle.mesh_base.specs.declared.expressions.Func.TheVariants as func
 use Rattle.mesh_base.specs.declared.expressions.Var.TheVariants.{EndEpoch}
 use Rattle.mesh_casts.specs.Casts.{cast_value, cast_to_text, or_null, number_named, truth_named}
 use Rattle.mesh_casts.specs.Dates.{day_named, is_day_number}
-use Rattle.mesh_csv.specs.Fits.{is_of}
+use Rattle.mesh_csv.specs.seeds.Fits.{is_of}
 use Rattle.mesh_meaning.specs.Cells.{number, day, plus, minus, product, quotient, remainder, joined, compared, answer, comparison, both, either, opposite, negative, op_value, between, one_of, first_of, chosen, case_value, func_value, is_null, is_true, fits}
 use Rattle.mesh_meaning.specs.Aggregates.{addend, smaller, larger, agg_value, is_number}
 use Rattle.mesh_meaning.specs.Macros.{macro_value, day_of_second, last_second}

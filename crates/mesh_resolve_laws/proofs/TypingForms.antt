@@ -27,7 +27,7 @@ use Rattle.mesh_tokens.specs.Gives.{◌>>=◌}
 use Rattle.mesh_tokens.specs.Walk.{provided, along, all_of, one_more}
 use Rattle.mesh_tokens.specs.declared.faults.ReadFault.{ReadFault}
 use Rattle.mesh_values.specs.declared.times.Bounds.{Bounds}
-use Rattle.mesh_csv.specs.Fits.{is_of}
+use Rattle.mesh_csv.specs.seeds.Fits.{is_of}
 use Rattle.mesh_meaning.specs.Cells.{op_value, func_value}
 use Rattle.mesh_meaning.specs.Aggregates.{agg_value}
 use Rattle.mesh_meaning.specs.Ev.{Ev, Scope, Seen, at_row, same_expr}

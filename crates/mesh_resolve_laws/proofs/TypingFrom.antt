@@ -23,7 +23,7 @@ use Rattle.mesh_surface.specs.declared.queries.SurfaceJoin.TheVariants as writte
 use Rattle.mesh_surface.specs.declared.queries.SurfaceRel.{SurfaceRel}
 use Rattle.mesh_tokens.specs.Gives.{◌>>=◌}
 use Rattle.mesh_tokens.specs.Walk.{along, provided}
-use Rattle.mesh_csv.specs.Fits.{fits}
+use Rattle.mesh_csv.specs.seeds.Fits.{fits}
 use Rattle.mesh_meaning.specs.Tables as tables
 use Rattle.std.specs.Option.{ForSome}
 use Rattle.mesh_values.specs.declared.values.ColType.TheVariants as type
@@ -33,11 +33,11 @@ use Rattle.mesh_scope.specs.Expressions.{typed}
 use Rattle.mesh_types.specs.declared.typed.Typed.{Typed}
 use Rattle.mesh_sight.specs.declared.sight.Seen.{Seen}
 use Rattle.mesh_sight.specs.declared.sight.Sight.{Sight}
-use Rattle.mesh_selects.specs.declared.parts.Drawn.{Drawn}
+use Rattle.mesh_selects.specs.declared.selects.parts.Drawn.{Drawn}
 use Rattle.mesh_resolve.specs.declared.drawn.Drawing.{Drawing}
 use Rattle.mesh_resolve.specs.declared.known.Known.{Known}
-use Rattle.mesh_outputs.specs.declared.commons.Common.{Common}
-use Rattle.mesh_outputs.specs.Commons.{Found, cte_named}
+use Rattle.mesh_selects.specs.declared.outputs.commons.Common.{Common}
+use Rattle.mesh_selects.specs.outputs.Commons.{Found, cte_named}
 use Rattle.mesh_resolve.specs.Relations.{columns_named, condition, conditional, dotted, drawing, drawn_from, found_relation, item_drawn, joined, name_in_from, nothing_drawn, or_unknown, relation, relation_by, seeing_relation, unconditional}
 use Rattle.mesh_resolve_laws.specs.Typed.{HasColumns, Fills}
 use Rattle.mesh_resolve_laws.proofs.Good.{Good, along_good}

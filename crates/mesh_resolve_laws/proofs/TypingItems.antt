@@ -19,9 +19,9 @@ use Rattle.mesh_sight.specs.declared.sight.Seen.{Seen}
 use Rattle.mesh_sight.specs.declared.sight.Sight.{Sight}
 use Rattle.mesh_sight.specs.Sight.{answers_to, qualified}
 use Rattle.mesh_scope.specs.Expressions.{typed}
-use Rattle.mesh_outputs.specs.declared.outputs.Output.{Output}
-use Rattle.mesh_selects.specs.Apart.{Taken, new_output, with_name}
-use Rattle.mesh_outputs.specs.Outputs.{all_of_one, expanded, item, items, output, resolved_item, starred, within_limit}
+use Rattle.mesh_selects.specs.declared.outputs.outputs.Output.{Output}
+use Rattle.mesh_selects.specs.selects.Apart.{Taken, new_output, with_name}
+use Rattle.mesh_selects.specs.outputs.Outputs.{all_of_one, expanded, item, items, output, resolved_item, starred, within_limit}
 use Rattle.mesh_resolve_laws.specs.Typed.{HasTypeOver, HasColumns}
 use Rattle.mesh_resolve_laws.proofs.Good.{Good, along_good}
 use Rattle.mesh_resolve_laws.proofs.TypingForms.{held, passed}

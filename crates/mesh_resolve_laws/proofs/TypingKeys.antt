@@ -10,10 +10,10 @@ use Rattle.mesh_types.specs.declared.typed.Typed.{Typed}
 use Rattle.mesh_sight.specs.declared.sight.Sight.{Sight}
 use Rattle.mesh_scope.specs.Expressions.{typed}
 use Rattle.mesh_scope.specs.Lone.{lone_name}
-use Rattle.mesh_outputs.specs.declared.keys.Key.{Key}
-use Rattle.mesh_outputs.specs.declared.keys.Key.TheVariants as written
-use Rattle.mesh_outputs.specs.declared.outputs.Output.{Output}
-use Rattle.mesh_outputs.specs.Keys.{by_number, is_input, item_meant, item_or_missing, key, key_by, key_expr, key_exprs, keys, number_of, one_key, output_named}
+use Rattle.mesh_selects.specs.declared.outputs.keys.Key.{Key}
+use Rattle.mesh_selects.specs.declared.outputs.keys.Key.TheVariants as written
+use Rattle.mesh_selects.specs.declared.outputs.outputs.Output.{Output}
+use Rattle.mesh_selects.specs.outputs.Keys.{by_number, is_input, item_meant, item_or_missing, key, key_by, key_expr, key_exprs, keys, number_of, one_key, output_named}
 use Rattle.mesh_resolve.specs.Relations.{condition}
 use Rattle.mesh_resolve.specs.Selects.{some_condition}
 use Rattle.mesh_resolve_laws.specs.Typed.{HasColumns}

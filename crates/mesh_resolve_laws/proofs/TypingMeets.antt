@@ -32,7 +32,7 @@ use Rattle.mesh_surface.specs.declared.expressions.OrExpr.{OrExpr}
 use Rattle.mesh_tokens.specs.Gives.{◌>>=◌}
 use Rattle.mesh_tokens.specs.Walk.{along, all_of, one_more}
 use Rattle.mesh_casts.specs.Dates.{day_named}
-use Rattle.mesh_csv.specs.Fits.{is_of}
+use Rattle.mesh_csv.specs.seeds.Fits.{is_of}
 use Rattle.mesh_meaning.specs.Ev.{Ev, Scope, Seen, at_row}
 use Rattle.mesh_types.specs.declared.typed.Typed.{Typed}
 use Rattle.mesh_types.specs.Faults.{mismatch, too_large_number, largest_number}

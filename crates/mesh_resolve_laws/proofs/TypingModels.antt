@@ -15,7 +15,7 @@ use Rattle.mesh_base.specs.Outputs.{columns_of, defn_columns, select_columns}
 use Rattle.mesh_surface.specs.declared.queries.Surface.{Surface}
 use Rattle.mesh_tokens.specs.Gives.{◌>>=◌}
 use Rattle.mesh_model.specs.declared.model.ModelText.{ModelText}
-use Rattle.mesh_csv.specs.Fits.{fits}
+use Rattle.mesh_csv.specs.seeds.Fits.{fits}
 use Rattle.mesh_scratch.specs.Scratch.{defn_rows, is_of_unit, no_bounds, piece_over, rows_over, table_of}
 use Rattle.mesh_resolve.specs.declared.known.Known.{Known}
 use Rattle.mesh_resolve.specs.Owns.{Behind, as_declared, body_of, own, query_body, sources_read, timed, with_body}

@@ -15,7 +15,7 @@ use Rattle.mesh_base.specs.declared.expressions.Op.{Op}
 use Rattle.mesh_base.specs.declared.expressions.Op.TheVariants as op
 use Rattle.mesh_base.specs.declared.expressions.Var.{Var}
 use Rattle.mesh_base.specs.declared.expressions.When.{When, para-roll-When, out-When, roll-out-When}
-use Rattle.mesh_csv.specs.Fits.{is_of}
+use Rattle.mesh_csv.specs.seeds.Fits.{is_of}
 use Rattle.mesh_meaning.specs.Ev.{Ev, Scope}
 use Rattle.mesh_surface.specs.declared.signs.AddSign.{AddSign}
 use Rattle.mesh_surface.specs.declared.signs.AddSign.TheVariants as sign

@@ -20,13 +20,13 @@ use Rattle.mesh_surface.specs.declared.queries.SurfaceSelect.{SurfaceSelect}
 use Rattle.mesh_surface.specs.declared.queries.SurfaceUnion.{SurfaceUnion}
 use Rattle.mesh_tokens.specs.Gives.{◌>>=◌}
 use Rattle.mesh_tokens.specs.Walk.{along, provided}
-use Rattle.mesh_csv.specs.Fits.{fits, is_of}
+use Rattle.mesh_csv.specs.seeds.Fits.{fits, is_of}
 use Rattle.mesh_meaning.specs.Sel.{Sel, cte_input, cte_inputs, select_rows, union_rows}
 use Rattle.mesh_types.specs.Faults.{duplicate, mismatch}
 use Rattle.mesh_resolve.specs.declared.known.Known.{Known}
-use Rattle.mesh_outputs.specs.declared.commons.Common.{Common}
-use Rattle.mesh_outputs.specs.Commons.{is_cte, selects_of}
-use Rattle.mesh_outputs.specs.Sides.{are_sides_alike, has_kinds_of, with_sides_alike}
+use Rattle.mesh_selects.specs.declared.outputs.commons.Common.{Common}
+use Rattle.mesh_selects.specs.outputs.Commons.{is_cte, selects_of}
+use Rattle.mesh_selects.specs.outputs.Sides.{are_sides_alike, has_kinds_of, with_sides_alike}
 use Rattle.mesh_resolve.specs.Queries.{cte, one_select, resolved, selects}
 use Rattle.mesh_resolve.specs.Selects.{select}
 use Rattle.mesh_resolve_laws.specs.Typed.{Suits}

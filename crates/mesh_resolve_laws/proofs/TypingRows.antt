@@ -17,7 +17,7 @@ use Rattle.mesh_base.specs.declared.queries.Join.{Join}
 use Rattle.mesh_base.specs.declared.queries.Join.TheVariants.{Left}
 use Rattle.mesh_base.specs.declared.queries.Select.{Select}
 use Rattle.mesh_base.specs.Outputs.{item_columns}
-use Rattle.mesh_csv.specs.Fits.{is_of, fits}
+use Rattle.mesh_csv.specs.seeds.Fits.{is_of, fits}
 use Rattle.mesh_meaning.specs.Aggregates.{distinct}
 use Rattle.mesh_meaning.specs.Ev.{Ev, Scope, seen}
 use Rattle.mesh_meaning.specs.Tables.{relation, columns_in, rows_in}

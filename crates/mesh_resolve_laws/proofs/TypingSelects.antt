@@ -13,22 +13,22 @@ use Rattle.mesh_surface.specs.declared.queries.SurfaceSelect.{SurfaceSelect}
 use Rattle.mesh_tokens.specs.Gives.{◌>>=◌}
 use Rattle.mesh_tokens.specs.Walk.{along}
 use Rattle.mesh_tokens.specs.declared.faults.ReadFault.{ReadFault}
-use Rattle.mesh_csv.specs.Fits.{fits}
+use Rattle.mesh_csv.specs.seeds.Fits.{fits}
 use Rattle.mesh_meaning.specs.Sel.{select_rows}
 use Rattle.mesh_types.specs.declared.typed.Typed.{Typed}
 use Rattle.mesh_types.specs.Forms.{expr_of}
-use Rattle.mesh_selects.specs.declared.parts.Drawn.{Drawn}
+use Rattle.mesh_selects.specs.declared.selects.parts.Drawn.{Drawn}
 use Rattle.mesh_resolve.specs.declared.drawn.Drawing.{Drawing}
-use Rattle.mesh_outputs.specs.declared.keys.Key.{Key}
+use Rattle.mesh_selects.specs.declared.outputs.keys.Key.{Key}
 use Rattle.mesh_resolve.specs.declared.known.Known.{Known}
-use Rattle.mesh_outputs.specs.declared.commons.Common.{Common}
-use Rattle.mesh_outputs.specs.declared.outputs.Output.{Output}
-use Rattle.mesh_selects.specs.declared.parts.Walked.{Walked}
-use Rattle.mesh_selects.specs.Apart.{Taken, items_apart, new_output, no_names, outputs_apart}
-use Rattle.mesh_outputs.specs.Keys.{key_exprs, keys}
-use Rattle.mesh_outputs.specs.Outputs.{items}
+use Rattle.mesh_selects.specs.declared.outputs.commons.Common.{Common}
+use Rattle.mesh_selects.specs.declared.outputs.outputs.Output.{Output}
+use Rattle.mesh_selects.specs.declared.selects.parts.Walked.{Walked}
+use Rattle.mesh_selects.specs.selects.Apart.{Taken, items_apart, new_output, no_names, outputs_apart}
+use Rattle.mesh_selects.specs.outputs.Keys.{key_exprs, keys}
+use Rattle.mesh_selects.specs.outputs.Outputs.{items}
 use Rattle.mesh_resolve.specs.Relations.{drawn_from}
-use Rattle.mesh_selects.specs.Standing.{is_grouped, keeps_groups, stands}
+use Rattle.mesh_selects.specs.selects.Standing.{is_grouped, keeps_groups, stands}
 use Rattle.mesh_resolve.specs.Selects.{from_item, resolved_as, right_keys, select, some_condition, walked}
 use Rattle.mesh_resolve_laws.specs.Evaluated.{select_operands_fit}
 use Rattle.mesh_resolve_laws.proofs.Good.{Good}

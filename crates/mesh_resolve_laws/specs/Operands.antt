@@ -15,7 +15,7 @@ use Rattle.mesh_base.specs.declared.expressions.Func.TheVariants as func
 use Rattle.mesh_base.specs.declared.expressions.Op.{Op}
 use Rattle.mesh_base.specs.declared.expressions.Op.TheVariants as op
 use Rattle.mesh_base.specs.declared.expressions.When.{When, para-When}
-use Rattle.mesh_csv.specs.Fits.{is_of}
+use Rattle.mesh_csv.specs.seeds.Fits.{is_of}
 use Rattle.mesh_meaning.specs.Ev.{Ev, Scope, Seen, at_row}
 
 -- all are of one type

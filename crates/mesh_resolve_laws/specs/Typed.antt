@@ -8,7 +8,7 @@ use Rattle.mesh_values.specs.declared.values.Column.{Column}
 use Rattle.mesh_values.specs.Picked.{kind_of}
 use Rattle.mesh_base.specs.declared.expressions.Expr.{Expr}
 use Rattle.mesh_base.specs.declared.jobs.Input.{Input}
-use Rattle.mesh_csv.specs.Fits.{is_of, fits}
+use Rattle.mesh_csv.specs.seeds.Fits.{is_of, fits}
 use Rattle.mesh_meaning.specs.Ev.{Ev, Scope, Seen, at_row}
 use Rattle.mesh_type_rules.specs.Kinds.{Kind}
 use Rattle.mesh_sight.specs.declared.sight.Seen.{Seen as InSight}

@@ -1,6 +1,6 @@
 //! The laws of resolving. Its contract: what a query is resolved to names only what is in sight, its items have distinct
 //! names and values of their types, and the definition of a model that is made of it is well formed. It stands on
-//! `mesh_resolve`, `mesh_meaning` and `mesh_scratch`, and says that rows fit columns in the words of `mesh_csv`.
+//! `mesh_resolve`, `mesh_meaning` and `mesh_scratch`, and says that rows fit columns in the words of `mesh_csv::seeds`.
 #![tactic(auto)]
 
 mod laws;

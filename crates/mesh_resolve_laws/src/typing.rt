@@ -13,7 +13,7 @@ ghost use Rattle.mesh_base.specs.Outputs.{columns_of, select_columns};
 ghost use Rattle.mesh_surface.specs.declared.expressions.OrExpr.{OrExpr};
 ghost use Rattle.mesh_surface.specs.declared.queries.Surface.{Surface};
 ghost use Rattle.mesh_model.specs.declared.model.ModelText.{ModelText};
-ghost use Rattle.mesh_csv.specs.Fits.{fits};
+ghost use Rattle.mesh_csv.specs.seeds.Fits.{fits};
 ghost use Rattle.mesh_meaning.specs.Ev.{Scope};
 ghost use Rattle.mesh_meaning.specs.Sel.{Sel};
 ghost use Rattle.mesh_scratch.specs.Scratch.{rows_over, table_of};

@@ -1,7 +1,6 @@
 // What a command will do to an environment.
 use crate::projects::Project;
 use mesh_base::{Dues, Entries, Forgets};
-use mesh_list::{Duplicate, Memory, Same, both};
 use mesh_values::{Pairs, Str};
 
 /// What a command will do to an environment at a moment. `run` computes what the environment lists, and plans no
@@ -33,39 +32,5 @@ impl Drop for Plan {
             dues: _,
             forgets: _,
         } = self;
-    }
-}
-
-impl Duplicate for Plan {
-    fn copy(&self) -> Result<Plan, Memory> {
-        let (env, project) = both(&self.env, &self.project)?;
-        let (entries, removed) = both(&self.entries, &self.removed)?;
-        let (unsteady, dues) = both(&self.unsteady, &self.dues)?;
-        let forgets = self.forgets.copy()?;
-        Ok(Plan {
-            env,
-            moment: self.moment,
-            run: self.run,
-            project,
-            entries,
-            removed,
-            unsteady,
-            dues,
-            forgets,
-        })
-    }
-}
-
-impl Same for Plan {
-    fn same(&self, other: &Plan) -> bool {
-        self.env.same(&other.env)
-            && self.moment == other.moment
-            && self.run == other.run
-            && self.project.same(&other.project)
-            && self.entries.same(&other.entries)
-            && self.removed.same(&other.removed)
-            && self.unsteady.same(&other.unsteady)
-            && self.dues.same(&other.dues)
-            && self.forgets.same(&other.forgets)
     }
 }

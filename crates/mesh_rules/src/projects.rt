@@ -3,7 +3,7 @@ ghost use Rattle.std.specs.Prelude.{◌≡◌, IsTrue};
 ghost use Rattle.mesh_rules.specs.Proper.{is_proper};
 
 use mesh_base::{Node, Nodes};
-use mesh_list::{Duplicate, Memory, Same};
+use mesh_list::{Duplicate, Memory};
 use std::marker::Model;
 
 /// The models of a project by rank and then by name, each with its parents' places. Each has what a model needs to be
@@ -50,11 +50,5 @@ impl Duplicate for Project {
         Ok(Project {
             nodes: self.nodes.copy()?,
         })
-    }
-}
-
-impl Same for Project {
-    fn same(&self, other: &Project) -> bool {
-        self.nodes.same(&other.nodes)
     }
 }

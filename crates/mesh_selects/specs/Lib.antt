@@ -1,4 +1,6 @@
--- Apart: names that stand once.
-pub mod Apart
--- Standing: what keeps the rules of a SELECT.
-pub mod Standing
+-- groups: the definitions of the module `groups`.
+pub mod groups
+-- outputs: the definitions of the module `outputs`.
+pub mod outputs
+-- selects: the definitions of the module `selects`.
+pub mod selects

@@ -1,16 +1,8 @@
-//! The parts of a SELECT, and what keeps its rules. Its contract: `stands` tells exactly what its definition says, the
-//! rule on groups first, part by part in the order of the walk, and then the first name that stands twice among the
-//! output columns and among the FROM items, unless memory runs out. It stands on `mesh_groups` for the rule on groups,
-//! and on the outputs and keys of `mesh_outputs`.
+//! The rules of a SELECT: `groups` has the rule on groups, `outputs` the output columns, keys and common table expressions,
+//! and `selects` the parts of a SELECT and what keeps its rules. Each module says its contract; they stand on `mesh_scope` for
+//! expressions, and on the forms of `mesh_surface` and `mesh_base`.
 #![tactic(auto)]
 
-mod apart;
-mod faults;
-mod grouping;
-mod parts;
-mod standing;
-
-pub use faults::duplicate;
-pub use grouping::is_grouped;
-pub use parts::{Drawn, Walked};
-pub use standing::stands;
+pub mod groups;
+pub mod outputs;
+pub mod selects;

@@ -5,7 +5,7 @@ ghost use Rattle.mesh_keep.specs.declared.keeper.KeepFail.TheVariants.{Failed};
 
 use crate::table::{fail_of, find, list, make_table, put_all};
 use mesh_keep::{KeepFail, Keeper, Records, Writes, counted};
-use mesh_kept::{KeepFault, KeptHouse};
+use mesh_kept::kept::{KeepFault, KeptHouse};
 use mesh_list::Seq;
 use mesh_values::Str;
 use sqlite::{Alter, Connection, Error};

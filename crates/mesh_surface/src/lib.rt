@@ -1,9 +1,7 @@
 //! The syntax tree of a query: one type for each rule of the grammar, with a field for each part of the rule and a
-//! variant for each of its alternatives. Its contract: `copy` gives an equal tree. It stands on `mesh_list` and
-//! `mesh_values`.
+//! variant for each of its alternatives. It stands on `mesh_list` and `mesh_values`.
 #![tactic(auto)]
 
-mod copies;
 mod expressions;
 mod queries;
 mod signs;

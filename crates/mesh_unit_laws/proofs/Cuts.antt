@@ -34,7 +34,7 @@ use Rattle.mesh_meaning.specs.Sel.{Joined, cte_inputs, from_columns, from_rows, 
 use Rattle.mesh_meaning.specs.Tables.{relation, rows_in}
 use Rattle.mesh_scratch.specs.Scratch.{defn_rows, is_of_unit, lies_by, piece_over}
 use Rattle.mesh_changes.specs.Changes.{ascending}
-use Rattle.mesh_wave.proofs.Ascending.{cut_ascending}
+use Rattle.mesh_wave.proofs.wave.Ascending.{cut_ascending}
 use Rattle.mesh_lineage.specs.Joinable.{binds, binds_in, has_macro, has_macro_in, has_macro_elsewhere, is_bound_here, is_item_bound, is_joinable, is_joinable_as, is_joinable_query, is_joinable_select, item_named}
 use Rattle.mesh_unit_laws.specs.Units.{Adjoin, AreUnits, IsInDays, IsPartOf, IsUnit, end_of, run_of}
 use Rattle.mesh_unit_laws.proofs.Free.{free, neither}

@@ -1,21 +1,7 @@
-//! The objects of a project's models. Its contract: `project_of` gives the project of a list of snapshots, as an
-//! environment has one; `versions` gives the name of the table or the stored query of each model of a project, or the
-//! first model whose fingerprint clashes, with both fingerprints, and looks each of them up once. It stands on
-//! `mesh_listed`, `mesh_due` for names, `mesh_category` for what categories are, and `mesh_changes` for the law that objects
-//! without a clash are those of a plan.
+//! How the models of a project stand to those before, and which objects they have: `category` gives each model its category,
+//! and `versions` its table or stored query. Each module says its contract; they stand on `mesh_reuse` for what a category is,
+//! on `mesh_listed` and on `mesh_due` for names.
 #![tactic(auto)]
 
-mod clashes;
-mod faults;
-mod index;
-mod laws;
-mod names;
-mod naming;
-mod objects;
-mod projects;
-mod standing;
-
-pub use faults::PlanFault;
-pub use laws::what_is_alone_has_no_clash;
-pub use naming::versions;
-pub use projects::project_of;
+pub mod category;
+pub mod versions;

@@ -1,4 +1,4 @@
--- Waves: the rows of each job.
-pub mod Waves
--- Workers: what workers leave of the numbers that they drew.
-pub mod Workers
+-- claims: the definitions of the module `claims`.
+pub mod claims
+-- wave: the definitions of the module `wave`.
+pub mod wave

@@ -1,7 +1,7 @@
 use Rattle.std.proofs.Common.{rules, ◌≡◌, ◌⊎◌, FitsSigned, w64, to_z, of_z, ℤ, subst}
 use Rattle.std.proofs.lemmas.Int.{to_z-of_z}
 use Rattle.std.specs.Option.{option_copied}
-use Rattle.mesh_printed.specs.declared.refusals.Refusal.TheVariants.{Memory}
+use Rattle.mesh_printed.specs.declared.printed.refusals.Refusal.TheVariants.{Memory}
 use Rattle.mesh_applying.specs.Planning.{IsPlanned, PlanRefused}
 use Rattle.mesh_applying.proofs.Making.{planned_applied, unplanned}
 use Rattle.mesh_applying.proofs.applying.apply_by.Goals as goal

@@ -1,5 +1,5 @@
 use Rattle.std.proofs.Common.{◌≡◌, ap, ◌∙◌}
-use Rattle.mesh_promote.specs.Promotion.{paired}
+use Rattle.mesh_state_sync.specs.promote.Promotion.{paired}
 use Rattle.mesh_applying.specs.declared.listing.Lists.{Lists}
 use Rattle.mesh_applying.specs.Listing.{targets}
 use Rattle.mesh_applying.proofs.Listed.{lists_objects, lists_refs}

@@ -1,6 +1,6 @@
 use Rattle.std.proofs.Common.{◌≡◌, length, rules, arith}
 use Rattle.std.proofs.lemmas.Grind.{common_steps}
-use Rattle.mesh_printed.specs.Reports.{migrated_line}
+use Rattle.mesh_printed.specs.printed.Reports.{migrated_line}
 use Rattle.mesh_applying.proofs.Migrated.{moved_on}
 use Rattle.mesh_applying.proofs.migrating.move_by.Goals as goal
 

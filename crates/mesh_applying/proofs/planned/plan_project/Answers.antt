@@ -2,8 +2,8 @@ use Rattle.std.proofs.Common.{rules, ◌≡◌, FitsSigned, w64, to_z, of_z, sub
 use Rattle.std.proofs.lemmas.Int.{to_z-of_z}
 use Rattle.std.specs.Option.{option_copied}
 use Rattle.mesh_rules.specs.declared.plans.Plan.{Plan}
-use Rattle.mesh_plan_text.specs.PlanText.{plan_text}
-use Rattle.mesh_printed.specs.declared.refusals.Refusal.TheVariants.{Memory}
+use Rattle.mesh_printed.specs.plans.PlanText.{plan_text}
+use Rattle.mesh_printed.specs.declared.printed.refusals.Refusal.TheVariants.{Memory}
 use Rattle.mesh_commands.specs.Answers.{no_changes}
 use Rattle.mesh_commands.proofs.Answering.{not_present}
 use Rattle.mesh_applying.specs.Applying.{PlanGives}

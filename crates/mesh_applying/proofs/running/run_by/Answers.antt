@@ -1,6 +1,6 @@
 use Rattle.std.proofs.Common.{rules, ◌≡◌, ◌⊎◌, FitsSigned, w64, to_z, of_z, ℤ, subst}
 use Rattle.std.proofs.lemmas.Int.{to_z-of_z}
-use Rattle.mesh_printed.specs.declared.refusals.Refusal.TheVariants.{Memory}
+use Rattle.mesh_printed.specs.declared.printed.refusals.Refusal.TheVariants.{Memory}
 use Rattle.mesh_applying.specs.Planning.{IsRunPlanned, RunRefused}
 use Rattle.mesh_applying.proofs.Making.{planned_ran, run_unplanned}
 use Rattle.mesh_applying.proofs.running.run_by.Goals as goal

@@ -1,7 +1,7 @@
 use Rattle.std.proofs.Common.{ℕ, ℤ, Err, inl, rules, subst, FitsSigned, w64, to_z, of_z, ◌≡◌}
 use Rattle.std.proofs.lemmas.Int.{to_z-of_z}
 use Rattle.mesh_house.specs.Runs.{Makes}
-use Rattle.mesh_promote.specs.Promotion.{promotion}
+use Rattle.mesh_state_sync.specs.promote.Promotion.{promotion}
 use Rattle.mesh_applying.proofs.views.promoted.Goals as goal
 
 pub returns-in-Err : goal.returns-in-Err

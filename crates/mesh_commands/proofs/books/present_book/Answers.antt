@@ -1,5 +1,5 @@
 use Rattle.std.proofs.Common.{sym, subst, Err}
-use Rattle.mesh_printed.specs.declared.refusals.Refusal.{Refusal}
+use Rattle.mesh_printed.specs.declared.printed.refusals.Refusal.{Refusal}
 use Rattle.mesh_commands.specs.Present.{ReadsPresent}
 use Rattle.mesh_commands.proofs.Answering.{unread}
 use Rattle.mesh_commands.proofs.books.present_book.Goals as goal

@@ -1,6 +1,6 @@
 use Rattle.std.proofs.Common.{◌<◌, List, length, sym, subst, ◌∙◌}
 use Rattle.mesh_values.specs.declared.values.Cell.{Cell}
-use Rattle.mesh_index.specs.Places.{places}
+use Rattle.mesh_joined.specs.index.Places.{places}
 use Rattle.mesh_meaning.specs.Sel.{Group, same_row}
 use Rattle.mesh_expressions.specs.Frames.{picked}
 use Rattle.mesh_eval.specs.Placed.{output_row}

@@ -1,6 +1,6 @@
 use Rattle.std.proofs.Common.{◌≡◌, map, take}
 use Rattle.std.specs.List.{flat_map}
-use Rattle.mesh_index.specs.Places.{places}
+use Rattle.mesh_joined.specs.index.Places.{places}
 use Rattle.mesh_meaning.specs.Aggregates.{distinct}
 use Rattle.mesh_meaning.specs.Sel.{same_row}
 use Rattle.mesh_expressions.specs.Frames.{picked}

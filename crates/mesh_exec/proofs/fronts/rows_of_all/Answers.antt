@@ -2,7 +2,7 @@ use Rattle.std.proofs.Common.{◌≡◌, List, length, map, sym, ap, subst, ◌�
 use Rattle.std.specs.Prelude.{nat_lt}
 use Rattle.std.specs.List.{All, list_all}
 use Rattle.mesh_values.specs.declared.values.Cell.{Cell}
-use Rattle.mesh_wave.specs.Waves.{job_rows}
+use Rattle.mesh_wave.specs.wave.Waves.{job_rows}
 use Rattle.mesh_works.specs.Fronts.{each_pool}
 use Rattle.mesh_exec.specs.Fronts.{cut_jobs, cut_rows}
 use Rattle.mesh_exec.proofs.Filling.{ok_more}

@@ -1,5 +1,5 @@
 use Rattle.std.proofs.Common.{◌≡◌, map, take}
-use Rattle.mesh_joined.specs.Spots.{cell_at}
+use Rattle.mesh_joined.specs.joined.Spots.{cell_at}
 use Rattle.mesh_expressions.specs.Frames.{picked}
 use Rattle.mesh_expressions.proofs.frames.lent_rows.Given as goal
 

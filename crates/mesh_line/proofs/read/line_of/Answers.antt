@@ -2,7 +2,7 @@ use Rattle.std.proofs.Common.{◌∙◌, refl, sym, subst}
 use Rattle.clap.specs.Walk.{rows_of}
 use Rattle.clap.specs.Matches.{found_of}
 use Rattle.mesh_line.specs.Lines.{IsCommandOf}
-use Rattle.mesh_options.specs.Values.{IsMomentOf}
+use Rattle.mesh_options.specs.options.Values.{IsMomentOf}
 use Rattle.mesh_line.proofs.Asking.{both_of, refuses}
 use Rattle.mesh_line.proofs.read.line_of.Goals as goal
 

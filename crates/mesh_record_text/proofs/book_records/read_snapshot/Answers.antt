@@ -8,7 +8,7 @@ use Rattle.mesh_base.specs.declared.definitions.Own.{Own}
 use Rattle.mesh_base.specs.declared.snapshots.Ref.{Ref}
 use Rattle.mesh_base.specs.declared.snapshots.Snapshot.{Snapshot}
 use Rattle.mesh_canon_reading.proofs.Exact.{some_is}
-use Rattle.mesh_canon.specs.Forms.{IsOwnText}
+use Rattle.mesh_canon.specs.canon.Forms.{IsOwnText}
 use Rattle.mesh_record_text.specs.Records.{snapshot_text}
 use Rattle.mesh_record_text.proofs.Refused.{still_refused}
 use Rattle.mesh_record_text.proofs.book_records.read_snapshot.Goals as goal

@@ -3,7 +3,7 @@ use Rattle.std.proofs.lemmas.Result.{err_from_is_err_and}
 use Rattle.mesh_values.specs.declared.values.Pair.{Pair}
 use Rattle.mesh_house.specs.declared.objects.Body.TheVariants.{Stored}
 use Rattle.mesh_canon_reading.proofs.Exact.{some_is}
-use Rattle.mesh_canon.specs.Forms.{IsOwnText}
+use Rattle.mesh_canon.specs.canon.Forms.{IsOwnText}
 use Rattle.mesh_record_text.proofs.Bodies.{stored_is}
 use Rattle.mesh_record_text.proofs.Refused.{still_refused}
 use Rattle.mesh_record_text.proofs.world_records.take_stored.Goals as goal

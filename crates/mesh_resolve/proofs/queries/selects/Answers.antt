@@ -4,7 +4,7 @@ use Rattle.mesh_tokens.specs.Gives.{Refuses}
 use Rattle.mesh_tokens.specs.Walk.{along}
 use Rattle.mesh_resolve.specs.Queries.{one_select, selects}
 use Rattle.mesh_resolve.specs.Selects.{select}
-use Rattle.mesh_outputs.proofs.Steps.{refused_on, stops}
+use Rattle.mesh_selects.proofs.outputs.Steps.{refused_on, stops}
 use Rattle.mesh_resolve.proofs.queries.selects.Goals as goal
 
 pub returns-in_err-side : goal.returns-in_err-side

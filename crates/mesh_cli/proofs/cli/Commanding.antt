@@ -1,0 +1,102 @@
+-- What a command does at its moment.
+use Rattle.std.proofs.Common.{◌≡◌, ℕ, ℤ, true, false, List, Ok, Err, Result, refl, sym, subst, inl, arith}
+use Rattle.std.specs.declared.option.Option.{Option}
+use Rattle.mesh_base.specs.declared.forgets.Restate.{Restate}
+use Rattle.mesh_io.specs.Told.{ClockTold, FolderTold}
+use Rattle.mesh_list.specs.Counts.{Rose}
+use Rattle.mesh_house.specs.declared.world.Change.{Change}
+use Rattle.mesh_house.specs.declared.world.World.{World}
+use Rattle.mesh_house.specs.House.{Told}
+use Rattle.mesh_printed.specs.declared.printed.refusals.Refusal.{Refusal}
+use Rattle.mesh_printed.specs.declared.printed.refusals.Refusal.TheVariants.{Memory}
+use Rattle.mesh_cli.specs.demo.Demos.{IsDemo}
+use Rattle.mesh_line.specs.declared.line.Command.TheVariants.{Plan, Apply, Janitor, Demo}
+use Rattle.mesh_applying.specs.Applying.{ApplyGives, ApplyMakes}
+use Rattle.mesh_applying.specs.Loaded.{IsProject, OfProject}
+use Rattle.mesh_asking.specs.upkeep.Upkeep.{JanitorGives, JanitorMakes}
+use Rattle.mesh_commands.specs.Answers.{Answers, IsAsked}
+use Rattle.mesh_commands.proofs.Answering.{alone_itself, answers_so, told_alone, wanting_first}
+use Rattle.mesh_cli.specs.cli.Ends.{Commanded}
+use Rattle.mesh_cli.specs.cli.Asked.{Gives, Makes}
+use Rattle.mesh_cli.specs.cli.Sides.{IsAt, Sides, Timed, sides}
+
+-- where the outside is told to have failed, more stands
+pub reaching : {T near far : Type 0} (makes : World → List Change → Type 0) (gives : World → Result T Refusal → Type 0) (a c : Told) (r : Result T Refusal) → (near → far) → Answers near makes gives a c r → Answers far makes gives a c r
+reaching makes gives a c r so by = record {
+  faults = by.faults;
+  failed = by.failed;
+  beyond = λ is. so (by.beyond is);
+  early = by.early;
+  made = by.made;
+  given = by.given;
+}
+
+module _ (dir env : List ℕ) (workers : ℕ) (moment : Option ℤ) (again : Option Restate) (f f' : FolderTold) (k k' : ClockTold) (h h' : Told) (t given : ℤ) (answer : Result (List ℕ) Refusal)
+    (same : given ≡ t) (timed : Timed moment k k' (Ok t))
+    (by : Answers (Rose f.faults f'.faults) (λ w list. IsProject f.files dir (λ nodes. ApplyMakes nodes env given again w list)) (λ w. OfProject f.files dir (λ nodes. ApplyGives nodes env given again w)) h h' answer)
+    (asked : IsAsked f f') where
+  -- an apply at its moment
+  pub applied_at : Commanded dir (Apply env workers moment again) (sides f k h) (sides f' k' h') answer
+  applied_at = record {
+    house = answers_so _ _ _ _ h h' (λ w told list makes. (given, subst (IsAt moment k.moment) (sym same) timed.is_at, makes)) (λ w told r gives. (given, subst (IsAt moment k.moment) (sym same) timed.is_at, gives)) answer (reaching _ _ h h' answer (λ rose. inl rose) by);
+    files = asked.files;
+    moment = timed.moment;
+    folder = asked.faults;
+    clock = timed.faults;
+    unread = λ e. absurd (let clash : true ≡ false = e in cc);
+    unasked = timed.unasked;
+    unused = λ e. absurd (let clash : true ≡ false = e in cc);
+  }
+
+  -- a plan that is applied at once
+  pub planned_at : Commanded dir (Plan env true workers moment again) (sides f k h) (sides f' k' h') answer
+  planned_at = record {
+    house = answers_so _ _ _ _ h h' (λ w told list makes. (given, subst (IsAt moment k.moment) (sym same) timed.is_at, makes)) (λ w told r gives. (given, subst (IsAt moment k.moment) (sym same) timed.is_at, gives)) answer (reaching _ _ h h' answer (λ rose. inl rose) by);
+    files = asked.files;
+    moment = timed.moment;
+    folder = asked.faults;
+    clock = timed.faults;
+    unread = λ e. absurd (let clash : true ≡ false = e in cc);
+    unasked = timed.unasked;
+    unused = λ e. absurd (let clash : true ≡ false = e in cc);
+  }
+
+-- a sweep at its moment
+pub swept_at : (dir : List ℕ) (moment : Option ℤ) (f : FolderTold) (k k' : ClockTold) (h h' : Told) (t given : ℤ) (answer : Result (List ℕ) Refusal)
+    → given ≡ t → Timed moment k k' (Ok t) → Answers ⊥ (JanitorMakes given) (JanitorGives given) h h' answer → Commanded dir (Janitor moment) (sides f k h) (sides f k' h') answer
+swept_at dir moment f k k' h h' t given answer same timed by = record {
+  house = answers_so _ _ _ _ h h' (λ w told list makes. (given, subst (IsAt moment k.moment) (sym same) timed.is_at, makes)) (λ w told r gives. (given, subst (IsAt moment k.moment) (sym same) timed.is_at, gives)) answer (reaching _ _ h h' answer (λ e. absurd e) by);
+  files = refl;
+  moment = timed.moment;
+  folder = omega arith;
+  clock = timed.faults;
+  unread = λ e. refl;
+  unasked = timed.unasked;
+  unused = λ e. absurd (let clash : true ≡ false = e in cc);
+}
+
+-- a demonstration, which uses nothing of what is here
+module _ (dir : List ℕ) (n workers : ℕ) (s : Sides) where
+  pub demo_told : (text : List ℕ) → IsDemo n text → Commanded dir (Demo n workers) s s (Ok text)
+  demo_told text is = record {
+    house = told_alone (Makes dir s (Demo n workers)) (Gives dir s (Demo n workers)) s.house s.house text (alone_itself s.house) (omega arith) (λ w told. refl) (λ w told. is);
+    files = refl;
+    moment = refl;
+    folder = omega arith;
+    clock = omega arith;
+    unread = λ e. refl;
+    unasked = λ e. refl;
+    unused = λ e. (refl, λ w. is);
+  }
+
+  pub demo_wanting : Commanded dir (Demo n workers) s s (Err Memory)
+  demo_wanting = record {
+    house = wanting_first (Makes dir s (Demo n workers)) (Gives dir s (Demo n workers)) s.house;
+    files = refl;
+    moment = refl;
+    folder = omega arith;
+    clock = omega arith;
+    unread = λ e. refl;
+    unasked = λ e. refl;
+    unused = λ e. (refl, λ w fine. absurd (let clash : true ≡ false = fine in cc));
+  }

@@ -1,0 +1,14 @@
+//! The files of models. Its contract: `read_model` gives what the definition `model_of` says of a file's tokens: the
+//! MODEL statement, the query behind it and what follows from absent properties, or the first fault of the text. The
+//! query is read as `mesh_query` promises. It stands on `mesh_list`, `mesh_values`, `mesh_time`, `mesh_tokens`, `mesh_model`,
+//! `mesh_query` and `mesh_statement`.
+
+mod behind;
+mod finished;
+mod laws;
+mod lexed;
+mod model;
+mod read;
+
+pub use laws::models_are_complete;
+pub use read::read_model;

@@ -1,7 +1,0 @@
-use Rattle.std.proofs.Common.{◌≡◌, take, Ok}
-use Rattle.mesh_nodes.specs.Apart.{names_of, with_model_name}
-use Rattle.mesh_nodes.specs.Walk.{along}
-use Rattle.mesh_nodes.proofs.apart.take_names.Given as goal
-
-abbrev pub invariant-loop-file : goal.invariant-loop-file
-invariant-loop-file l = along with_model_name (names_of l.initial.taken) (take l.file-index l.files) ≡ Ok (names_of l.taken)

@@ -1,7 +1,0 @@
-use Rattle.std.proofs.Common.{◌≡◌, ◌++◌, take}
-use Rattle.std.specs.List.{flat_map}
-use Rattle.mesh_nodes.specs.Reads.{join_reads}
-use Rattle.mesh_nodes.proofs.reads.add_joins.Given as goal
-
-abbrev pub invariant-loop-join : goal.invariant-loop-join
-invariant-loop-join l = l.names ≡ l.initial.names ++ flat_map join_reads (take l.join-index l.joins)

@@ -1,0 +1,2 @@
+-- Values: what the values of options and places stand for.
+pub mod Values

@@ -1,8 +1,0 @@
-use Rattle.std.specs.BTreeMap.{get}
-use Rattle.mesh_values.specs.declared.values.Name.{Name}
-use Rattle.mesh_values.specs.Names.{name_cmp}
-use Rattle.mesh_order.specs.Links.{IsPlaceOf}
-use Rattle.mesh_order.proofs.links.places_of.Given as goal
-
-abbrev pub invariant-loop-at : goal.invariant-loop-at
-invariant-loop-at l = (name : Name) → IsPlaceOf l.models l.at name (get name_cmp l.places name)

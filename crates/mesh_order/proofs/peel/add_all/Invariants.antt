@@ -1,6 +1,0 @@
-use Rattle.std.proofs.Common.{◌≡◌, ◌++◌, take, map}
-use Rattle.mesh_order.specs.Peeled.{at_rank}
-use Rattle.mesh_order.proofs.peel.add_all.Given as goal
-
-abbrev pub invariant-loop-at : goal.invariant-loop-at
-invariant-loop-at l = l.order ≡ l.fn.order ++ map (at_rank l.rank) (take l.at-index l.ready)

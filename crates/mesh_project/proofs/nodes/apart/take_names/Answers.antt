@@ -1,0 +1,10 @@
+use Rattle.std.proofs.lemmas.Result.{err_from_is_err_and}
+use Rattle.mesh_project.specs.nodes.Apart.{names_of, with_model_name}
+use Rattle.mesh_project.proofs.nodes.Steps.{stops}
+use Rattle.mesh_project.proofs.nodes.apart.take_names.Goals as goal
+
+pub returns-in_err-take_name-clause-leads : goal.returns-in_err-take_name-clause-leads
+returns-in_err-take_name-clause-leads c =
+    let p = err_from_is_err_and c.from_residual.result c.from_residual.ensures.1 in
+    rw (p.1, p.2) (stops with_model_name (names_of c.args.taken.now) (names_of c.loop-file.taken) c.args.files.now c.loop-file.file-index c.file-item.result c.in_err-take_name.field-0.0
+    c.loop-file-test.true c.file-item.is c.loop-file.invariant c.in_err-take_name.ensures.leads)

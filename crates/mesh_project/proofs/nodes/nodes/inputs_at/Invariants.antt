@@ -1,0 +1,6 @@
+use Rattle.std.proofs.Common.{◌≡◌, take}
+use Rattle.mesh_project.specs.nodes.Nodes.{inputs_at}
+use Rattle.mesh_project.proofs.nodes.nodes.inputs_at.Given as goal
+
+abbrev pub invariant-loop-place : goal.invariant-loop-place
+invariant-loop-place l = l.inputs ≡ inputs_at l.nodes (take l.place-index l.places)

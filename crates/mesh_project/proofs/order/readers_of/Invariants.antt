@@ -1,6 +1,0 @@
-use Rattle.std.proofs.Common.{◌≡◌, map, take}
-use Rattle.mesh_project.specs.Project.{reader_of}
-use Rattle.mesh_project.proofs.order.readers_of.Given as goal
-
-abbrev pub invariant-loop-file : goal.invariant-loop-file
-invariant-loop-file l = l.readers ≡ map reader_of (take l.file-index l.files)

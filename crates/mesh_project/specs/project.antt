@@ -1,0 +1,2 @@
+-- Project: what the files of a project mean.
+pub mod Project

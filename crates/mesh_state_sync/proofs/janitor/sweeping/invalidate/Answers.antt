@@ -1,0 +1,16 @@
+use Rattle.std.proofs.Common.{◌≡◌, [], ◌∷◌, Err}
+use Rattle.mesh_house.specs.declared.world.Change.TheVariants.{Expire}
+use Rattle.mesh_state_sync.specs.declared.janitor.faults.SweepFault.TheVariants.{Moment}
+use Rattle.mesh_state_sync.proofs.janitor.Making.{no_moment, sweeps_ok, sweeps_unknown}
+use Rattle.mesh_state_sync.proofs.janitor.sweeping.invalidate.Goals as goal
+
+pub returns-then-is_none-clause-makes : goal.returns-then-is_none-clause-makes
+returns-then-is_none-clause-makes g c = sweeps_unknown (Expire c.args.env.now ∷ []) _
+
+pub returns-in-Ok-clause-makes : goal.returns-in-Ok-clause-makes
+returns-in-Ok-clause-makes g c = sweeps_ok (Expire c.args.env.now ∷ []) _ _ _ _ c.in-Ok.ensures.makes
+
+pub returns-in-Err-clause-timeless : goal.returns-in-Err-clause-timeless
+returns-in-Err-clause-timeless g c given kept is =
+    let told = c.as_fault.ensures in
+    let moment : Err c.as_fault.result ≡ Err (Moment given kept) = is in no_moment c.in-Err.fail given kept (cc)

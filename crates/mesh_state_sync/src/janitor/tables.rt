@@ -1,0 +1,118 @@
+// The tables and stored queries that nothing uses any more.
+ghost use Rattle.std.specs.Prelude.{◌≡◌, IfOk, OnOk, map};
+ghost use Rattle.std.specs.List.{All, filter};
+ghost use Rattle.mesh_list.specs.Keyed.{placed};
+ghost use Rattle.mesh_values.specs.Names.{name_cmp};
+ghost use Rattle.mesh_values.specs.declared.values.Name.{Name};
+ghost use Rattle.mesh_base.specs.declared.snapshots.Snapshot.{Snapshot};
+ghost use Rattle.mesh_book.specs.Changes.{version_object};
+ghost use Rattle.mesh_changes.specs.Changes.{name_itself};
+ghost use Rattle.mesh_changes.specs.Kept.{gone_tables, is_kept, tables};
+ghost use Rattle.mesh_state_sync.specs.janitor.Walk.{is_absent, object_after, objects_after, snapshot_object, stays, with_names};
+
+use crate::janitor::kept::stays;
+use mesh_base::{Ref, Snapshot};
+use mesh_book::{Book, Version};
+use mesh_list::{Duplicate, Memory, Register, Seq, Sorted, push_made};
+use mesh_values::{Name, Names};
+use std::alloc::Global;
+
+/// A name comes to others, by their order.
+pub(crate) fn place_copy(names: &mut Sorted<Name>, name: &Name) -> Result<(), Memory>
+    ensures { OnOk result (names.new ≡ placed name_cmp name_itself name.now names.old) }
+{
+    names.place(name.copy()?)
+}
+
+// The objects of versions, by name.
+fn add_versions(versions: &[Version], names: &mut Sorted<Name>) -> Result<(), Memory>
+    ensures { OnOk result (names.new ≡ with_names (map version_object versions.now) names.old) }
+{
+    let mut left = versions.len();
+    while left > 0 {
+        left -= 1;
+        place_copy(names, &versions[left].object)?;
+    }
+    Ok(())
+}
+
+// The objects of snapshots, by name.
+fn add_objects(all: &[Snapshot], names: &mut Sorted<Name>) -> Result<(), Memory>
+    ensures { OnOk result (names.new ≡ with_names (map snapshot_object all.now) names.old) }
+{
+    let mut left = all.len();
+    while left > 0 {
+        left -= 1;
+        place_copy(names, &all[left].object)?;
+    }
+    Ok(())
+}
+
+fn tables(alloc: Global, b: &Book) -> Result<Sorted<Name>, Memory>
+    ensures { IfOk result (λ names. names ≡ tables b.now) }
+{
+    let mut names = Sorted::new(alloc);
+    add_versions(b.versions.as_slice(), &mut names)?;
+    add_objects(b.snapshots.as_slice(), &mut names)?;
+    Ok(names)
+}
+
+// Where a snapshot stays, its object is used.
+fn add_object(
+    t: i64,
+    wanted: &Register<Ref>,
+    s: &Snapshot,
+    names: &mut Sorted<Name>,
+) -> Result<(), Memory>
+    ensures { OnOk result (names.new ≡ object_after t wanted.now s.now names.old) }
+{
+    if stays(t, wanted, s)? {
+        place_copy(names, &s.object)?;
+    }
+    Ok(())
+}
+
+// The objects of what stays.
+fn add_used(
+    t: i64,
+    wanted: &Register<Ref>,
+    all: &[Snapshot],
+    names: &mut Sorted<Name>,
+) -> Result<(), Memory>
+    ensures { OnOk result (names.new ≡ objects_after t wanted.now all.now names.old) }
+{
+    for s in all {
+        add_object(t, wanted, s, names)?;
+    }
+    Ok(())
+}
+
+// Those of some names that are not among others.
+fn absent(alloc: Global, used: &Sorted<Name>, all: &[Name]) -> Result<Names, Memory>
+    ensures { IfOk result (λ made. made ≡ filter (is_absent used.now) all.now) }
+{
+    let mut made = Seq::new(alloc);
+    for name in all {
+        if used.find(name).is_none() {
+            push_made(&mut made, name.copy())?;
+        }
+    }
+    Ok(made)
+}
+
+/// The tables and stored queries that no snapshot uses that stays, by name.
+pub(crate) fn gone_tables(
+    alloc: Global,
+    b: &Book,
+    t: i64,
+    wanted: &Register<Ref>,
+) -> Result<Names, Memory>
+    requires { All (λ (s : Snapshot). stays t wanted.now s ≡ is_kept b.now t s) b.now.snapshots }
+    ensures { IfOk result (λ names. names ≡ gone_tables b.now t) }
+{
+    let mut used = Sorted::new(alloc);
+    add_used(t, wanted, b.snapshots.as_slice(), &mut used)?;
+    let all = tables(alloc, b)?;
+    let gone = absent(alloc, &used, all.as_slice())?;
+    Ok(gone)
+}

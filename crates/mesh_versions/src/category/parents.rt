@@ -1,0 +1,49 @@
+// Whether the parents of two models are compatible, pair by pair.
+ghost use Rattle.std.specs.Prelude.{◌≡◌, false, slice_index_or};
+ghost use Rattle.std.specs.List.{slice_get};
+ghost use Rattle.mesh_versions.specs.category.Alike.{are_alike, have_one_name, is_alike};
+
+use mesh_base::Node;
+
+fn have_one_name(olds: &[Node], news: &[Node], p: u32, q: u32) -> bool
+    ensures { result ≡ have_one_name (slice_get olds.now p) (slice_get news.now q) }
+{
+    match olds.get(p as usize) {
+        None => false,
+        Some(old) => match news.get(q as usize) {
+            None => false,
+            Some(new) => old.own.name.compare(&new.own.name).is_eq(),
+        },
+    }
+}
+
+fn is_set(bits: &[bool], at: u32) -> bool
+    ensures { result ≡ slice_index_or bits.now at false }
+{
+    match bits.get(at as usize) {
+        None => false,
+        Some(bit) => *bit,
+    }
+}
+
+fn is_alike(olds: &[Node], news: &[Node], adds: &[bool], p: u32, q: u32) -> bool
+    ensures { result ≡ is_alike olds.now news.now adds.now p q }
+{
+    have_one_name(olds, news, p, q) && is_set(adds, q)
+}
+
+/// Whether the old and the new parents have the same names, one beside the other, and each new one only adds columns to
+/// the old one of its name, which `adds` tells.
+#[tactic(auto, using(crate::category::proofs::Alike::not_long, crate::category::proofs::Alike::alike_more))]
+pub(crate) fn are_alike(olds: &[Node], news: &[Node], adds: &[bool], ps: &[u32], qs: &[u32]) -> bool
+    ensures { result ≡ are_alike olds.now news.now adds.now ps.now qs.now }
+{
+    if ps.len() != qs.len() {
+        return false;
+    }
+    let mut each = true;
+    for (i, p) in ps.iter().enumerate() {
+        each = each && is_alike(olds, news, adds, *p, qs[i]);
+    }
+    each
+}
