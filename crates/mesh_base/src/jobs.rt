@@ -1,6 +1,6 @@
 // What a query is evaluated over, and what came of a command.
 use crate::queries::Query;
-use mesh_list::Seq;
+use mesh_list::{Duplicate, Memory, Same, Seq, both};
 use mesh_values::{Bounds, Columns, Name, Rows, Str};
 
 pub type Inputs = Seq<Input>;
@@ -60,4 +60,24 @@ pub struct Swept {
     pub objects: u64,
     pub snapshots: u64,
     pub changes: u64,
+}
+
+impl Duplicate for Input {
+    fn copy(&self) -> Result<Input, Memory> {
+        let name = self.name.copy()?;
+        let (columns, rows) = both(&self.columns, &self.rows)?;
+        Ok(Input {
+            name,
+            columns,
+            rows,
+        })
+    }
+}
+
+impl Same for Input {
+    fn same(&self, other: &Input) -> bool {
+        self.name.same(&other.name)
+            && self.columns.same(&other.columns)
+            && self.rows.same(&other.rows)
+    }
 }

@@ -1,5 +1,5 @@
 //! The things of a world that a change is about, and the writes by which records follow it. Its contract: `stepped` makes
-//! the change and lists the writes that `specs/Touched.antt` says, and records that know the world know the next one once
+//! the change and lists the writes that `specs/touched/Touched.antt` says, and records that know the world know the next one once
 //! these are made, while all else among them stays. It stands on `mesh_list`, `mesh_values`, `mesh_base`, `mesh_book`,
 //! `mesh_moves`, `mesh_house`, `mesh_canon_text`, `mesh_canon_reading`, `mesh_canon::held`, `mesh_record_text`,
 //! `bodies` and `mesh_keep`.
