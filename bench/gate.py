@@ -3,8 +3,10 @@
 goes: a line per crate with the processor seconds of its proof, of its proof with tests, of its must-fail edits with the
 number of their checks, and of what was built of it besides; then the sums, what the compilers, links and runs took, and
 the processor seconds, the minutes of wall time and the status of the whole. The lines are read off the processes every
-two seconds, so what is shorter isn't seen in them; the whole is what the system counts. The command's own output goes to
-a file, whose name is printed first.
+two seconds, so what is shorter isn't seen in them; the whole is what the system counts. A processor second of a machine that
+others share is worth more or less from minute to minute: so a fixed piece of work is timed every twenty seconds, and its
+processor seconds are printed, the least, the mean and the most. The command's own output goes to a file, whose name is printed
+first.
 
 Usage: bench/gate.py [COMMAND ..], where COMMAND is `bash .ci/run` if left out."""
 import os
@@ -84,20 +86,32 @@ def show(table, whole, wall, status):
     print(f"{whole:.0f} processor seconds, {wall / 60:.1f} minutes of wall time, status {status}")
 
 
+def fixed():
+    """The processor seconds of a fixed piece of work."""
+    begun, total, number = time.process_time(), 0, 0
+    while number < 1_000_000:
+        total += number
+        number += 1
+    return time.process_time() - begun
+
+
 def main():
     command = sys.argv[1:] or ["bash", ".ci/run"]
     room = tempfile.mkdtemp(prefix="gate-")
     subprocess.run(["git", "clone", "-q", TOP, f"{room}/clone"], check=True)
     print(f"{' '.join(command)} in {room}/clone, its output in {room}/log", flush=True)
-    seen, begun = {}, time.time()
+    seen, begun, paces = {}, time.time(), []
     with open(f"{room}/log", "w") as log:
         how = {"stdout": log, "stderr": subprocess.STDOUT, "stdin": subprocess.DEVNULL}
         ran = subprocess.Popen(command, cwd=f"{room}/clone", **how)
         while ran.poll() is None:
             look(seen, ran.pid)
+            if time.time() - begun >= 20 * len(paces):
+                paces.append(fixed())
             time.sleep(2)
     used = resource.getrusage(resource.RUSAGE_CHILDREN)
     show(tabled(seen), used.ru_utime + used.ru_stime, time.time() - begun, ran.returncode)
+    print(f"a fixed piece of work took {min(paces):.3f} to {max(paces):.3f} processor seconds, {sum(paces) / len(paces):.3f} on the mean")
     return ran.returncode
 
 
