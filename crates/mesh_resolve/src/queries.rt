@@ -18,7 +18,7 @@ use mesh_tokens::ReadFault;
 use std::alloc::Global;
 
 // The sides of a UNION ALL.
-#[tactic(auto, using(mesh_selects::outputs::proofs::Steps::none_along, mesh_selects::outputs::proofs::Steps::one_more, mesh_selects::outputs::proofs::Steps::stops, mesh_selects::outputs::proofs::Steps::all_along), unfolding(crate::specs::Queries::selects))]
+#[tactic(auto, using(mesh_selects::proofs::outputs::Steps::none_along, mesh_selects::proofs::outputs::Steps::one_more, mesh_selects::proofs::outputs::Steps::stops, mesh_selects::proofs::outputs::Steps::all_along), unfolding(crate::specs::Queries::selects))]
 fn selects(
     alloc: Global,
     known: &Catalog,
@@ -48,7 +48,7 @@ fn cte(alloc: Global, known: &Catalog, done: &mut Commons, c: &SurfaceCte) -> Re
     Ok(())
 }
 
-#[tactic(auto, using(mesh_selects::outputs::proofs::Steps::none_along, mesh_selects::outputs::proofs::Steps::one_more, mesh_selects::outputs::proofs::Steps::stops, mesh_selects::outputs::proofs::Steps::all_along))]
+#[tactic(auto, using(mesh_selects::proofs::outputs::Steps::none_along, mesh_selects::proofs::outputs::Steps::one_more, mesh_selects::proofs::outputs::Steps::stops, mesh_selects::proofs::outputs::Steps::all_along))]
 fn ctes(alloc: Global, known: &Catalog, all: &[SurfaceCte]) -> Result<Commons, ReadFault>
     ensures { Gives result (along (cte known.now) [] all.now) }
 {

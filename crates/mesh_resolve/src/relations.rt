@@ -172,7 +172,7 @@ fn joined(
 }
 
 // Further FROM items.
-#[tactic(auto, using(mesh_selects::outputs::proofs::Steps::none_along, mesh_selects::outputs::proofs::Steps::one_more, mesh_selects::outputs::proofs::Steps::stops, mesh_selects::outputs::proofs::Steps::all_along))]
+#[tactic(auto, using(mesh_selects::proofs::outputs::Steps::none_along, mesh_selects::proofs::outputs::Steps::one_more, mesh_selects::proofs::outputs::Steps::stops, mesh_selects::proofs::outputs::Steps::all_along))]
 fn all_joined(
     alloc: Global,
     known: &Catalog,

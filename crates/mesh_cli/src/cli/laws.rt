@@ -18,7 +18,7 @@ ghost use Rattle.mesh_cli.specs.cli.Sides.{Sides};
 
 /// A command that ends with status 0 made exactly the changes that it has for the world that the house told, one call each, and
 /// wrote the text that it gives there; nothing was written on the other sink.
-#[tactic(auto, using(crate::cli::proofs::Ending::done_made, crate::cli::proofs::Ending::done_told))]
+#[tactic(auto, using(crate::proofs::cli::Ending::done_made, crate::proofs::cli::Ending::done_told))]
 pub fn commands_that_are_done_made_their_changes()
     ensures made { (dir : List ℕ) (c : Asked) (old new : Sides) (sinks printed : Sinks) (w : World) → Ended dir c old new sinks printed 0 → Tells old.house w →
         (list : List Change) × Makes dir old c w list × IsRun list w old.house.calls new.house }
@@ -27,14 +27,14 @@ pub fn commands_that_are_done_made_their_changes()
 {}
 
 /// A command that is refused before its changes leaves the house alone.
-#[tactic(auto, using(crate::cli::proofs::Ending::refused_left_alone))]
+#[tactic(auto, using(crate::proofs::cli::Ending::refused_left_alone))]
 pub fn commands_that_are_refused_change_nothing()
     ensures { (dir : List ℕ) (c : Asked) (old new : Sides) (sinks printed : Sinks) (s : ℕ) → (ended : Ended dir c old new sinks printed s) → (r : Refusal) → ended.answer ≡ Err r → is_early r ≡ true → IsAlone old.house new.house }
 {}
 
 /// A command for which nothing stands against it in the world that the house told, and during which nothing failed, ends with
 /// status 0, or with 4 for want of memory.
-#[tactic(auto, using(crate::cli::proofs::Ending::nothing_against_it))]
+#[tactic(auto, using(crate::proofs::cli::Ending::nothing_against_it))]
 pub fn commands_without_a_refusal_are_done()
     ensures { (dir : List ℕ) (c : Asked) (old new : Sides) (sinks printed : Sinks) (w : World) (s : ℕ) → Ended dir c old new sinks printed s → Tells old.house w →
         ((r : Refusal) → is_fault r ≡ false → ¬ Gives dir old c w (Err r)) → ¬ Rose old.house.faults new.house.faults → ¬ Rose old.folder.faults new.folder.faults → ¬ Rose old.clock.faults new.clock.faults →

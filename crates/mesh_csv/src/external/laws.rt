@@ -8,13 +8,13 @@ ghost use Rattle.mesh_csv.specs.external.Externals.{decl_name, external_text};
 ghost use Rattle.mesh_csv.specs.external.Proper.{is_proper};
 
 /// The columns of a source have distinct names, and a timed source has the column that its time is in.
-#[tactic(auto, using(crate::external::proofs::Sound::sources_proper))]
+#[tactic(auto, using(crate::proofs::external::Sound::sources_proper))]
 pub fn sources_are_proper()
     ensures { (bytes : List ℕ) (sources : List Decl) → external_text bytes ≡ Ok sources → list_all is_proper sources ≡ true }
 {}
 
 /// The sources ascend by name, so that no two have one.
-#[tactic(auto, using(crate::external::proofs::Sound::sources_up))]
+#[tactic(auto, using(crate::proofs::external::Sound::sources_up))]
 pub fn sources_ascend()
     ensures { (bytes : List ℕ) (sources : List Decl) → external_text bytes ≡ Ok sources → ascends name_cmp decl_name sources ≡ true }
 {}

@@ -8,14 +8,14 @@ ghost use Rattle.mesh_csv.specs.seeds.Fits.{fits, kind_at, are_numbers};
 ghost use Rattle.mesh_csv.specs.seeds.Seeds.{seed_text};
 
 /// Each row of a seed has a cell for each of its columns, which is NULL or of the column's type.
-#[tactic(auto, using(crate::seeds::proofs::Fitting::rows_fit))]
+#[tactic(auto, using(crate::proofs::seeds::Fitting::rows_fit))]
 pub fn rows_fit_columns()
     ensures { (declared : List Column) (bytes : List ℕ) (seed : Seeds) → seed_text declared bytes ≡ Ok seed → list_all (fits seed.columns) seed.rows ≡ true }
 {}
 
 /// Where a file is read without declared columns, each column of INT has a row with a number in its place, and all its other
 /// rows have a number or NULL there.
-#[tactic(auto, using(crate::seeds::proofs::Numbers::numbers_found))]
+#[tactic(auto, using(crate::proofs::seeds::Numbers::numbers_found))]
 pub fn numbers_are_found()
     ensures { (bytes : List ℕ) (seed : Seeds) (c : ℕ) → seed_text [] bytes ≡ Ok seed → kind_at c seed.columns ≡ Some Int → are_numbers c seed.rows ≡ true }
 {}

@@ -50,7 +50,7 @@ fn seed_at<F: Folder>(
 }
 
 // The seed that a model names.
-#[tactic(auto, using(crate::files::proofs::Kept::no_seed))]
+#[tactic(auto, using(crate::proofs::files::Kept::no_seed))]
 fn seed_of<F: Folder>(
     alloc: Global,
     folder: &mut F,

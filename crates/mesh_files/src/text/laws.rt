@@ -10,7 +10,7 @@ ghost use Rattle.mesh_files.specs.text.ModelTexts.{model_of};
 /// A model that is read from a file has a name whose schema and model are identifiers without capitals, of at most 128 bytes
 /// each, the schema by the rule of schemas, a query unless it is a SEED, and where it is incremental a start and a lookback of
 /// at most 366 units.
-#[tactic(auto, using(crate::text::proofs::Completed::model_complete))]
+#[tactic(auto, using(crate::proofs::text::Completed::model_complete))]
 pub fn models_are_complete()
     ensures { (file bytes : List ℕ) (query : Result Surface ReadFault) (m : ModelText) → model_of file (file_tokens bytes) (file_fault bytes) query ≡ Ok m → is_complete m ≡ true }
 {}

@@ -10,7 +10,7 @@ use mesh_list::Memory;
 use std::alloc::Global;
 
 /// Makes the change, and lists the writes by which records follow it. At `Err` the world may have changed or not.
-#[tactic(auto, using(crate::touched::proofs::Listed::follows))]
+#[tactic(auto, using(crate::proofs::touched::Listed::follows))]
 pub fn stepped(alloc: Global, world: &mut World, change: &Change) -> Result<Writes, Memory>
     ensures { IfOk result (λ ws. Follows world.old change.now world.new ws) }
 {

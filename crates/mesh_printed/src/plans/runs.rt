@@ -21,7 +21,7 @@ fn adjoin(a: &Due, b: &Due) -> bool
 }
 
 // Whether the unit at a place is the last one of its run.
-#[tactic(auto, using(crate::plans::proofs::Splits::ends_here, crate::plans::proofs::Splits::goes_on, crate::plans::proofs::Splits::last_one))]
+#[tactic(auto, using(crate::proofs::plans::Splits::ends_here, crate::proofs::plans::Splits::goes_on, crate::proofs::plans::Splits::last_one))]
 fn is_last(dues: &[Due], i: usize) -> bool
     requires { i < length dues.now }
     ensures last { IsTrue result → first_run (drop i dues.now) ≡ 1 }

@@ -50,7 +50,7 @@ fn take_name(taken: &mut BTreeSet<Name>, file: &ModelFile) -> Result<(), LoadFau
     }
 }
 
-#[tactic(auto, using(crate::nodes::proofs::Steps::none_along, crate::nodes::proofs::Steps::one_more, crate::nodes::proofs::Steps::stops, crate::nodes::proofs::Steps::all_along))]
+#[tactic(auto, using(crate::proofs::nodes::Steps::none_along, crate::proofs::nodes::Steps::one_more, crate::proofs::nodes::Steps::stops, crate::proofs::nodes::Steps::all_along))]
 fn take_names(taken: &mut BTreeSet<Name>, files: &[ModelFile]) -> Result<(), LoadFault>
     ensures leads { Leads result (names_of taken.new) (along with_model_name (names_of taken.old) files.now) }
     ensures alone { IsErrOf result fault.Folder → ⊥ }

@@ -252,7 +252,7 @@ fn add_model(
 }
 
 /// The models in this order, each over those before it, or the first fault of their queries.
-#[tactic(auto, using(crate::nodes::proofs::Steps::none_along, crate::nodes::proofs::Steps::one_more, crate::nodes::proofs::Steps::all_along))]
+#[tactic(auto, using(crate::proofs::nodes::Steps::none_along, crate::proofs::nodes::Steps::one_more, crate::proofs::nodes::Steps::all_along))]
 pub fn nodes_of(alloc: Global, files: &ProjectFiles, order: &[Ranked]) -> Result<Earlier, LoadFault>
     requires { AllByRecursion IsWhole files.now.models }
     ensures gives { Gives result (nodes_of files.now.sources files.now.models order.now) }

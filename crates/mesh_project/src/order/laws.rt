@@ -7,7 +7,7 @@ pub fn ranks_are_one()
 {}
 
 /// The law that models have one order.
-#[tactic(auto, using(crate::order::proofs::Uniqueness::orders_one))]
+#[tactic(auto, using(crate::proofs::order::Uniqueness::orders_one))]
 pub fn orders_are_one()
     ensures { AreOrdersOne }
 {}
@@ -18,19 +18,19 @@ pub fn cycles_are_one()
 {}
 
 /// The law that models that have an order have no cycle.
-#[tactic(auto, using(crate::order::proofs::Uniqueness::no_cycle))]
+#[tactic(auto, using(crate::proofs::order::Uniqueness::no_cycle))]
 pub fn orders_have_no_cycle()
     ensures { HasNoCycle }
 {}
 
 /// The law that in an order what a model reads stands before it.
-#[tactic(auto, using(crate::order::proofs::Uniqueness::stand_before))]
+#[tactic(auto, using(crate::proofs::order::Uniqueness::stand_before))]
 pub fn parents_stand_before()
     ensures { StandBefore }
 {}
 
 /// The law that in an order each model stands once.
-#[tactic(auto, using(crate::order::proofs::Uniqueness::as_many))]
+#[tactic(auto, using(crate::proofs::order::Uniqueness::as_many))]
 pub fn orders_have_all_models()
     ensures { AreAsMany }
 {}

@@ -21,19 +21,19 @@ ghost use Rattle.mesh_project.specs.project.Project.{IsFirstFault, Loads, reader
 ghost use Rattle.mesh_project.specs.nodes.Reads.{query_reads};
 
 /// A resolved query names the relations of two parts that its text names, as often and in the same order.
-#[tactic(auto, using(crate::nodes::proofs::Agree::names_agree))]
+#[tactic(auto, using(crate::proofs::nodes::Agree::names_agree))]
 pub fn resolved_names_are_those_of_the_text()
     ensures { (known : Known) (surface : Surface) (query : Query) → resolved known surface ≡ Ok query → defn_names (body.Sql query) ≡ query_reads surface }
 {}
 
 /// A model's definition over the models that its query names is that over all models before it.
-#[tactic(auto, using(crate::nodes::proofs::Tables::named_suffice))]
+#[tactic(auto, using(crate::proofs::nodes::Tables::named_suffice))]
 pub fn models_that_are_named_suffice()
     ensures { (sources : List Decl) (nodes : List Node) (f : ModelFile) → own f.text f.seed (known_to sources nodes (parents_of nodes f) f.text.kind) ≡ own f.text f.seed (known_before sources nodes f.text.kind) }
 {}
 
 /// The models of files whose names differ, by rank and name, each over those before it, are a proper project.
-#[tactic(auto, using(crate::project::proofs::Whole::proper))]
+#[tactic(auto, using(crate::proofs::project::Whole::proper))]
 pub fn models_in_order_are_a_project()
     ensures { (files : ProjectFiles) (order : List Ranked) (nodes : List Node) → AllByRecursion IsWhole files.models → AreApart (map reader_of files.models) → IsOrder (map reader_of files.models) order → nodes_of files.sources files.models order ≡ Ok nodes → length files.models ≤ 4096 → is_proper nodes ≡ true }
 {}

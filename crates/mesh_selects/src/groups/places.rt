@@ -7,7 +7,7 @@ use mesh_base::{Expr, When};
 use mesh_list::{Memory, Seq};
 
 /// Whether each column and aggregate breaks the rule.
-#[tactic(auto, using(crate::groups::proofs::Placed::placed_out))]
+#[tactic(auto, using(crate::proofs::groups::Placed::placed_out))]
 #[cycle(places)]
 pub(crate) fn place(
     e: &Expr,

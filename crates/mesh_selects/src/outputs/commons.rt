@@ -85,7 +85,7 @@ impl Commons {
     }
 
     /// The place of the first one of that name, from 0, found in steps in proportion to the logarithm of their number.
-    #[tactic(auto, using(crate::outputs::proofs::Places::place_within))]
+    #[tactic(auto, using(crate::proofs::outputs::Places::place_within))]
     pub fn place(&self, name: &Str) -> Option<usize>
         ensures first { result ≡ place_named name.now self.now }
         ensures within { IfSome result (λ i. i < length self.now) }
@@ -94,7 +94,7 @@ impl Commons {
     }
 
     /// Whether one has that name.
-    #[tactic(auto, using(crate::outputs::proofs::Places::has_place))]
+    #[tactic(auto, using(crate::proofs::outputs::Places::has_place))]
     pub fn has(&self, name: &Str) -> bool
         ensures { result ≡ list_any (is_cte name.now) self.now }
     {
@@ -111,7 +111,7 @@ impl Commons {
 }
 
 /// The first CTE of that name, by its place, with its columns.
-#[tactic(auto, using(crate::outputs::proofs::Places::named_at))]
+#[tactic(auto, using(crate::proofs::outputs::Places::named_at))]
 pub fn cte_named(
     alloc: Global,
     ctes: &Commons,

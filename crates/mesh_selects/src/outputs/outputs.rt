@@ -168,7 +168,7 @@ fn item(
     }
 }
 
-#[tactic(auto, using(crate::outputs::proofs::Steps::none_along, crate::outputs::proofs::Steps::one_more, crate::outputs::proofs::Steps::stops, crate::outputs::proofs::Steps::all_along))]
+#[tactic(auto, using(crate::proofs::outputs::Steps::none_along, crate::proofs::outputs::Steps::one_more, crate::proofs::outputs::Steps::stops, crate::proofs::outputs::Steps::all_along))]
 fn add_items(
     alloc: Global,
     sight: &Sight,

@@ -11,7 +11,7 @@ use mesh_tokens::ReadFault;
 use mesh_types::mismatch;
 
 // Whether two lists of items have as many items, of the same types in the same order.
-#[tactic(auto, using(crate::outputs::proofs::Unlike::unlike_items))]
+#[tactic(auto, using(crate::proofs::outputs::Unlike::unlike_items))]
 fn have_same_types(a: &[Item], b: &[Item]) -> bool
     ensures { result ≡ have_same_types (item_columns a.now) (item_columns b.now) }
 {

@@ -27,7 +27,7 @@ fn take_name(taken: &mut BTreeSet<Str>, at: u64, name: &Str) -> Result<(), ReadF
     }
 }
 
-#[tactic(auto, using(crate::outputs::proofs::Steps::none_along, crate::outputs::proofs::Steps::one_more, crate::outputs::proofs::Steps::stops, crate::outputs::proofs::Steps::all_along))]
+#[tactic(auto, using(crate::proofs::outputs::Steps::none_along, crate::proofs::outputs::Steps::one_more, crate::proofs::outputs::Steps::stops, crate::proofs::outputs::Steps::all_along))]
 fn take_outputs(taken: &mut BTreeSet<Str>, outputs: &[Output]) -> Result<(), ReadFault>
     ensures { Leads result (names_of taken.new) (along new_output (names_of taken.old) outputs.now) }
 {
@@ -37,7 +37,7 @@ fn take_outputs(taken: &mut BTreeSet<Str>, outputs: &[Output]) -> Result<(), Rea
     Ok(())
 }
 
-#[tactic(auto, using(crate::outputs::proofs::Steps::none_along, crate::outputs::proofs::Steps::one_more, crate::outputs::proofs::Steps::stops, crate::outputs::proofs::Steps::all_along))]
+#[tactic(auto, using(crate::proofs::outputs::Steps::none_along, crate::proofs::outputs::Steps::one_more, crate::proofs::outputs::Steps::stops, crate::proofs::outputs::Steps::all_along))]
 fn take_items(taken: &mut BTreeSet<Str>, from: &[Drawn]) -> Result<(), ReadFault>
     ensures { Leads result (names_of taken.new) (along new_item (names_of taken.old) from.now) }
 {

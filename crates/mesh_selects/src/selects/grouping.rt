@@ -58,7 +58,7 @@ fn some_well_grouped(
     }
 }
 
-#[tactic(auto, using(crate::outputs::proofs::Steps::none_along, crate::outputs::proofs::Steps::one_more, crate::outputs::proofs::Steps::stops, crate::outputs::proofs::Steps::all_along))]
+#[tactic(auto, using(crate::proofs::outputs::Steps::none_along, crate::proofs::outputs::Steps::one_more, crate::proofs::outputs::Steps::stops, crate::proofs::outputs::Steps::all_along))]
 fn each_on(alloc: Global, from: &[Drawn]) -> Result<(), ReadFault>
     ensures { Gives result (each on_without_aggregates from.now) }
 {
@@ -68,7 +68,7 @@ fn each_on(alloc: Global, from: &[Drawn]) -> Result<(), ReadFault>
     Ok(())
 }
 
-#[tactic(auto, using(crate::outputs::proofs::Steps::none_along, crate::outputs::proofs::Steps::one_more, crate::outputs::proofs::Steps::stops, crate::outputs::proofs::Steps::all_along))]
+#[tactic(auto, using(crate::proofs::outputs::Steps::none_along, crate::proofs::outputs::Steps::one_more, crate::proofs::outputs::Steps::stops, crate::proofs::outputs::Steps::all_along))]
 fn each_output(
     alloc: Global,
     grouped: bool,
@@ -99,7 +99,7 @@ fn is_right_key(alloc: Global, k: &Key) -> Result<(), ReadFault>
     }
 }
 
-#[tactic(auto, using(crate::outputs::proofs::Steps::none_along, crate::outputs::proofs::Steps::one_more, crate::outputs::proofs::Steps::stops, crate::outputs::proofs::Steps::all_along))]
+#[tactic(auto, using(crate::proofs::outputs::Steps::none_along, crate::proofs::outputs::Steps::one_more, crate::proofs::outputs::Steps::stops, crate::proofs::outputs::Steps::all_along))]
 fn each_key(alloc: Global, keys: &[Key]) -> Result<(), ReadFault>
     ensures { Gives result (each is_right_key keys.now) }
 {

@@ -46,7 +46,7 @@ fn map_of(alloc: Global, b: &Book) -> Result<Renames, Memory>
 
 /// The map of a book: each snapshot's new fingerprint. `Twins` tells the first snapshot in the book's order that would get
 /// the name and fingerprint of a later one, with the first such later one.
-#[tactic(auto, using(crate::migrate::proofs::Near::tells_the_first, crate::migrate::proofs::Near::none_at_all))]
+#[tactic(auto, using(crate::proofs::migrate::Near::tells_the_first, crate::proofs::migrate::Near::none_at_all))]
 pub fn book_renames(alloc: Global, b: &Book) -> Result<Renames, MigrationFault>
     requires { is_well_formed_book b.now ≡ true }
     ensures map { IfOk result (λ renames. IsMap b.now renames) }

@@ -34,7 +34,7 @@ fn is_alike(olds: &[Node], news: &[Node], adds: &[bool], p: u32, q: u32) -> bool
 
 /// Whether the old and the new parents have the same names, one beside the other, and each new one only adds columns to
 /// the old one of its name, which `adds` tells.
-#[tactic(auto, using(crate::category::proofs::Alike::not_long, crate::category::proofs::Alike::alike_more))]
+#[tactic(auto, using(crate::proofs::category::Alike::not_long, crate::proofs::category::Alike::alike_more))]
 pub(crate) fn are_alike(olds: &[Node], news: &[Node], adds: &[bool], ps: &[u32], qs: &[u32]) -> bool
     ensures { result ≡ are_alike olds.now news.now adds.now ps.now qs.now }
 {

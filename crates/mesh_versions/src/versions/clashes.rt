@@ -52,7 +52,7 @@ fn put_ref(refs: &mut Refs, node: Option<&Node>) -> Result<(), Memory>
 }
 
 // The models at some places.
-#[tactic(auto, using(crate::versions::proofs::Steps::one_more_ref))]
+#[tactic(auto, using(crate::proofs::versions::Steps::one_more_ref))]
 fn refs_at(alloc: Global, nodes: &[Node], places: &[u32]) -> Result<Refs, Memory>
     ensures { IfOk result (λ refs. refs ≡ refs_at nodes.now places.now) }
 {

@@ -65,7 +65,7 @@ impl<'a> Keyed for Standing<'a> {
 }
 
 // One snapshot more, where there is one.
-#[tactic(auto, using(crate::versions::proofs::Ranks::placed_there))]
+#[tactic(auto, using(crate::proofs::versions::Ranks::placed_there))]
 fn put<'a>(all: &mut Sorted<Standing<'a>>, s: Option<&'a Snapshot>) -> Result<(), Memory>
     ensures { OnOk result (snapshots_of all.new ≡ with_one (option_copied s.entry) (snapshots_of all.old)) }
 {
