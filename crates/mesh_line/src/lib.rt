@@ -6,8 +6,10 @@
 mod apps;
 mod commands;
 mod given;
+mod host;
 mod line;
 mod read;
 
+pub use host::{host_words, warehouse_file};
 pub use line::{Command, Line, UsageFault};
 pub use read::read_words;

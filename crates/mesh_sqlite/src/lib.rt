@@ -5,7 +5,9 @@
 //! and `sqlite`.
 #![tactic(auto)]
 
+mod file;
 mod keeper;
 mod table;
 
+pub use file::{FileHouse, close, opened};
 pub use keeper::{SqliteFault, SqliteHouse, SqliteKeeper, house_over};
