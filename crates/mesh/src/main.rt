@@ -12,6 +12,7 @@ use mesh_line::{host_words, warehouse_file};
 use mesh_sqlite::{close, opened};
 use mesh_values::Str;
 use std::process::ExitCode;
+use std::thread::Threads;
 
 /// The warehouse can't be had, for want of memory or for another cause.
 fn without(rt: &HostRuntime, fail: KeepFail) -> ExitCode {
@@ -27,15 +28,20 @@ fn without(rt: &HostRuntime, fail: KeepFail) -> ExitCode {
     }
 }
 
-/// The top call over this warehouse, and the host's files, clock and streams.
-fn served<W: Warehouse>(rt: &HostRuntime, words: &[Str], house: &mut W) -> ExitCode {
+/// The top call over this warehouse and these workers, and the host's files, clock and streams.
+fn served<R: Threads + Sync, W: Warehouse>(
+    rt: &HostRuntime,
+    workers: &R,
+    words: &[Str],
+    house: &mut W,
+) -> ExitCode {
     let mut folder = DirFolder::new(rt);
     let mut clock = SystemClock::new(rt);
     let mut input = StdSource::new(rt);
     let mut out = StdSink::output(rt);
     let mut err = StdSink::errors(rt);
     let status = mesh_cli::cli::mesh(
-        rt,
+        workers,
         rt.alloc(),
         words,
         &mut folder,
@@ -57,13 +63,13 @@ fn main(rt: HostRuntime) -> ExitCode {
     };
     let Some(file) = file else {
         let mut house = MemHouse::new(rt.alloc());
-        return served(&rt, words.as_slice(), &mut house);
+        return served(&rt, &rt, words.as_slice(), &mut house);
     };
     match opened(&rt, file.as_slice()) {
         Err(fail) => without(&rt, fail),
         Ok(house) => {
             let mut house = house;
-            let status = served(&rt, words.as_slice(), &mut house);
+            let status = served(&rt, &rt, words.as_slice(), &mut house);
             close(house);
             status
         }

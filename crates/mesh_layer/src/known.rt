@@ -1,4 +1,4 @@
-// The objects whose rows are known, so that each is read and computed once.
+// The objects whose rows are known, so that each is computed once.
 ghost use Rattle.std.specs.Prelude.{◌≡◌, ◌≤◌, [], IfOk, IfSome, OnOk};
 ghost use Rattle.mesh_values.specs.Names.{name_cmp};
 ghost use Rattle.mesh_values.specs.NameOrder.{names_exact, names_total};
@@ -74,10 +74,13 @@ pub(crate) fn known_at(known: &Known, depth: u64, name: &Name) -> Result<Option<
     }
 }
 
-/// Keeps what was found of an object.
+/// Keeps what was found of an object that stores a query. A table's rows are as soon read again as copied.
 pub(crate) fn keep(known: &mut Known, name: &Name, found: &Found) -> Result<(), Memory>
     ensures { OnOk result ((w : World) → AreKnown w known.old → IsFound w name.now found.now → AreKnown w known.new) }
 {
+    if found.height == 0 {
+        return Ok(());
+    }
     let (name, found) = both(name, found)?;
     known.place(Entry { name, found })?;
     Ok(())

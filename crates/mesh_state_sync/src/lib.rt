@@ -7,4 +7,5 @@
 pub mod janitor;
 pub mod making;
 pub mod migrate;
+mod naming;
 pub mod promote;

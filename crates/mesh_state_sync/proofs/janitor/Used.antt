@@ -27,13 +27,9 @@ one_earlier f xs left x names old any le is =
     ap (placed name_cmp name_itself (f (get_or xs (left - 1) x))) (is ∙ ap (λ k. with_names (map f (drop k xs)) old) (sym next))
     ∙ sym (ap (λ l. with_names (map f l) old) (drop-cons xs (left - 1) x (omega arith)))
 
--- names with no others, and names with those that are in order
-pub alone : (ys : List Name) → with_names ys [] ≡ names_by_order ys
-alone [] = refl
-alone (y ∷ ys) = ap (placed name_cmp name_itself y) (alone ys)
-
-pub in_order : (xs ys : List Name) → with_names xs (with_names ys []) ≡ names_by_order (xs ++ ys)
-in_order [] ys = alone ys
+-- names with those that are in order
+pub in_order : (xs ys : List Name) → with_names xs (names_by_order ys) ≡ names_by_order (xs ++ ys)
+in_order [] ys = refl
 in_order (x ∷ xs) ys = ap (placed name_cmp name_itself x) (in_order xs ys)
 
 -- two tests that agree

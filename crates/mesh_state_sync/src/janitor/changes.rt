@@ -12,12 +12,13 @@ ghost use Rattle.mesh_changes.specs.Kept.{both_lists, gone_snapshots, gone_table
 ghost use Rattle.mesh_state_sync.specs.janitor.Walk.{deletes, deletes_by, deletes_of, discards, forgets, goes, stays, with_names};
 
 use crate::janitor::kept::{is_over, rank_limit, stays, wanted};
-use crate::janitor::tables::{gone_tables, place_copy};
+use crate::janitor::tables::gone_tables;
+use crate::naming::{by_order, names_of, place_copy};
 use crate::promote::push_drops;
 use mesh_base::{Env, Ref, Snapshot};
 use mesh_book::Book;
 use mesh_house::{Change, Changes};
-use mesh_list::{Duplicate, Memory, Register, Seq, Sorted, push_made};
+use mesh_list::{Duplicate, Memory, Register, Seq, push_made};
 use mesh_values::{Name, Str};
 use std::alloc::Global;
 
@@ -84,7 +85,7 @@ fn taking_out(s: &Snapshot) -> Result<Change, Memory>
 }
 
 // The names of some models, by their order.
-fn add_names(refs: &[Ref], names: &mut Sorted<Name>) -> Result<(), Memory>
+fn add_names(refs: &[Ref], names: &mut Register<Name>) -> Result<(), Memory>
     ensures { OnOk result (names.new ≡ with_names (map ref_name refs.now) names.old) }
 {
     let mut left = refs.len();
@@ -95,11 +96,14 @@ fn add_names(refs: &[Ref], names: &mut Sorted<Name>) -> Result<(), Memory>
     Ok(())
 }
 
-fn models(alloc: Global, env: &Env) -> Result<Sorted<Name>, Memory>
+// Those of the list, with others that stood before.
+fn models(alloc: Global, env: &Env) -> Result<Register<Name>, Memory>
     ensures { IfOk result (λ names. names ≡ names_by_order (map ref_name (both_lists env.now))) }
 {
-    let mut names = Sorted::new(alloc);
-    add_names(env.previous.as_slice(), &mut names)?;
+    if env.previous.is_empty() {
+        return by_order(alloc, names_of(alloc, env.list.as_slice())?);
+    }
+    let mut names = by_order(alloc, names_of(alloc, env.previous.as_slice())?)?;
     add_names(env.list.as_slice(), &mut names)?;
     Ok(names)
 }

@@ -11,33 +11,26 @@ ghost use Rattle.mesh_changes.specs.Kept.{gone_tables, is_kept, tables};
 ghost use Rattle.mesh_state_sync.specs.janitor.Walk.{is_absent, object_after, objects_after, snapshot_object, stays, with_names};
 
 use crate::janitor::kept::stays;
+use crate::naming::{by_order, place_copy};
 use mesh_base::{Ref, Snapshot};
 use mesh_book::{Book, Version};
-use mesh_list::{Duplicate, Memory, Register, Seq, Sorted, push_made};
+use mesh_list::{Duplicate, Memory, Register, Seq, push_made};
 use mesh_values::{Name, Names};
 use std::alloc::Global;
 
-/// A name comes to others, by their order.
-pub(crate) fn place_copy(names: &mut Sorted<Name>, name: &Name) -> Result<(), Memory>
-    ensures { OnOk result (names.new ≡ placed name_cmp name_itself name.now names.old) }
+// The objects of versions, as they stand.
+fn objects_of(alloc: Global, versions: &[Version]) -> Result<Vec<Name>, Memory>
+    ensures { IfOk result (λ names. names.items ≡ map version_object versions.now) }
 {
-    names.place(name.copy()?)
-}
-
-// The objects of versions, by name.
-fn add_versions(versions: &[Version], names: &mut Sorted<Name>) -> Result<(), Memory>
-    ensures { OnOk result (names.new ≡ with_names (map version_object versions.now) names.old) }
-{
-    let mut left = versions.len();
-    while left > 0 {
-        left -= 1;
-        place_copy(names, &versions[left].object)?;
+    let mut names = Vec::new(alloc);
+    for version in versions {
+        names.push(version.object.copy()?)?;
     }
-    Ok(())
+    Ok(names)
 }
 
 // The objects of snapshots, by name.
-fn add_objects(all: &[Snapshot], names: &mut Sorted<Name>) -> Result<(), Memory>
+fn add_objects(all: &[Snapshot], names: &mut Register<Name>) -> Result<(), Memory>
     ensures { OnOk result (names.new ≡ with_names (map snapshot_object all.now) names.old) }
 {
     let mut left = all.len();
@@ -48,11 +41,10 @@ fn add_objects(all: &[Snapshot], names: &mut Sorted<Name>) -> Result<(), Memory>
     Ok(())
 }
 
-fn tables(alloc: Global, b: &Book) -> Result<Sorted<Name>, Memory>
+fn tables(alloc: Global, b: &Book) -> Result<Register<Name>, Memory>
     ensures { IfOk result (λ names. names ≡ tables b.now) }
 {
-    let mut names = Sorted::new(alloc);
-    add_versions(b.versions.as_slice(), &mut names)?;
+    let mut names = by_order(alloc, objects_of(alloc, b.versions.as_slice())?)?;
     add_objects(b.snapshots.as_slice(), &mut names)?;
     Ok(names)
 }
@@ -62,7 +54,7 @@ fn add_object(
     t: i64,
     wanted: &Register<Ref>,
     s: &Snapshot,
-    names: &mut Sorted<Name>,
+    names: &mut Register<Name>,
 ) -> Result<(), Memory>
     ensures { OnOk result (names.new ≡ object_after t wanted.now s.now names.old) }
 {
@@ -77,7 +69,7 @@ fn add_used(
     t: i64,
     wanted: &Register<Ref>,
     all: &[Snapshot],
-    names: &mut Sorted<Name>,
+    names: &mut Register<Name>,
 ) -> Result<(), Memory>
     ensures { OnOk result (names.new ≡ objects_after t wanted.now all.now names.old) }
 {
@@ -88,7 +80,7 @@ fn add_used(
 }
 
 // Those of some names that are not among others.
-fn absent(alloc: Global, used: &Sorted<Name>, all: &[Name]) -> Result<Names, Memory>
+fn absent(alloc: Global, used: &Register<Name>, all: &[Name]) -> Result<Names, Memory>
     ensures { IfOk result (λ made. made ≡ filter (is_absent used.now) all.now) }
 {
     let mut made = Seq::new(alloc);
@@ -110,7 +102,7 @@ pub(crate) fn gone_tables(
     requires { All (λ (s : Snapshot). stays t wanted.now s ≡ is_kept b.now t s) b.now.snapshots }
     ensures { IfOk result (λ names. names ≡ gone_tables b.now t) }
 {
-    let mut used = Sorted::new(alloc);
+    let mut used = Register::new(alloc);
     add_used(t, wanted, b.snapshots.as_slice(), &mut used)?;
     let all = tables(alloc, b)?;
     let gone = absent(alloc, &used, all.as_slice())?;

@@ -1,16 +1,16 @@
 // The models that an environment loses.
-ghost use Rattle.std.specs.Prelude.{◌≡◌, IfOk, OnOk, map};
+ghost use Rattle.std.specs.Prelude.{◌≡◌, IfOk, OnOk};
 ghost use Rattle.std.specs.Option.{option_copied};
 ghost use Rattle.std.specs.List.{filter};
 ghost use Rattle.mesh_list.specs.Keyed.{placed};
-ghost use Rattle.mesh_base.specs.Keys.{ref_cmp, ref_itself, ref_name};
+ghost use Rattle.mesh_base.specs.Keys.{ref_cmp, ref_itself};
 ghost use Rattle.mesh_book.specs.Changes.{joined, previous_of, with_refs};
-ghost use Rattle.mesh_changes.specs.Changes.{names_by_order};
 ghost use Rattle.mesh_state_sync.specs.promote.Promotion.{is_absent, left_out};
 
+use crate::naming::{by_order, names_of};
 use mesh_base::{Env, Ref, Refs};
 use mesh_book::Book;
-use mesh_list::{Duplicate, Memory, Register, Seq, Sorted};
+use mesh_list::{Duplicate, Memory, Register, Seq};
 use mesh_values::{Name, Names, Str};
 use std::alloc::Global;
 
@@ -49,30 +49,6 @@ fn previous_of(alloc: Global, env: Option<&Env>) -> Result<Refs, Memory>
     }
 }
 
-/// The names of some models, by their order, each once.
-fn names_by_order(alloc: Global, refs: &[Ref]) -> Result<Sorted<Name>, Memory>
-    ensures { IfOk result (λ names. names ≡ names_by_order (map ref_name refs.now)) }
-{
-    let mut names = Sorted::new(alloc);
-    let mut left = refs.len();
-    while left > 0 {
-        left -= 1;
-        names.place(refs[left].name.copy()?)?;
-    }
-    Ok(names)
-}
-
-/// The names of some models, as they stand.
-fn names_of(alloc: Global, refs: &[Ref]) -> Result<Register<Name>, Memory>
-    ensures { IfOk result (λ names. names ≡ map ref_name refs.now) }
-{
-    let mut names = Vec::new(alloc);
-    for r in refs {
-        names.push(r.name.copy()?)?;
-    }
-    Ok(Register::from_vec(names))
-}
-
 /// Those of some names that are not among others.
 fn absent(alloc: Global, names: &Register<Name>, all: &[Name]) -> Result<Names, Memory>
     ensures { IfOk result (λ made. made ≡ filter (is_absent names.now) all.now) }
@@ -91,7 +67,7 @@ pub(crate) fn left_out(alloc: Global, b: &Book, env: &Str, list: &[Ref]) -> Resu
     ensures { IfOk result (λ made. made ≡ left_out b.now env.now list.now) }
 {
     let previous = previous_of(alloc, b.environments.find(env))?;
-    let all = names_by_order(alloc, previous.as_slice())?;
-    let names = names_of(alloc, list)?;
+    let all = by_order(alloc, names_of(alloc, previous.as_slice())?)?;
+    let names = Register::from_vec(names_of(alloc, list)?);
     absent(alloc, &names, all.as_slice())
 }

@@ -1,0 +1,2 @@
+-- ByOrder: names that ascend stand by their order.
+pub mod ByOrder

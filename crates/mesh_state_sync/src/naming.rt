@@ -1,0 +1,68 @@
+// Names by their order.
+ghost use Rattle.std.specs.Prelude.{◌≡◌, IfOk, OnOk, map};
+ghost use Rattle.mesh_list.specs.Keyed.{ascends, placed};
+ghost use Rattle.mesh_values.specs.Names.{name_cmp};
+ghost use Rattle.mesh_base.specs.Keys.{ref_name};
+ghost use Rattle.mesh_changes.specs.Changes.{name_itself, names_by_order};
+
+use mesh_base::Ref;
+use mesh_list::{Duplicate, Memory, Register};
+use mesh_values::Name;
+use std::alloc::Global;
+
+/// The names of some models, as they stand.
+pub(crate) fn names_of(alloc: Global, refs: &[Ref]) -> Result<Vec<Name>, Memory>
+    ensures { IfOk result (λ names. names.items ≡ map ref_name refs.now) }
+{
+    let mut names = Vec::new(alloc);
+    for r in refs {
+        names.push(r.name.copy()?)?;
+    }
+    Ok(names)
+}
+
+/// A name comes to others, by their order.
+pub(crate) fn place_copy(names: &mut Register<Name>, name: &Name) -> Result<(), Memory>
+    ensures { OnOk result (names.new ≡ placed name_cmp name_itself name.now names.old) }
+{
+    names.place(name.copy()?)
+}
+
+// Whether each name is above the one before it.
+fn ascend(names: &[Name]) -> bool
+    ensures { result ≡ ascends name_cmp name_itself names.now }
+{
+    for (i, name) in names.iter().enumerate() {
+        match &names[i + 1..] {
+            [] => {}
+            [next, ..] => if !name.compare(next).is_lt() {
+                return false;
+            },
+        }
+    }
+    true
+}
+
+// Each at its place, from the last to the first.
+fn placed_all(alloc: Global, names: &[Name]) -> Result<Register<Name>, Memory>
+    ensures { IfOk result (λ made. made ≡ names_by_order names.now) }
+{
+    let mut made = Register::new(alloc);
+    let mut left = names.len();
+    while left > 0 {
+        left -= 1;
+        place_copy(&mut made, &names[left])?;
+    }
+    Ok(made)
+}
+
+/// Some names by their order, each once. Where they stand so already, none is moved.
+#[tactic(auto, using(crate::proofs::naming::ByOrder::stays))]
+pub(crate) fn by_order(alloc: Global, names: Vec<Name>) -> Result<Register<Name>, Memory>
+    ensures { IfOk result (λ made. made ≡ names_by_order names.items) }
+{
+    if ascend(names.as_slice()) {
+        return Ok(Register::from_vec(names));
+    }
+    placed_all(alloc, names.as_slice())
+}
