@@ -14,3 +14,5 @@ pub mod Loading
 pub mod Making
 -- Migrated: a book is moved by its map.
 pub mod Migrated
+-- ByName: an entry is put into a map as its model is put at its place.
+pub mod ByName

@@ -1,5 +1,5 @@
 -- The models of a plan with their objects, by name.
-use Rattle.std.specs.Prelude.{List, [], ◌∷◌}
+use Rattle.std.specs.Prelude.{ℕ, List, [], ◌∷◌, map}
 use Rattle.mesh_list.specs.Keyed.{placed}
 use Rattle.mesh_values.specs.Names.{name_cmp}
 use Rattle.mesh_values.specs.declared.values.Name.{Name}
@@ -30,3 +30,10 @@ object_of t = t.object
 
 abbrev pub pair_of : Target → Pair
 pair_of t = record { first = t.name; second = t.object }
+
+-- what a map has under a name, as such a model
+abbrev pub as_target : Name × (List ℕ × Name) → Target
+as_target (name, of) = record { name = name; fingerprint = of.0; object = of.1 }
+
+abbrev pub as_targets : List (Name × (List ℕ × Name)) → List Target
+as_targets es = map as_target es

@@ -2,18 +2,17 @@
 ghost use Rattle.std.specs.Prelude.{◌≡◌, ◌++◌, ◌∷◌, [], IfOk, OnOk, map};
 ghost use Rattle.mesh_list.specs.Keyed.{placed};
 ghost use Rattle.mesh_changes.specs.Changes.{objects_by_name, refs_by_name};
-ghost use Rattle.mesh_values.specs.NameOrder.{names_exact, names_total};
 ghost use Rattle.mesh_values.specs.Names.{name_cmp};
 ghost use Rattle.mesh_state_sync.specs.promote.Promotion.{paired};
 ghost use Rattle.mesh_exec.specs.Planned.{planned_models};
-ghost use Rattle.mesh_applying.specs.Listing.{object_of, ref_of, target, target_name, targets};
+ghost use Rattle.mesh_applying.specs.Listing.{as_targets, object_of, ref_of, target, target_name, targets};
 
 use mesh_base::{Entry, Node, Ref, Refs};
-use mesh_list::{Duplicate, Keyed, Memory, Seq, Sorted, both};
+use mesh_list::{Duplicate, Memory, Seq, both};
 use mesh_rules::Plan;
 use mesh_values::{Name, Names};
 use std::alloc::Global;
-use std::cmp::Ordering;
+use std::collections::BTreeMap;
 
 /// A model of a plan with the object that has its rows.
 pub struct Target {
@@ -32,25 +31,8 @@ impl Drop for Target {
     }
 }
 
-impl Keyed for Target {
-    type Key = Name;
-
-    ghost key = { λ t. t.name };
-
-    ghost order = { name_cmp };
-
-    fn compare(&self, other: &Name) -> Ordering {
-        self.name.compare(other)
-    }
-
-    fn against(&self, other: &Target) -> Ordering {
-        self.name.compare(&other.name)
-    }
-
-    ghost total = { names_total };
-
-    ghost exact = { names_exact };
-}
+/// The models of a plan by name, each with its fingerprint and its object.
+type ByName = BTreeMap<Name, ([u8; 32], Name)>;
 
 /// The list of an environment, and the object of each model in it.
 pub struct Lists {
@@ -67,35 +49,47 @@ impl Drop for Lists {
     }
 }
 
-fn as_target(node: &Node, entry: &Entry) -> Result<Target, Memory>
-    ensures { IfOk result (λ made. made ≡ target node.now entry.now) }
+fn place(models: &mut ByName, node: &Node, entry: &Entry) -> Result<(), Memory>
+    ensures { OnOk result (as_targets models.new.entries ≡ placed name_cmp target_name (target node.now entry.now) (as_targets models.old.entries)) }
 {
     let (name, object) = both(&node.own.name, &entry.object)?;
-    Ok(Target {
-        name,
-        fingerprint: node.fingerprint,
-        object,
-    })
+    models.insert(name, (node.fingerprint, object))?;
+    Ok(())
 }
 
-fn place_target(targets: &mut Sorted<Target>, node: &Node, entry: &Entry) -> Result<(), Memory>
-    ensures { OnOk result (targets.new ≡ placed name_cmp target_name (target node.now entry.now) targets.old) }
+/// The models beside their entries; from the last to the first, as their list is defined.
+fn by_name(alloc: Global, nodes: &[Node], entries: &[Entry]) -> Result<ByName, Memory>
+    ensures { IfOk result (λ made. as_targets made.entries ≡ targets nodes.now entries.now) }
 {
-    let made = as_target(node, entry)?;
-    targets.place(made)
-}
-
-/// The models by name, each beside its entry; from the last to the first, as their list is defined.
-fn targets(alloc: Global, nodes: &[Node], entries: &[Entry]) -> Result<Sorted<Target>, Memory>
-    ensures { IfOk result (λ made. made ≡ targets nodes.now entries.now) }
-{
-    let mut made = Sorted::new(alloc);
+    let mut made = BTreeMap::new(alloc);
     let mut left = nodes.len().min(entries.len());
     while left > 0 {
         left -= 1;
-        place_target(&mut made, &nodes[left], &entries[left])?;
+        place(&mut made, &nodes[left], &entries[left])?;
     }
     Ok(made)
+}
+
+fn as_list(alloc: Global, models: ByName) -> Result<Seq<Target>, Memory>
+    ensures { IfOk result (λ made. made ≡ as_targets models.entries) }
+{
+    let mut made = Seq::new(alloc);
+    for (name, (fingerprint, object)) in models {
+        made.push(Target {
+            name,
+            fingerprint,
+            object,
+        })?;
+    }
+    Ok(made)
+}
+
+/// The models by name, each beside its entry.
+fn targets(alloc: Global, nodes: &[Node], entries: &[Entry]) -> Result<Seq<Target>, Memory>
+    ensures { IfOk result (λ made. made ≡ targets nodes.now entries.now) }
+{
+    let models = by_name(alloc, nodes, entries)?;
+    as_list(alloc, models)
 }
 
 fn push_ref(list: &mut Refs, target: &Target) -> Result<(), Memory>
