@@ -74,6 +74,8 @@ SELECTS = {
     "cte": select(BOTH, f" (item inner (cte 0) {SAME})", how="all grouped", first="(item first (cte 0) none)"),
 }
 CTES = {"cte": CTE}
+# A copy of a table's rows, for bench/house.py.
+SELECTS["rows"] = select(f"(as 1:k int {K}) (as 1:v int {V})")
 
 
 def table(name, rows, step):

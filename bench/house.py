@@ -5,8 +5,8 @@ that forgets 200,000 units of a version, which adjoin or are every second one; a
 fingerprints, which are of as many models or of one. Their seconds are those of a file that makes the changes at once and
 counts what is then there, without one that has the same changes and makes none. Last the suite `rows`: the promotion of a
 further environment of many models, by `apply` without one that is stopped before it, and a janitor's sweep of the snapshots and tables of
-environments that are over; and a question over a view of 100,000 rows, beside the evaluation of its query alone, as the suite
-`queries` makes it. Prints seconds of processor and growth.
+environments that are over; and a question over a view of 100,000 rows, beside a copy of these rows and the evaluation of its
+query alone, as the suite `queries` makes them. Prints seconds of processor and growth.
 
 Usage: bench/house.py [PROGRAM], where PROGRAM is crates/mesh_answers/out/mesh_answers if left out (`rt run` makes it)."""
 import random
@@ -99,7 +99,8 @@ def swept(count):
 
 
 def asked(rows):
-    """The seconds of a question over a view of a table of so many rows, and those of evaluating its query alone."""
+    """The seconds of a question over a view of a table of so many rows, and those of copying its rows and evaluating its query
+    alone."""
     lines = "".join(f"{n},{n}\n" for n in range(rows))
     files = {
         "project/seeds/l.csv": "k,v\n" + lines,
@@ -108,7 +109,8 @@ def asked(rows):
     }
     question = 'mesh fetchdf "SELECT COUNT(DISTINCT v) AS n FROM a.l"'
     ask = played.each(played.PROGRAM, files, ["mesh apply --execution-time 2024-01-03T00:30"], [question] * TIMES)
-    return ask, ours(Suite("queries", *sys.argv[1:]), "number", rows)[0]
+    suite = Suite("queries", *sys.argv[1:])
+    return ask, ours(suite, "rows", rows)[0] + ours(suite, "number", rows)[0]
 
 
 def main():
@@ -131,7 +133,7 @@ def main():
     half, full = swept(1250), swept(2500)
     print(f"10,000 snapshots and tables swept: {full:.4f} s, growth {full / half:.2f}")
     ask, alone = asked(100_000)
-    print(f"a question over a view of 100,000 rows: {ask:.4f} s, its query alone {alone:.4f} s, ratio {ask / alone:.2f}")
+    print(f"a question over a view of 100,000 rows: {ask:.4f} s, its rows and query alone {alone:.4f} s, ratio {ask / alone:.2f}")
 
 
 if __name__ == "__main__":
