@@ -2,7 +2,7 @@
 //! ends with the status that the call answers. The warehouse is in memory where the words say `:memory:` or are no command
 //! line, and else in a file of SQLite. Where that file can't be opened, all that is printed is `warehouse fault`, and the
 //! status is 3; where memory is out here, it is `want of memory`, and 4. What lies here is trusted, not proved: which house
-//! is made and where the words come from.
+//! is made.
 #![tactic(auto)]
 
 use mesh_house::{MemHouse, Warehouse};
