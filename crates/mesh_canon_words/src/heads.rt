@@ -1,5 +1,7 @@
 // The words of a text, and what the nodes of an expression begin with.
-ghost use Rattle.mesh_canon_words.specs.Words.{Finds, Gives, agg_at, bare_head_at, call_head_at, cell_head_at, compare_op_at, distinct_at, equal_op_at, func_at, grouped_at, head_at, join_at, end_var_at, macro_at, many_func_at, node_head_at, number_op_at, one_func_at, op_head_at, order_op_at, plain_head_at, start_var_at, test_head_at, then_at, truth_op_at, type_at, unit_at, valued_head_at};
+ghost use Rattle.std.specs.Prelude.{map};
+ghost use Rattle.mesh_canon_words.specs.Tables.{entry_of};
+ghost use Rattle.mesh_canon_words.specs.Words.{Finds, Gives, agg_at, bare_head_at, call_head_at, cell_head_at, compare_op_at, distinct_at, equal_op_at, func_at, grouped_at, head_at, join_at, end_var_at, macro_at, many_func_at, node_head_at, number_op_at, one_func_at, op_head_at, order_op_at, plain_head_at, start_var_at, test_head_at, then_at, truth_op_at, type_at, unit_at, valued_head_at, word_at};
 
 use crate::fault::CanonFault;
 use crate::words::{after, expect};
@@ -36,6 +38,19 @@ pub enum Head {
     Agg,
 }
 
+// The value of the first word of a table that the bytes begin with.
+fn word<'a, T: Copy>(bytes: &'a [u8], table: &[(&[u8], T)]) -> Option<(T, &'a [u8])>
+    ensures { Finds (λ x. (x.0, x.1.now)) result (word_at (map entry_of table.now) bytes.now) }
+{
+    match table {
+        [] => None,
+        [entry, others @ ..] => match after(bytes, entry.0) {
+            Some(rest) => Some((entry.1, rest)),
+            None => word(bytes, others),
+        },
+    }
+}
+
 /// The head of a cell.
 #[tactic(auto, unfolding(crate::specs::Words::cell_head_at))]
 pub fn cell_head(bytes: &[u8]) -> Option<(CellHead, &[u8])>
@@ -52,16 +67,12 @@ pub fn cell_head(bytes: &[u8]) -> Option<(CellHead, &[u8])>
 fn valued_head(bytes: &[u8]) -> Option<(CellHead, &[u8])>
     ensures { Finds (λ x. (x.0, x.1.now)) result (valued_head_at bytes.now) }
 {
-    if let Some(rest) = after(bytes, b"(int ") {
-        return Some((CellHead::Int, rest));
-    }
-    if let Some(rest) = after(bytes, b"(text ") {
-        return Some((CellHead::Text, rest));
-    }
-    if let Some(rest) = after(bytes, b"(date ") {
-        return Some((CellHead::Date, rest));
-    }
-    None
+    let words: [(&[u8], CellHead); 3] = [
+        (b"(int ", CellHead::Int),
+        (b"(text ", CellHead::Text),
+        (b"(date ", CellHead::Date),
+    ];
+    word(bytes, &words)
 }
 
 // The head of a cell that is a word.
@@ -69,16 +80,12 @@ fn valued_head(bytes: &[u8]) -> Option<(CellHead, &[u8])>
 fn bare_head(bytes: &[u8]) -> Option<(CellHead, &[u8])>
     ensures { Finds (λ x. (x.0, x.1.now)) result (bare_head_at bytes.now) }
 {
-    if let Some(rest) = after(bytes, b"null") {
-        return Some((CellHead::Null, rest));
-    }
-    if let Some(rest) = after(bytes, b"true") {
-        return Some((CellHead::True, rest));
-    }
-    if let Some(rest) = after(bytes, b"false") {
-        return Some((CellHead::False, rest));
-    }
-    None
+    let words: [(&[u8], CellHead); 3] = [
+        (b"null", CellHead::Null),
+        (b"true", CellHead::True),
+        (b"false", CellHead::False),
+    ];
+    word(bytes, &words)
 }
 
 /// The head of a node.
@@ -114,19 +121,13 @@ fn node_head(bytes: &[u8]) -> Option<(Head, &[u8])>
 fn plain_head(bytes: &[u8]) -> Option<(Head, &[u8])>
     ensures { Finds (λ x. (x.0, x.1.now)) result (plain_head_at bytes.now) }
 {
-    if let Some(rest) = after(bytes, b"(col ") {
-        return Some((Head::Col, rest));
-    }
-    if let Some(rest) = after(bytes, b"(var ") {
-        return Some((Head::Macro, rest));
-    }
-    if let Some(rest) = after(bytes, b"(neg ") {
-        return Some((Head::Neg, rest));
-    }
-    if let Some(rest) = after(bytes, b"(not ") {
-        return Some((Head::Not, rest));
-    }
-    None
+    let words: [(&[u8], Head); 4] = [
+        (b"(col ", Head::Col),
+        (b"(var ", Head::Macro),
+        (b"(neg ", Head::Neg),
+        (b"(not ", Head::Not),
+    ];
+    word(bytes, &words)
 }
 
 // The head of a test or a cast.
@@ -134,19 +135,13 @@ fn plain_head(bytes: &[u8]) -> Option<(Head, &[u8])>
 fn test_head(bytes: &[u8]) -> Option<(Head, &[u8])>
     ensures { Finds (λ x. (x.0, x.1.now)) result (test_head_at bytes.now) }
 {
-    if let Some(rest) = after(bytes, b"(isnull ") {
-        return Some((Head::IsNull, rest));
-    }
-    if let Some(rest) = after(bytes, b"(between ") {
-        return Some((Head::Between, rest));
-    }
-    if let Some(rest) = after(bytes, b"(in ") {
-        return Some((Head::OneOf, rest));
-    }
-    if let Some(rest) = after(bytes, b"(cast ") {
-        return Some((Head::Cast, rest));
-    }
-    None
+    let words: [(&[u8], Head); 4] = [
+        (b"(isnull ", Head::IsNull),
+        (b"(between ", Head::Between),
+        (b"(in ", Head::OneOf),
+        (b"(cast ", Head::Cast),
+    ];
+    word(bytes, &words)
 }
 
 // The head of a call, a CASE or an aggregate.
@@ -154,19 +149,13 @@ fn test_head(bytes: &[u8]) -> Option<(Head, &[u8])>
 fn call_head(bytes: &[u8]) -> Option<(Head, &[u8])>
     ensures { Finds (λ x. (x.0, x.1.now)) result (call_head_at bytes.now) }
 {
-    if let Some(rest) = after(bytes, b"(call ") {
-        return Some((Head::Call, rest));
-    }
-    if let Some(rest) = after(bytes, b"(case ") {
-        return Some((Head::Case, rest));
-    }
-    if let Some(rest) = after(bytes, b"(count") {
-        return Some((Head::CountAll, rest));
-    }
-    if let Some(rest) = after(bytes, b"(agg ") {
-        return Some((Head::Agg, rest));
-    }
-    None
+    let words: [(&[u8], Head); 4] = [
+        (b"(call ", Head::Call),
+        (b"(case ", Head::Case),
+        (b"(count", Head::CountAll),
+        (b"(agg ", Head::Agg),
+    ];
+    word(bytes, &words)
 }
 
 // The head of an operator.
@@ -199,22 +188,14 @@ fn compare_op(bytes: &[u8]) -> Option<(Op, &[u8])>
 fn number_op(bytes: &[u8]) -> Option<(Op, &[u8])>
     ensures { Finds (λ x. (x.0, x.1.now)) result (number_op_at bytes.now) }
 {
-    if let Some(rest) = after(bytes, b"(add ") {
-        return Some((Op::Add, rest));
-    }
-    if let Some(rest) = after(bytes, b"(sub ") {
-        return Some((Op::Sub, rest));
-    }
-    if let Some(rest) = after(bytes, b"(mul ") {
-        return Some((Op::Mul, rest));
-    }
-    if let Some(rest) = after(bytes, b"(div ") {
-        return Some((Op::Div, rest));
-    }
-    if let Some(rest) = after(bytes, b"(rem ") {
-        return Some((Op::Rem, rest));
-    }
-    None
+    let words: [(&[u8], Op); 5] = [
+        (b"(add ", Op::Add),
+        (b"(sub ", Op::Sub),
+        (b"(mul ", Op::Mul),
+        (b"(div ", Op::Div),
+        (b"(rem ", Op::Rem),
+    ];
+    word(bytes, &words)
 }
 
 // The head of an operator of texts, or of one that asks whether two are equal.
@@ -222,16 +203,8 @@ fn number_op(bytes: &[u8]) -> Option<(Op, &[u8])>
 fn equal_op(bytes: &[u8]) -> Option<(Op, &[u8])>
     ensures { Finds (λ x. (x.0, x.1.now)) result (equal_op_at bytes.now) }
 {
-    if let Some(rest) = after(bytes, b"(cat ") {
-        return Some((Op::Cat, rest));
-    }
-    if let Some(rest) = after(bytes, b"(eq ") {
-        return Some((Op::Eq, rest));
-    }
-    if let Some(rest) = after(bytes, b"(ne ") {
-        return Some((Op::Ne, rest));
-    }
-    None
+    let words: [(&[u8], Op); 3] = [(b"(cat ", Op::Cat), (b"(eq ", Op::Eq), (b"(ne ", Op::Ne)];
+    word(bytes, &words)
 }
 
 // The head of an operator that asks which of two comes first.
@@ -239,19 +212,13 @@ fn equal_op(bytes: &[u8]) -> Option<(Op, &[u8])>
 fn order_op(bytes: &[u8]) -> Option<(Op, &[u8])>
     ensures { Finds (λ x. (x.0, x.1.now)) result (order_op_at bytes.now) }
 {
-    if let Some(rest) = after(bytes, b"(lt ") {
-        return Some((Op::Lt, rest));
-    }
-    if let Some(rest) = after(bytes, b"(le ") {
-        return Some((Op::Le, rest));
-    }
-    if let Some(rest) = after(bytes, b"(gt ") {
-        return Some((Op::Gt, rest));
-    }
-    if let Some(rest) = after(bytes, b"(ge ") {
-        return Some((Op::Ge, rest));
-    }
-    None
+    let words: [(&[u8], Op); 4] = [
+        (b"(lt ", Op::Lt),
+        (b"(le ", Op::Le),
+        (b"(gt ", Op::Gt),
+        (b"(ge ", Op::Ge),
+    ];
+    word(bytes, &words)
 }
 
 // The head of an operator of truth values.
@@ -259,13 +226,8 @@ fn order_op(bytes: &[u8]) -> Option<(Op, &[u8])>
 fn truth_op(bytes: &[u8]) -> Option<(Op, &[u8])>
     ensures { Finds (λ x. (x.0, x.1.now)) result (truth_op_at bytes.now) }
 {
-    if let Some(rest) = after(bytes, b"(and ") {
-        return Some((Op::And, rest));
-    }
-    if let Some(rest) = after(bytes, b"(or ") {
-        return Some((Op::Or, rest));
-    }
-    None
+    let words: [(&[u8], Op); 2] = [(b"(and ", Op::And), (b"(or ", Op::Or)];
+    word(bytes, &words)
 }
 
 /// The word of a type.
@@ -273,19 +235,13 @@ fn truth_op(bytes: &[u8]) -> Option<(Op, &[u8])>
 pub fn column_type(bytes: &[u8]) -> Option<(ColType, &[u8])>
     ensures { Finds (λ x. (x.0, x.1.now)) result (type_at bytes.now) }
 {
-    if let Some(rest) = after(bytes, b"int") {
-        return Some((ColType::Int, rest));
-    }
-    if let Some(rest) = after(bytes, b"text") {
-        return Some((ColType::Text, rest));
-    }
-    if let Some(rest) = after(bytes, b"date") {
-        return Some((ColType::Date, rest));
-    }
-    if let Some(rest) = after(bytes, b"bool") {
-        return Some((ColType::Bool, rest));
-    }
-    None
+    let words: [(&[u8], ColType); 4] = [
+        (b"int", ColType::Int),
+        (b"text", ColType::Text),
+        (b"date", ColType::Date),
+        (b"bool", ColType::Bool),
+    ];
+    word(bytes, &words)
 }
 
 /// The word of a type and the sign behind it.
@@ -316,19 +272,13 @@ pub fn func(bytes: &[u8]) -> Option<(Func, &[u8])>
 fn one_func(bytes: &[u8]) -> Option<(Func, &[u8])>
     ensures { Finds (λ x. (x.0, x.1.now)) result (one_func_at bytes.now) }
 {
-    if let Some(rest) = after(bytes, b"abs ") {
-        return Some((Func::Abs, rest));
-    }
-    if let Some(rest) = after(bytes, b"length ") {
-        return Some((Func::Length, rest));
-    }
-    if let Some(rest) = after(bytes, b"upper ") {
-        return Some((Func::Upper, rest));
-    }
-    if let Some(rest) = after(bytes, b"lower ") {
-        return Some((Func::Lower, rest));
-    }
-    None
+    let words: [(&[u8], Func); 4] = [
+        (b"abs ", Func::Abs),
+        (b"length ", Func::Length),
+        (b"upper ", Func::Upper),
+        (b"lower ", Func::Lower),
+    ];
+    word(bytes, &words)
 }
 
 // The word of a function of several values and the space behind it.
@@ -336,13 +286,8 @@ fn one_func(bytes: &[u8]) -> Option<(Func, &[u8])>
 fn many_func(bytes: &[u8]) -> Option<(Func, &[u8])>
     ensures { Finds (λ x. (x.0, x.1.now)) result (many_func_at bytes.now) }
 {
-    if let Some(rest) = after(bytes, b"nullif ") {
-        return Some((Func::Nullif, rest));
-    }
-    if let Some(rest) = after(bytes, b"coalesce ") {
-        return Some((Func::Coalesce, rest));
-    }
-    None
+    let words: [(&[u8], Func); 2] = [(b"nullif ", Func::Nullif), (b"coalesce ", Func::Coalesce)];
+    word(bytes, &words)
 }
 
 /// The word of an aggregate and the space behind it.
@@ -350,22 +295,14 @@ fn many_func(bytes: &[u8]) -> Option<(Func, &[u8])>
 pub fn aggregate(bytes: &[u8]) -> Option<(AggKind, &[u8])>
     ensures { Finds (λ x. (x.0, x.1.now)) result (agg_at bytes.now) }
 {
-    if let Some(rest) = after(bytes, b"count ") {
-        return Some((AggKind::Count, rest));
-    }
-    if let Some(rest) = after(bytes, b"countd ") {
-        return Some((AggKind::Countd, rest));
-    }
-    if let Some(rest) = after(bytes, b"sum ") {
-        return Some((AggKind::Sum, rest));
-    }
-    if let Some(rest) = after(bytes, b"min ") {
-        return Some((AggKind::Min, rest));
-    }
-    if let Some(rest) = after(bytes, b"max ") {
-        return Some((AggKind::Max, rest));
-    }
-    None
+    let words: [(&[u8], AggKind); 5] = [
+        (b"count ", AggKind::Count),
+        (b"countd ", AggKind::Countd),
+        (b"sum ", AggKind::Sum),
+        (b"min ", AggKind::Min),
+        (b"max ", AggKind::Max),
+    ];
+    word(bytes, &words)
 }
 
 /// The word of a macro.
@@ -384,16 +321,12 @@ pub fn macro_var(bytes: &[u8]) -> Option<(Var, &[u8])>
 fn start_var(bytes: &[u8]) -> Option<(Var, &[u8])>
     ensures { Finds (λ x. (x.0, x.1.now)) result (start_var_at bytes.now) }
 {
-    if let Some(rest) = after(bytes, b"start_date") {
-        return Some((Var::StartDate, rest));
-    }
-    if let Some(rest) = after(bytes, b"start_ds") {
-        return Some((Var::StartDs, rest));
-    }
-    if let Some(rest) = after(bytes, b"start_epoch") {
-        return Some((Var::StartEpoch, rest));
-    }
-    None
+    let words: [(&[u8], Var); 3] = [
+        (b"start_date", Var::StartDate),
+        (b"start_ds", Var::StartDs),
+        (b"start_epoch", Var::StartEpoch),
+    ];
+    word(bytes, &words)
 }
 
 // The word of a macro for the end.
@@ -401,16 +334,12 @@ fn start_var(bytes: &[u8]) -> Option<(Var, &[u8])>
 fn end_var(bytes: &[u8]) -> Option<(Var, &[u8])>
     ensures { Finds (λ x. (x.0, x.1.now)) result (end_var_at bytes.now) }
 {
-    if let Some(rest) = after(bytes, b"end_date") {
-        return Some((Var::EndDate, rest));
-    }
-    if let Some(rest) = after(bytes, b"end_ds") {
-        return Some((Var::EndDs, rest));
-    }
-    if let Some(rest) = after(bytes, b"end_epoch") {
-        return Some((Var::EndEpoch, rest));
-    }
-    None
+    let words: [(&[u8], Var); 3] = [
+        (b"end_date", Var::EndDate),
+        (b"end_ds", Var::EndDs),
+        (b"end_epoch", Var::EndEpoch),
+    ];
+    word(bytes, &words)
 }
 
 /// The word of a join and the space behind it.
@@ -418,19 +347,13 @@ fn end_var(bytes: &[u8]) -> Option<(Var, &[u8])>
 pub fn join(bytes: &[u8]) -> Option<(Join, &[u8])>
     ensures { Finds (λ x. (x.0, x.1.now)) result (join_at bytes.now) }
 {
-    if let Some(rest) = after(bytes, b"first ") {
-        return Some((Join::First, rest));
-    }
-    if let Some(rest) = after(bytes, b"inner ") {
-        return Some((Join::Inner, rest));
-    }
-    if let Some(rest) = after(bytes, b"left ") {
-        return Some((Join::Left, rest));
-    }
-    if let Some(rest) = after(bytes, b"cross ") {
-        return Some((Join::Cross, rest));
-    }
-    None
+    let words: [(&[u8], Join); 4] = [
+        (b"first ", Join::First),
+        (b"inner ", Join::Inner),
+        (b"left ", Join::Left),
+        (b"cross ", Join::Cross),
+    ];
+    word(bytes, &words)
 }
 
 /// The word of a unit and the space behind it.
@@ -438,13 +361,8 @@ pub fn join(bytes: &[u8]) -> Option<(Join, &[u8])>
 pub fn unit(bytes: &[u8]) -> Option<(Unit, &[u8])>
     ensures { Finds (λ x. (x.0, x.1.now)) result (unit_at bytes.now) }
 {
-    if let Some(rest) = after(bytes, b"hour ") {
-        return Some((Unit::Hour, rest));
-    }
-    if let Some(rest) = after(bytes, b"day ") {
-        return Some((Unit::Day, rest));
-    }
-    None
+    let words: [(&[u8], Unit); 2] = [(b"hour ", Unit::Hour), (b"day ", Unit::Day)];
+    word(bytes, &words)
 }
 
 /// Whether a SELECT is distinct, and the space behind that word.
@@ -452,13 +370,8 @@ pub fn unit(bytes: &[u8]) -> Option<(Unit, &[u8])>
 pub fn distinct(bytes: &[u8]) -> Option<(bool, &[u8])>
     ensures { Finds (λ x. (x.0, x.1.now)) result (distinct_at bytes.now) }
 {
-    if let Some(rest) = after(bytes, b"distinct ") {
-        return Some((true, rest));
-    }
-    if let Some(rest) = after(bytes, b"all ") {
-        return Some((false, rest));
-    }
-    None
+    let words: [(&[u8], bool); 2] = [(b"distinct ", true), (b"all ", false)];
+    word(bytes, &words)
 }
 
 /// Whether a SELECT is grouped, and the space behind that word.
@@ -466,11 +379,6 @@ pub fn distinct(bytes: &[u8]) -> Option<(bool, &[u8])>
 pub fn grouped(bytes: &[u8]) -> Option<(bool, &[u8])>
     ensures { Finds (λ x. (x.0, x.1.now)) result (grouped_at bytes.now) }
 {
-    if let Some(rest) = after(bytes, b"grouped ") {
-        return Some((true, rest));
-    }
-    if let Some(rest) = after(bytes, b"plain ") {
-        return Some((false, rest));
-    }
-    None
+    let words: [(&[u8], bool); 2] = [(b"grouped ", true), (b"plain ", false)];
+    word(bytes, &words)
 }

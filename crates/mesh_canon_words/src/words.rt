@@ -107,10 +107,10 @@ pub fn day(bytes: &[u8]) -> Result<(i32, &[u8]), CanonFault>
     Ok((number as i32, rest))
 }
 
-/// A text with its length.
+// A text with its length, where it lies.
 #[tactic(auto, unfolding(crate::specs::Words::text_at))]
-pub fn text(alloc: Global, bytes: &[u8]) -> Result<(Str, &[u8]), CanonFault>
-    ensures { Gives (λ x. (x.0, x.1.now)) result (text_at bytes.now) }
+fn text_lying(bytes: &[u8]) -> Result<(&[u8], &[u8]), CanonFault>
+    ensures { Gives (λ x. (x.0.now, x.1.now)) result (text_at bytes.now) }
 {
     let (length, rest) = number(bytes, bytes.len() as u64)?;
     let rest = expect(rest, b":")?;
@@ -118,8 +118,15 @@ pub fn text(alloc: Global, bytes: &[u8]) -> Result<(Str, &[u8]), CanonFault>
     if rest.len() < length {
         return Err(CanonFault::NotCanonical);
     }
-    let (front, rest) = rest.split_at(length);
-    Ok((Seq::from_vec(Vec::from_slice(alloc, front)?), rest))
+    Ok(rest.split_at(length))
+}
+
+/// A text with its length.
+pub fn text(alloc: Global, bytes: &[u8]) -> Result<(Str, &[u8]), CanonFault>
+    ensures { Gives (λ x. (x.0, x.1.now)) result (text_at bytes.now) }
+{
+    let (text, rest) = text_lying(bytes)?;
+    Ok((Seq::from_vec(Vec::from_slice(alloc, text)?), rest))
 }
 
 /// A text and the sign behind it.
@@ -131,7 +138,7 @@ pub fn text_then<'a>(
 ) -> Result<(Str, &'a [u8]), CanonFault>
     ensures { Gives (λ x. (x.0, x.1.now)) result (then_at sign.now text_at bytes.now) }
 {
-    let (text, rest) = text(alloc, bytes)?;
+    let (text, rest) = text_lying(bytes)?;
     let rest = expect(rest, sign)?;
-    Ok((text, rest))
+    Ok((Seq::from_vec(Vec::from_slice(alloc, text)?), rest))
 }

@@ -1,4 +1,5 @@
 pub mod Along
+pub mod Booked
 pub mod Each
 pub mod After
 pub mod Known

@@ -22,6 +22,10 @@ thin_book b snapshots versions = record b {
   versions = outside name_cmp version_object versions b.versions;
 }
 
+-- the same of all that is to go
+abbrev pub thinned : Book → Gone → Book
+thinned b gone = thin_book b gone.snapshots gone.versions
+
 -- the world without what is to go
 abbrev pub settled : World → Gone → World
 settled w gone = record w {

@@ -1,3 +1,5 @@
+-- Booked: the book's part in the changes of a world.
+pub mod Booked
 -- Fails: which calls of a house in memory fail.
 pub mod Fails
 -- Gone: a world of which something is still to go.

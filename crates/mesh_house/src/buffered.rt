@@ -1,18 +1,17 @@
 // A world that leaves what goes for later, so that much of it goes in one pass.
 ghost use Rattle.std.specs.Prelude.{◌≡◌, IfOk, OnOk, OnErr};
 ghost use Rattle.mesh_book.specs.Changes.{delete_snapshot, forget_version};
-ghost use Rattle.mesh_house.specs.World.{head, body, book};
+ghost use Rattle.mesh_house.specs.World.{head, body, view, book};
 ghost use Rattle.mesh_house.specs.Step.{drop_object, step, with_book, write_range};
 
-use crate::gone::Gone;
+use crate::copies::some_copied;
+use crate::gone::{Gone, snapshot_goes, version_goes};
 use crate::latest::{Latest, settle_known, step, write};
 use crate::objects::Body;
-use crate::outside::may_wait;
 use crate::sources::SourceTables;
-use crate::world::{Change, ViewOf, World};
-use mesh_base::Ref;
+use crate::world::{Change, World};
 use mesh_book::Book;
-use mesh_list::{Duplicate, Memory, Sorted};
+use mesh_list::{Duplicate, Memory};
 use mesh_values::{Columns, Name, Rows, Str};
 use std::alloc::Global;
 use std::marker::Model;
@@ -78,10 +77,13 @@ impl Buffered {
         &self.world.sources
     }
 
-    pub fn views(&self) -> &Sorted<ViewOf>
-        ensures { result.now ≡ self.now.views }
+    pub fn view(&self, name: &Name) -> Result<Option<Name>, Memory>
+        ensures { IfOk result (λ target. target ≡ view self.now name.now) }
     {
-        &self.world.views
+        match self.world.views.find(name) {
+            Some(view) => some_copied(&view.target),
+            None => Ok(None),
+        }
     }
 
     #[tactic(auto, using(crate::proofs::Settled::settled_nothing))]
@@ -116,12 +118,7 @@ impl Buffered {
         ensures ok { OnOk result (self.new ≡ with_book self.old (forget_version self.old.book object.now)) }
         ensures err { OnErr result (self.new ≡ self.old) }
     {
-        let versions = self.world.book.versions.as_slice();
-        if may_wait(self.gone.versions.as_slice(), versions) {
-            return self.gone.versions.place(object.copy()?);
-        }
-        self.world.book.forget_version(object);
-        Ok(())
+        version_goes(&mut self.world.book, &mut self.gone, object)
     }
 
     // The snapshot goes. At `Err` nothing has changed.
@@ -129,16 +126,8 @@ impl Buffered {
         ensures ok { OnOk result (self.new ≡ with_book self.old (delete_snapshot self.old.book (record { name = name.now; fingerprint = fingerprint.now }))) }
         ensures err { OnErr result (self.new ≡ self.old) }
     {
-        let key = Ref {
-            name: name.copy()?,
-            fingerprint: *fingerprint,
-        };
-        let snapshots = self.world.book.snapshots.as_slice();
-        if may_wait(self.gone.snapshots.as_slice(), snapshots) {
-            return self.gone.snapshots.place(key);
-        }
-        self.world.book.delete_snapshot(&key);
-        Ok(())
+        let book = &mut self.world.book;
+        snapshot_goes(book, &mut self.gone, name, fingerprint)
     }
 
     // The object goes. At `Err` nothing has changed.

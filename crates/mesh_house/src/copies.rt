@@ -1,29 +1,61 @@
 // Copies of what a warehouse has, which are equal to it.
+ghost use Rattle.std.specs.Prelude.{◌≡◌, IfOk, Ok, Some};
+
 use crate::objects::{Body, Object};
 use crate::world::{ViewOf, World};
-use mesh_list::{Duplicate, Memory, both};
+use mesh_base::Own;
+use mesh_list::{Duplicate, Memory, both, together};
+use mesh_values::{Columns, Name, Pairs, Rows};
+
+/// A copy of what is there.
+pub(crate) fn some_copied<T: Duplicate>(item: &T) -> Result<Option<T>, Memory>
+    ensures { IfOk result (λ made. made ≡ Some item.now) }
+{
+    Ok(Some(item.copy()?))
+}
+
+/// A table's body with these rows.
+pub(crate) fn table_of(rows: &Rows) -> Result<Body, Memory>
+    ensures { IfOk result (λ made. made ≡ Body.Rows rows.now) }
+{
+    Ok(Body::Rows(rows.copy()?))
+}
+
+/// A stored query's body.
+pub(crate) fn query_of(own: &Own, targets: &Pairs) -> Result<Body, Memory>
+    ensures { IfOk result (λ made. made ≡ Body.Stored own.now targets.now) }
+{
+    let (own, targets) = both(own, targets)?;
+    Ok(Body::Stored { own, targets })
+}
+
+/// An object of these parts, where all of them were made.
+pub(crate) fn object_of(
+    head: Result<(Name, Columns), Memory>,
+    body: Result<Body, Memory>,
+) -> Result<Object, Memory>
+    ensures { IfOk result (λ made. (head ≡ Ok (made.name, made.columns)) × (body ≡ Ok made.body)) }
+{
+    let ((name, columns), body) = together(head, body)?;
+    Ok(Object {
+        name,
+        columns,
+        body,
+    })
+}
 
 impl Duplicate for Body {
     fn copy(&self) -> Result<Body, Memory> {
         match self {
-            Body::Rows(rows) => Ok(Body::Rows(rows.copy()?)),
-            Body::Stored { own, targets } => {
-                let (own, targets) = both(own, targets)?;
-                Ok(Body::Stored { own, targets })
-            }
+            Body::Rows(rows) => table_of(rows),
+            Body::Stored { own, targets } => query_of(own, targets),
         }
     }
 }
 
 impl Duplicate for Object {
     fn copy(&self) -> Result<Object, Memory> {
-        let name = self.name.copy()?;
-        let (columns, body) = both(&self.columns, &self.body)?;
-        Ok(Object {
-            name,
-            columns,
-            body,
-        })
+        object_of(both(&self.name, &self.columns), self.body.copy())
     }
 }
 
@@ -36,8 +68,8 @@ impl Duplicate for ViewOf {
 
 impl Duplicate for World {
     fn copy(&self) -> Result<World, Memory> {
-        let (sources, objects) = both(&self.sources, &self.objects)?;
-        let (views, book) = both(&self.views, &self.book)?;
+        let first = both(&self.sources, &self.objects);
+        let ((sources, objects), (views, book)) = together(first, both(&self.views, &self.book))?;
         Ok(World {
             sources,
             objects,

@@ -6,7 +6,7 @@ use mesh_list::{Duplicate, Memory, Seq};
 
 /// A call that is to fail. Calls of `change` are counted from 0, and so are, apart from them, the calls that only read.
 /// A change fails before or after it has taken effect.
-#[derive(Clone, Copy, PartialEq, Eq)]
+#[derive(Clone, Copy)]
 pub struct Fail {
     pub change: bool,
     pub call: u64,

@@ -1,5 +1,6 @@
 // A house in memory, which tells everything and whose calls fail by a list.
-ghost use Rattle.std.specs.Prelude.{◌≡◌, []};
+ghost use Rattle.std.specs.Prelude.{◌≡◌, [], Ok, IfOk, OnErr, IsErr, IsErrOf};
+ghost use Rattle.mesh_house.specs.declared.house.WhFail.TheVariants.{Failed};
 ghost use Rattle.mesh_house.specs.World.{empty_world, head, body, view, book};
 ghost use Rattle.mesh_house.specs.House.{Changes, Reads};
 ghost use Rattle.mesh_house.specs.Memory.{memory_told, memory_world, memory_fails, fresh, next_change, next_read, ChangesAsListed, ReadsAsListed};
@@ -11,9 +12,21 @@ use crate::objects::Body;
 use crate::sources::SourceTables;
 use crate::world::{Change, World};
 use mesh_book::Book;
-use mesh_list::{Duplicate, Seq};
+use mesh_list::{Memory, Seq};
 use mesh_values::{Columns, Name};
 use std::alloc::Global;
+
+// What was read or done, where there was memory for it.
+fn or_wanting<T: Drop>(done: Result<T, Memory>) -> Result<T, WhFail>
+    ensures ok { IfOk result (λ x. done ≡ Ok x) }
+    ensures err { OnErr result (IsErr done) }
+    ensures wanting { IsErrOf result Failed → ⊥ }
+{
+    match done {
+        Ok(value) => Ok(value),
+        Err(_) => Err(WhFail::Memory),
+    }
+}
 
 /// A world in memory.
 pub struct MemHouse {
@@ -115,7 +128,7 @@ impl Warehouse for MemHouse {
         self.next_change = number.saturating_add(1);
         self.calls = self.calls.saturating_add(1);
         match change_fails(self.fails.as_slice(), number) {
-            None => Ok(self.world.step(alloc, change)?),
+            None => or_wanting(self.world.step(alloc, change)),
             Some(after) => {
                 self.faults = self.faults.saturating_add(1);
                 if after {
@@ -131,7 +144,7 @@ impl Warehouse for MemHouse {
         ensures listed { ReadsAsListed self.old self.new result }
     {
         self.reading()?;
-        Ok(self.world.head(name)?)
+        or_wanting(self.world.head(name))
     }
 
     fn body(&mut self, alloc: Global, name: &Name) -> Result<Option<Body>, WhFail>
@@ -139,7 +152,7 @@ impl Warehouse for MemHouse {
         ensures listed { ReadsAsListed self.old self.new result }
     {
         self.reading()?;
-        Ok(self.world.body(name)?)
+        or_wanting(self.world.body(name))
     }
 
     fn view(&mut self, alloc: Global, name: &Name) -> Result<Option<Name>, WhFail>
@@ -147,10 +160,7 @@ impl Warehouse for MemHouse {
         ensures listed { ReadsAsListed self.old self.new result }
     {
         self.reading()?;
-        match self.world.views().find(name) {
-            Some(view) => Ok(Some(view.target.copy()?)),
-            None => Ok(None),
-        }
+        or_wanting(self.world.view(name))
     }
 
     fn book(&mut self, alloc: Global) -> Result<Book, WhFail>
@@ -158,7 +168,7 @@ impl Warehouse for MemHouse {
         ensures listed { ReadsAsListed self.old self.new result }
     {
         self.reading()?;
-        Ok(self.world.book()?)
+        or_wanting(self.world.book())
     }
 
     fn faults(&self) -> u64 {

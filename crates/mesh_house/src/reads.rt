@@ -1,11 +1,21 @@
 // What is read of a world.
-ghost use Rattle.std.specs.Prelude.{◌≡◌, IfOk};
+ghost use Rattle.std.specs.Prelude.{◌≡◌, IfOk, Some};
 ghost use Rattle.mesh_house.specs.World.{head, body};
 
+use crate::copies::{some_copied, table_of};
 use crate::objects::Body;
 use crate::world::World;
-use mesh_list::{Duplicate, Memory};
+use mesh_base::Input;
+use mesh_list::Memory;
 use mesh_values::{Columns, Name, has_two_underscores};
+
+// What a source keeps.
+fn source_body(source: &Input) -> Result<Option<Body>, Memory>
+    ensures { IfOk result (λ kept. kept ≡ Some (Body.Rows source.now.rows)) }
+{
+    let body = table_of(&source.rows)?;
+    Ok(Some(body))
+}
 
 impl World {
     /// The columns of the object of that name where two underscores adjoin in its schema, and else of the source.
@@ -14,12 +24,12 @@ impl World {
     {
         if has_two_underscores(name.schema.as_slice()) {
             match self.objects.find(name) {
-                Some(object) => Ok(Some(object.columns.copy()?)),
+                Some(object) => some_copied(&object.columns),
                 None => Ok(None),
             }
         } else {
             match self.sources.find(name) {
-                Some(source) => Ok(Some(source.columns.copy()?)),
+                Some(source) => some_copied(&source.columns),
                 None => Ok(None),
             }
         }
@@ -31,12 +41,12 @@ impl World {
     {
         if has_two_underscores(name.schema.as_slice()) {
             match self.objects.find(name) {
-                Some(object) => Ok(Some(object.body.copy()?)),
+                Some(object) => some_copied(&object.body),
                 None => Ok(None),
             }
         } else {
             match self.sources.find(name) {
-                Some(source) => Ok(Some(Body::Rows(source.rows.copy()?))),
+                Some(source) => source_body(source),
                 None => Ok(None),
             }
         }

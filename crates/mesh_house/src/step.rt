@@ -1,13 +1,15 @@
 // What a change makes of a world.
-ghost use Rattle.std.specs.Prelude.{◌≡◌, [], ◌++◌, true, IfOk, OnOk, OnErr, IsTrue};
+ghost use Rattle.std.specs.Prelude.{◌≡◌, [], ◌++◌, true, IfOk, OnOk, OnErr, IsOk, IsTrue};
 ghost use Rattle.std.specs.Option.{option_copied};
 ghost use Rattle.mesh_book.specs.Changes.{at_version, put_snapshot, record_marks, set_pending, delete_snapshot};
 ghost use Rattle.mesh_seconds.specs.Rows.{are_before, rewritten};
+ghost use Rattle.mesh_house.specs.Booked.{booked, put_back};
 ghost use Rattle.mesh_house.specs.Latest.{ends_body, ends_object};
 ghost use Rattle.mesh_house.specs.Objects.{is_physical};
 ghost use Rattle.mesh_house.specs.World.{empty_world, object_at, version_of};
 ghost use Rattle.mesh_house.specs.Step.{with_object, with_book, kept_rows, load, make_table, make_view, replace_rows, written_object, write_range, point_view, drop_view, drop_object, step};
 
+use crate::copies::{object_of, query_of, some_copied, table_of};
 use crate::objects::{Body, Object, Objects};
 use crate::sources::SourceTables;
 use crate::world::{Change, ViewOf, World};
@@ -29,24 +31,14 @@ fn stored_query(
 ) -> Result<Object, Memory>
     ensures { IfOk result (λ made. made ≡ record { name = name.now; columns = columns.now; body = Body.Stored own.now targets.now }) }
 {
-    let ((name, columns), (own, targets)) = together(both(name, columns), both(own, targets))?;
-    Ok(Object {
-        name,
-        columns,
-        body: Body::Stored { own, targets },
-    })
+    object_of(both(name, columns), query_of(own, targets))
 }
 
 // A table with these rows.
 fn filled_table(name: &Name, columns: &Columns, rows: &Rows) -> Result<Object, Memory>
     ensures { IfOk result (λ made. made ≡ record { name = name.now; columns = columns.now; body = Body.Rows rows.now }) }
 {
-    let ((name, columns), rows) = together(both(name, columns), rows.copy())?;
-    Ok(Object {
-        name,
-        columns,
-        body: Body::Rows(rows),
-    })
+    object_of(both(name, columns), table_of(rows))
 }
 
 // A table that has no rows yet.
@@ -91,6 +83,19 @@ fn kept_rows(alloc: Global, keep: bool, source: Option<&Input>) -> Result<Rows, 
     }
 }
 
+// A source's rows that are kept, and others after them.
+fn loaded_rows(
+    alloc: Global,
+    keep: bool,
+    source: Option<&Input>,
+    rows: &Rows,
+) -> Result<Rows, Memory>
+    ensures { IfOk result (λ all. all ≡ kept_rows keep (option_copied source.entry) ++ rows.now) }
+{
+    let (kept, more) = together(kept_rows(alloc, keep, source), rows.copy())?;
+    joined(kept, more)
+}
+
 // A source with these rows, after those that are kept.
 fn loaded(
     alloc: Global,
@@ -102,8 +107,8 @@ fn loaded(
 ) -> Result<Input, Memory>
     ensures { IfOk result (λ made. made ≡ record { name = name.now; columns = columns.now; rows = kept_rows keep (option_copied source.entry) ++ rows.now }) }
 {
-    let (kept, more) = together(kept_rows(alloc, keep, source), rows.copy())?;
-    let ((name, columns), rows) = together(both(name, columns), joined(kept, more))?;
+    let rows = loaded_rows(alloc, keep, source, rows);
+    let ((name, columns), rows) = together(both(name, columns), rows)?;
     Ok(Input {
         name,
         columns,
@@ -130,6 +135,71 @@ fn write_rows(
         add(old, rows, columns, time, start, end)
     } else {
         rewrite(old, rows, columns, time, start, end)
+    }
+}
+
+fn put_snapshot(book: &mut Book, snapshot: &Snapshot) -> Result<(), Memory>
+    ensures ok { OnOk result (book.new ≡ put_snapshot book.old snapshot.now) }
+    ensures err { OnErr result (book.new ≡ book.old) }
+{
+    book.put_snapshot(snapshot.copy()?)
+}
+
+fn record_marks(book: &mut Book, object: &Name, marks: &Marks) -> Result<(), Memory>
+    ensures ok { OnOk result (book.new ≡ record_marks book.old object.now marks.now) }
+    ensures err { OnErr result (book.new ≡ book.old) }
+{
+    book.record_marks(object, marks.copy()?)
+}
+
+fn set_pending(book: &mut Book, env: &Str, list: &Refs, expires: &Option<i64>) -> Result<(), Memory>
+    ensures ok { OnOk result (book.new ≡ set_pending book.old env.now list.now expires.now) }
+    ensures err { OnErr result (book.new ≡ book.old) }
+{
+    let (env, list) = both(env, list)?;
+    book.set_pending(env, list, *expires)
+}
+
+fn delete_snapshot(book: &mut Book, name: &Name, fingerprint: &[u8; 32]) -> Result<(), Memory>
+    ensures ok { OnOk result (book.new ≡ delete_snapshot book.old (record { name = name.now; fingerprint = fingerprint.now })) }
+    ensures err { OnErr result (book.new ≡ book.old) }
+{
+    let key = Ref {
+        name: name.copy()?,
+        fingerprint: *fingerprint,
+    };
+    book.delete_snapshot(&key);
+    Ok(())
+}
+
+// Makes a change of the book. Changes of tables and views leave it as it is. At `Err` nothing has changed.
+fn change_book(book: &mut Book, change: &Change) -> Result<(), Memory>
+    ensures ok { OnOk result (book.new ≡ booked book.old change.now) }
+    ensures err { OnErr result (book.new ≡ book.old) }
+{
+    match change {
+        Change::Moment { t } => {
+            book.raise_moment(*t);
+            Ok(())
+        }
+        Change::PutSnapshot { snapshot } => put_snapshot(book, snapshot),
+        Change::RecordRange { object, start, end } => book.record_range(object, *start, *end),
+        Change::RecordMarks { object, marks } => record_marks(book, object, marks),
+        Change::SetPending { env, list, expires } => set_pending(book, env, list, expires),
+        Change::Finalize { env } => book.finalize(env),
+        Change::Expire { env } => book.expire(env),
+        Change::ForgetVersion { object } => {
+            book.forget_version(object);
+            Ok(())
+        }
+        Change::DeleteSnapshot { name, fingerprint } => delete_snapshot(book, name, fingerprint),
+        Change::DeleteEnv { env } => {
+            book.delete_env(env);
+            Ok(())
+        }
+        Change::ForgetUnits { list } => forget_units(book, list.as_slice()),
+        Change::Migrate { map } => migrate(book, map.as_slice()),
+        _ => Ok(()),
     }
 }
 
@@ -202,7 +272,7 @@ impl World {
         ensures { IfOk result (λ version. version ≡ version_of self.now.book object.now) }
     {
         match self.book.versions.find(object) {
-            Some(version) => Ok(Some(version.copy()?)),
+            Some(version) => some_copied(version),
             None => Ok(None),
         }
     }
@@ -224,6 +294,23 @@ impl World {
         }
     }
 
+    // The same where the book was changed. Where it wasn't, nothing changes.
+    fn put_where(
+        &mut self,
+        done: Result<(), Memory>,
+        object: Object,
+        before: Option<Version>,
+    ) -> Result<(), Memory>
+        requires { is_physical object.name ≡ true }
+        ensures ok { OnOk result (IsOk done × (self.new ≡ with_object self.old object)) }
+        ensures err { OnErr result (self.new ≡ put_back done before self.old) }
+    {
+        match done {
+            Ok(()) => self.put_made(object, before),
+            Err(refused) => Err(refused),
+        }
+    }
+
     fn make_table(&mut self, alloc: Global, object: &Name, columns: &Columns) -> Result<(), Memory>
         ensures ok { OnOk result (self.new ≡ make_table self.old object.now columns.now) }
         ensures err { OnErr result (self.new ≡ self.old) }
@@ -233,13 +320,8 @@ impl World {
         }
         let made = empty_table(alloc, object, columns);
         let (made, before) = together(made, self.version_of(object))?;
-        match self.book.make_table(object) {
-            Ok(()) => self.put_made(made, before),
-            Err(refused) => {
-                drop((made, before));
-                Err(refused)
-            }
-        }
+        let done = self.book.make_table(object);
+        self.put_where(done, made, before)
     }
 
     fn make_view(
@@ -257,13 +339,8 @@ impl World {
         }
         let made = stored_query(object, columns, own, targets);
         let (made, before) = together(made, self.version_of(object))?;
-        match self.book.make_view(object) {
-            Ok(()) => self.put_made(made, before),
-            Err(refused) => {
-                drop((made, before));
-                Err(refused)
-            }
-        }
+        let done = self.book.make_view(object);
+        self.put_where(done, made, before)
     }
 
     fn replace_rows(&mut self, object: &Name, rows: &Rows) -> Result<(), Memory>
@@ -330,57 +407,18 @@ impl World {
         drop(self.objects.remove(object));
     }
 
-    fn put_snapshot(&mut self, snapshot: &Snapshot) -> Result<(), Memory>
-        ensures ok { OnOk result (self.new ≡ with_book self.old (put_snapshot self.old.book snapshot.now)) }
-        ensures err { OnErr result (self.new ≡ self.old) }
-    {
-        self.book.put_snapshot(snapshot.copy()?)
-    }
-
-    fn record_marks(&mut self, object: &Name, marks: &Marks) -> Result<(), Memory>
-        ensures ok { OnOk result (self.new ≡ with_book self.old (record_marks self.old.book object.now marks.now)) }
-        ensures err { OnErr result (self.new ≡ self.old) }
-    {
-        self.book.record_marks(object, marks.copy()?)
-    }
-
-    fn set_pending(&mut self, env: &Str, list: &Refs, expires: &Option<i64>) -> Result<(), Memory>
-        ensures ok { OnOk result (self.new ≡ with_book self.old (set_pending self.old.book env.now list.now expires.now)) }
-        ensures err { OnErr result (self.new ≡ self.old) }
-    {
-        let (env, list) = both(env, list)?;
-        self.book.set_pending(env, list, *expires)
-    }
-
-    fn delete_snapshot(&mut self, name: &Name, fingerprint: &[u8; 32]) -> Result<(), Memory>
-        ensures ok { OnOk result (self.new ≡ with_book self.old (delete_snapshot self.old.book (record { name = name.now; fingerprint = fingerprint.now }))) }
-        ensures err { OnErr result (self.new ≡ self.old) }
-    {
-        let key = Ref {
-            name: name.copy()?,
-            fingerprint: *fingerprint,
-        };
-        self.book.delete_snapshot(&key);
-        Ok(())
-    }
-
     /// Makes the change. At `Err` nothing has changed.
     pub fn step(&mut self, alloc: Global, change: &Change) -> Result<(), Memory>
         ensures ok { OnOk result (self.new ≡ step self.old change.now) }
         ensures err { OnErr result (self.new ≡ self.old) }
     {
         match change {
-            Change::Moment { t } => {
-                self.book.raise_moment(*t);
-                Ok(())
-            }
             Change::Load {
                 name,
                 columns,
                 rows,
                 keep,
             } => self.load(alloc, name, columns, rows, *keep),
-            Change::PutSnapshot { snapshot } => self.put_snapshot(snapshot),
             Change::MakeTable { object, columns } => self.make_table(alloc, object, columns),
             Change::MakeView {
                 object,
@@ -396,33 +434,16 @@ impl World {
                 end,
                 rows,
             } => self.write_range(alloc, object, time, *start, *end, rows, false),
-            Change::RecordRange { object, start, end } => {
-                self.book.record_range(object, *start, *end)
-            }
-            Change::RecordMarks { object, marks } => self.record_marks(object, marks),
-            Change::SetPending { env, list, expires } => self.set_pending(env, list, expires),
             Change::PointView { view, target } => self.point_view(view, target),
             Change::DropView { view } => {
                 self.drop_view(view);
-                Ok(())
-            }
-            Change::Finalize { env } => self.book.finalize(env),
-            Change::Expire { env } => self.book.expire(env),
-            Change::ForgetVersion { object } => {
-                self.book.forget_version(object);
                 Ok(())
             }
             Change::DropObject { object } => {
                 self.drop_object(object);
                 Ok(())
             }
-            Change::DeleteSnapshot { name, fingerprint } => self.delete_snapshot(name, fingerprint),
-            Change::DeleteEnv { env } => {
-                self.book.delete_env(env);
-                Ok(())
-            }
-            Change::ForgetUnits { list } => forget_units(&mut self.book, list.as_slice()),
-            Change::Migrate { map } => migrate(&mut self.book, map.as_slice()),
+            _ => change_book(&mut self.book, change),
         }
     }
 }

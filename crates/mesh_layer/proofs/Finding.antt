@@ -38,6 +38,28 @@ told_later a b w p is = p.world ∙ is
 pub read_is : {X : Type 0} (answer : World → X) (a b : Told) (x : X) → Reads answer a b (Ok x) → (w : World) → a.world ≡ Some w → x ≡ answer w
 read_is answer a b x h w is = rw is at h.ok
 
+-- a reading fails where an earlier one failed
+pub read_fails : {X Y : Type 0} (answer : World → X) (wanted : World → Y) (a b : Told) (e : WhFail) (r : Result Y WhFail) → Reads answer a b (Err e) → IsErrAnd r (λ y. y ≡ e) → Reads wanted a b r
+read_fails answer wanted a b e (Ok x) h is = absurd is
+read_fails answer wanted a b e (Err y) h is = record {
+  world = h.world;
+  calls = h.calls;
+  faults = h.faults;
+  failed = λ y_is. let e_is : Err e ≡ Err house.Failed = cc in h.failed e_is;
+  ok = tt;
+}
+
+-- or where memory ran out behind it
+pub read_wants : {X Y : Type 0} (answer : World → X) (wanted : World → Y) (a b : Told) (q : Result X WhFail) (r : Result Y WhFail) → Reads answer a b q → IsErrAnd r (λ y. y ≡ house.Memory) → Reads wanted a b r
+read_wants answer wanted a b q (Ok x) h is = absurd is
+read_wants answer wanted a b q (Err y) h is = record {
+  world = h.world;
+  calls = h.calls;
+  faults = h.faults;
+  failed = λ y_is. absurd (cc);
+  ok = tt;
+}
+
 rose_later : (a b c : Told) → IsUntouched a b → Rose b.faults c.faults → Rose a.faults c.faults
 rose_later a b c p rose = omega (arith, p.faults, rose)
 

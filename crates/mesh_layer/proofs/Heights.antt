@@ -1,5 +1,5 @@
 -- What shows rows shows them through more stored queries too, and there nothing is lost.
-use Rattle.std.proofs.Common.{◌≡◌, ℕ, zero, suc, ◌+◌, ◌-◌, ◌≤◌, ◌<◌, Bool, true, false, cond, List, [], ◌∷◌, ◌++◌, map, length, take, get_or, Some, None, refl, sym, ap, ◌∙◌, subst, arith, add-one}
+use Rattle.std.proofs.Common.{◌≡◌, ◌≢◌, ℕ, zero, suc, ◌+◌, ◌-◌, ◌≤◌, ◌<◌, Bool, true, false, cond, List, [], ◌∷◌, ◌++◌, map, length, take, get_or, Some, None, refl, sym, ap, ◌∙◌, subst, arith, add-one}
 use Rattle.std.proofs.lemmas.List.{take_more}
 use Rattle.std.specs.Option.{option_map, option_and_then}
 use Rattle.std.specs.declared.option.Option.{Option}
@@ -213,3 +213,14 @@ lost_deeper w zero n b o lt here is = absurd (omega arith)
 lost_deeper w (suc d) n b o lt here is =
     let same : suc d - 1 ≡ d = omega arith in
     ap (lost_in (lost_through d w) n) here ∙ subst (λ (m : ℕ). lost_in (lost_through m w) n (Some b) ≡ Some o) same is
+
+-- an object that isn't there is lost
+pub nothing_there : (w : World) (d : ℕ) (n : Name) (b : Option Body) → ((x : Body) → b ≢ Some x) → b ≡ body_of (object_at w n) → lost_through d w n ≡ Some n
+nothing_there w zero n None other is = ap (lost_among_tables n) (sym is)
+nothing_there w (suc d) n None other is = ap (lost_in (lost_through d w) n) (sym is)
+nothing_there w d n (Some x) other is = absurd (other x refl)
+
+-- where no stored query may stand, one is lost
+pub too_deep : (w : World) (d : ℕ) (n : Name) (own : Own) (ts : List Pair) → d ≡ 0 → body_of (object_at w n) ≡ Some (Stored own ts) → lost_through d w n ≡ Some n
+too_deep w zero n own ts none here = ap (lost_among_tables n) here
+too_deep w (suc d) n own ts none here = absurd (omega (arith, none))

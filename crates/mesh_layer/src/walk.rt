@@ -131,6 +131,30 @@ fn push_table(tables: &mut Inputs, name: &Name, found: Found) -> Result<(), Memo
     tables.push(table)
 }
 
+/// An object's columns beside its rows, which are kept as they are found.
+fn found_with<W: Warehouse>(
+    alloc: Global,
+    house: &mut W,
+    name: &Name,
+    height: u64,
+    rows: Rows,
+    known: &mut Known,
+) -> Result<Found, ShowFault>
+    ensures height { IfOk result (λ f. f.height ≡ height) }
+    ensures finds { Finds (λ w. AreKnown w known.old × (rows_through height w name.now ≡ Some rows))
+        (λ w f. AreKnown w known.new × IsFound w name.now f)
+        (λ w. None) (W.told house.old) (W.told house.new) result }
+{
+    let columns = columns_at(alloc, house, name)?;
+    let found = Found {
+        height,
+        columns,
+        rows,
+    };
+    keep(known, name, &found)?;
+    Ok(found)
+}
+
 /// The rows behind an object, read and computed, and how many stored queries stand behind one another there.
 #[cycle(walk)]
 pub(crate) fn rows_behind<W: Warehouse>(
@@ -236,12 +260,5 @@ pub(crate) fn object_behind<W: Warehouse>(
         return Ok(found);
     }
     let (height, rows) = rows_behind(alloc, house, depth, name, known)?;
-    let columns = columns_at(alloc, house, name)?;
-    let found = Found {
-        height,
-        columns,
-        rows,
-    };
-    keep(known, name, &found)?;
-    Ok(found)
+    found_with(alloc, house, name, height, rows, known)
 }

@@ -18,8 +18,6 @@ pub mod ByName
 pub mod Nodes
 -- Examples: models worked out by hand.
 pub mod Examples
--- ColumnsOf: the columns of a node, from those of its parts.
-pub mod ColumnsOf
 -- Alike: lists that have the same items.
 pub mod Alike
 -- Orders: readings in order, of lists with the same items, of a list that ascends, and as a set has them.

@@ -113,6 +113,10 @@ may_read_links sources parents s place f name = link_test s place f (or_link (li
 abbrev pub parent_links : List Reach → List Link
 parent_links rs = map (λ (r : Reach). r.link) rs
 
+-- the least name that breaks the rule of an incremental model
+abbrev pub incremental_breaker : Own → List Reach → Option Name
+incremental_breaker own rs = least (defn_breakers (may_read_links (map source_link own.sources) (parent_links rs)) own.defn)
+
 -- the least name that breaks the rule, where this is the least timed source that is reached through the model
 abbrev pub breaker_as : Own → List Reach → Option Name → Kind → Option Name
 breaker_as own rs timed (Incremental time lookback) = least (defn_breakers (may_read_links (map source_link own.sources) (parent_links rs)) own.defn)

@@ -7,7 +7,7 @@ ghost use Rattle.mesh_lineage.specs.Named.{places_of};
 ghost use Rattle.mesh_lineage.specs.Reaches.{bounds_parts};
 
 use crate::ends::{are_ends, is_and, is_column};
-use crate::named::Named;
+use crate::named::{Named, both_done};
 use mesh_base::{Expr, FromItem, Join, Select};
 use mesh_list::Memory;
 use mesh_values::{Str, same_text};
@@ -34,18 +34,7 @@ fn bounds_parts(e: &Expr, place: usize, time: &Str) -> bool
         Expr::Between { value, low, high } => {
             is_column(value.get(), place, time) && are_ends(low.get(), high.get())
         }
-        Expr::Literal(_)
-        | Expr::Col { .. }
-        | Expr::Macro(_)
-        | Expr::Neg(_)
-        | Expr::Not(_)
-        | Expr::IsNull(_)
-        | Expr::OneOf { .. }
-        | Expr::Cast { .. }
-        | Expr::Call { .. }
-        | Expr::Case { .. }
-        | Expr::CountAll
-        | Expr::Agg { .. } => false,
+        _ => false,
     }
 }
 
@@ -63,19 +52,7 @@ fn add_column<'a>(e: &'a Expr, places: &mut Named<'a>) -> Result<(), Memory>
 {
     match e {
         Expr::Col { item, name } => places.push(*item, name),
-        Expr::Literal(_)
-        | Expr::Macro(_)
-        | Expr::Binary { .. }
-        | Expr::Neg(_)
-        | Expr::Not(_)
-        | Expr::IsNull(_)
-        | Expr::Between { .. }
-        | Expr::OneOf { .. }
-        | Expr::Cast { .. }
-        | Expr::Call { .. }
-        | Expr::Case { .. }
-        | Expr::CountAll
-        | Expr::Agg { .. } => Ok(()),
+        _ => Ok(()),
     }
 }
 
@@ -94,32 +71,23 @@ fn add_bound_parts<'a>(e: &'a Expr, places: &mut Named<'a>) -> Result<(), Memory
 {
     match e {
         Expr::Binary { op, left, right } => {
-            if !is_and(*op) {
-                return Ok(());
+            if is_and(*op) {
+                both_done(
+                    add_bound(left.get(), places),
+                    add_bound(right.get(), places),
+                )
+            } else {
+                Ok(())
             }
-            add_bound(left.get(), places)?;
-            add_bound(right.get(), places)?;
-            Ok(())
         }
         Expr::Between { value, low, high } => {
-            if !are_ends(low.get(), high.get()) {
-                return Ok(());
+            if are_ends(low.get(), high.get()) {
+                add_column(value.get(), places)
+            } else {
+                Ok(())
             }
-            add_column(value.get(), places)?;
-            Ok(())
         }
-        Expr::Literal(_)
-        | Expr::Col { .. }
-        | Expr::Macro(_)
-        | Expr::Neg(_)
-        | Expr::Not(_)
-        | Expr::IsNull(_)
-        | Expr::OneOf { .. }
-        | Expr::Cast { .. }
-        | Expr::Call { .. }
-        | Expr::Case { .. }
-        | Expr::CountAll
-        | Expr::Agg { .. } => Ok(()),
+        _ => Ok(()),
     }
 }
 

@@ -9,7 +9,7 @@ ghost use Rattle.mesh_lineage.specs.Reaches.{bound_test, link_named, link_test, 
 use crate::bounds::{Filtered, bound_by, is_bound};
 use crate::reaches::{Bound, Link, Near, Reach, lesser, reach_at};
 use mesh_base::{Decl, Defn, FromItem, Own, Rel, Select, Selects};
-use mesh_list::{Duplicate, Memory, Register};
+use mesh_list::{Duplicate, Memory, Register, together};
 use mesh_values::Name;
 use std::alloc::Global;
 
@@ -85,8 +85,10 @@ pub(crate) fn links_of<'a>(
     ensures sources { IfOk result (λ made. made.sources ≡ map source_link own.now.sources) }
     ensures parents { IfOk result (λ made. near_links made.parents ≡ parent_links (reaches_at reaches.now places.now)) }
 {
-    let sources = source_links(alloc, own.sources.as_slice())?;
-    let parents = parent_links(alloc, reaches, places)?;
+    let (sources, parents) = together(
+        source_links(alloc, own.sources.as_slice()),
+        parent_links(alloc, reaches, places),
+    )?;
     Ok(Links {
         sources: Register::from_vec(sources),
         parents: Register::from_vec(parents),
@@ -192,8 +194,10 @@ pub(crate) fn defn_breaker<'a>(links: &Links, defn: &'a Defn) -> Result<Option<&
     match defn {
         Defn::Seed { .. } => Ok(None),
         Defn::Sql(q) => {
-            let first = ctes_breaker(links, q.ctes.as_slice())?;
-            let second = selects_breaker(links, q.selects.as_slice())?;
+            let (first, second) = together(
+                ctes_breaker(links, q.ctes.as_slice()),
+                selects_breaker(links, q.selects.as_slice()),
+            )?;
             Ok(lesser(first, second))
         }
     }

@@ -11,19 +11,7 @@ pub(crate) fn is_and(op: Op) -> bool
 {
     match op {
         Op::And => true,
-        Op::Add
-        | Op::Sub
-        | Op::Mul
-        | Op::Div
-        | Op::Rem
-        | Op::Cat
-        | Op::Eq
-        | Op::Ne
-        | Op::Lt
-        | Op::Le
-        | Op::Gt
-        | Op::Ge
-        | Op::Or => false,
+        _ => false,
     }
 }
 
@@ -35,19 +23,7 @@ pub(crate) fn is_column(e: &Expr, item: usize, name: &Str) -> bool
         Expr::Col { item: i, name: n } => {
             *i as usize == item && same_text(n.as_slice(), name.as_slice())
         }
-        Expr::Literal(_)
-        | Expr::Macro(_)
-        | Expr::Binary { .. }
-        | Expr::Neg(_)
-        | Expr::Not(_)
-        | Expr::IsNull(_)
-        | Expr::Between { .. }
-        | Expr::OneOf { .. }
-        | Expr::Cast { .. }
-        | Expr::Call { .. }
-        | Expr::Case { .. }
-        | Expr::CountAll
-        | Expr::Agg { .. } => false,
+        _ => false,
     }
 }
 
@@ -57,17 +33,17 @@ fn are_ends_by(start: Var, end: Var) -> bool
     match start {
         Var::StartDate => match end {
             Var::EndDate => true,
-            Var::StartDate | Var::StartDs | Var::EndDs | Var::StartEpoch | Var::EndEpoch => false,
+            _ => false,
         },
         Var::StartDs => match end {
             Var::EndDs => true,
-            Var::StartDate | Var::EndDate | Var::StartDs | Var::StartEpoch | Var::EndEpoch => false,
+            _ => false,
         },
         Var::StartEpoch => match end {
             Var::EndEpoch => true,
-            Var::StartDate | Var::EndDate | Var::StartDs | Var::EndDs | Var::StartEpoch => false,
+            _ => false,
         },
-        Var::EndDate | Var::EndDs | Var::EndEpoch => false,
+        _ => false,
     }
 }
 
@@ -76,19 +52,7 @@ fn is_end_of(start: Var, high: &Expr) -> bool
 {
     match high {
         Expr::Macro(end) => are_ends_by(start, *end),
-        Expr::Literal(_)
-        | Expr::Col { .. }
-        | Expr::Binary { .. }
-        | Expr::Neg(_)
-        | Expr::Not(_)
-        | Expr::IsNull(_)
-        | Expr::Between { .. }
-        | Expr::OneOf { .. }
-        | Expr::Cast { .. }
-        | Expr::Call { .. }
-        | Expr::Case { .. }
-        | Expr::CountAll
-        | Expr::Agg { .. } => false,
+        _ => false,
     }
 }
 
@@ -98,18 +62,6 @@ pub(crate) fn are_ends(low: &Expr, high: &Expr) -> bool
 {
     match low {
         Expr::Macro(start) => is_end_of(*start, high),
-        Expr::Literal(_)
-        | Expr::Col { .. }
-        | Expr::Binary { .. }
-        | Expr::Neg(_)
-        | Expr::Not(_)
-        | Expr::IsNull(_)
-        | Expr::Between { .. }
-        | Expr::OneOf { .. }
-        | Expr::Cast { .. }
-        | Expr::Call { .. }
-        | Expr::Case { .. }
-        | Expr::CountAll
-        | Expr::Agg { .. } => false,
+        _ => false,
     }
 }

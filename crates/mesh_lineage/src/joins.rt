@@ -36,18 +36,7 @@ fn binds_parts(e: &Expr, item: usize, name: &Str) -> bool
         Expr::Between { value, low, high } => {
             is_column(value.get(), item, name) && are_ends(low.get(), high.get())
         }
-        Expr::Literal(_)
-        | Expr::Col { .. }
-        | Expr::Macro(_)
-        | Expr::Neg(_)
-        | Expr::Not(_)
-        | Expr::IsNull(_)
-        | Expr::OneOf { .. }
-        | Expr::Cast { .. }
-        | Expr::Call { .. }
-        | Expr::Case { .. }
-        | Expr::CountAll
-        | Expr::Agg { .. } => false,
+        _ => false,
     }
 }
 
@@ -76,19 +65,7 @@ fn is_bound(filter: &Option<Expr>, e: &Expr) -> bool
 {
     match e {
         Expr::Col { item, name } => binds_in(filter, *item as usize, name),
-        Expr::Literal(_)
-        | Expr::Macro(_)
-        | Expr::Binary { .. }
-        | Expr::Neg(_)
-        | Expr::Not(_)
-        | Expr::IsNull(_)
-        | Expr::Between { .. }
-        | Expr::OneOf { .. }
-        | Expr::Cast { .. }
-        | Expr::Call { .. }
-        | Expr::Case { .. }
-        | Expr::CountAll
-        | Expr::Agg { .. } => false,
+        _ => false,
     }
 }
 
@@ -113,9 +90,9 @@ fn is_joinable_query(q: &Query, time: &Str) -> bool
     match q.ctes.as_slice() {
         [] => match q.selects.as_slice() {
             [s] => is_joinable_select(s, time),
-            _ => false,
+            [] | [_, _, ..] => false,
         },
-        _ => false,
+        [_, ..] => false,
     }
 }
 

@@ -1,5 +1,5 @@
 // The columns that expressions name, where the names lie.
-ghost use Rattle.std.specs.Prelude.{◌≡◌, ◌++◌, ◌∷◌, [], OnOk};
+ghost use Rattle.std.specs.Prelude.{◌≡◌, ◌++◌, ◌∷◌, [], Ok, OnOk};
 ghost use Rattle.mesh_lineage.specs.Alike.{IsAlike};
 ghost use Rattle.mesh_lineage.specs.Named.{places_of};
 
@@ -17,6 +17,14 @@ impl Drop for Named<'_> {
     fn drop(self) {
         let Named { list: _ } = self;
     }
+}
+
+/// Two steps are done where each is.
+pub(crate) fn both_done(first: Result<(), Memory>, second: Result<(), Memory>) -> Result<(), Memory>
+    ensures { OnOk result ((first ≡ Ok tt) × (second ≡ Ok tt)) }
+{
+    first?;
+    second
 }
 
 impl<'a> Model for Named<'a> {

@@ -3,10 +3,10 @@ ghost use Rattle.std.specs.Prelude.{◌≡◌, ◌++◌, ◌∷◌, [], IfOk, On
 ghost use Rattle.std.specs.List.{flat_map};
 ghost use Rattle.mesh_scratch.specs.Closures.{closures};
 ghost use Rattle.mesh_lineage.specs.Pairs.{as_pairs};
-ghost use Rattle.mesh_lineage.specs.Unsteady.{by_name, pair_with, unsteady, unsteady_pair};
-ghost use Rattle.mesh_lineage.specs.Reaches.{node_breaker, node_pair, node_reach, reaches_at};
+ghost use Rattle.mesh_lineage.specs.Unsteady.{by_name, defn_breakers, least, pair_with, unsteady, unsteady_pair};
+ghost use Rattle.mesh_lineage.specs.Reaches.{incremental_breaker, may_read_links, near_links, node_breaker, node_pair, node_reach, reaches_at};
 
-use crate::breakers::{defn_breaker, links_of};
+use crate::breakers::{Links, defn_breaker, links_of};
 use crate::reaches::{Reach, copied, reach_of, timed_of};
 use mesh_base::{Node, Own};
 use mesh_list::{Duplicate, Memory, Seq};
@@ -14,6 +14,26 @@ use mesh_rules::Project;
 use mesh_values::{Kind, Name, Pair, Pairs};
 use std::alloc::Global;
 use std::collections::BTreeMap;
+
+// The least name that breaks the rule of an incremental model, which may name these.
+fn breaker_among(links: &Links, own: &Own) -> Result<Option<Name>, Memory>
+    ensures { IfOk result (λ made. made ≡ least (defn_breakers (may_read_links links.now.sources (near_links links.now.parents)) own.now.defn)) }
+{
+    copied(defn_breaker(links, &own.defn)?)
+}
+
+// The same, where its parents stand at these places.
+fn incremental_breaker(
+    alloc: Global,
+    own: &Own,
+    reaches: &[Reach],
+    places: &[u32],
+) -> Result<Option<Name>, Memory>
+    ensures { IfOk result (λ made. made ≡ incremental_breaker own.now (reaches_at reaches.now places.now)) }
+{
+    let links = links_of(alloc, own, reaches, places)?;
+    breaker_among(&links, own)
+}
 
 // The least name that breaks the rule of a model whose parents stand at these places.
 fn breaker_of(
@@ -27,10 +47,7 @@ fn breaker_of(
     match &own.kind {
         Kind::Full => timed_of(own, reaches, places),
         Kind::View | Kind::Seed => Ok(None),
-        Kind::Incremental { .. } => {
-            let links = links_of(alloc, own, reaches, places)?;
-            copied(defn_breaker(&links, &own.defn)?)
-        }
+        Kind::Incremental { .. } => incremental_breaker(alloc, own, reaches, places),
     }
 }
 

@@ -9,7 +9,7 @@ ghost use Rattle.mesh_lineage.specs.Unsteady.{least, lesser, timed_names, timed_
 ghost use Rattle.mesh_lineage.specs.Reaches.{are_timeless, least_reached, model_bound, reach_over, reaches_at, timed_over, timeless_over};
 
 use mesh_base::{Decl, Own};
-use mesh_list::{Duplicate, Keyed, Memory};
+use mesh_list::{Duplicate, Keyed, Memory, together};
 use mesh_values::{Kind, Name, Str, is_incremental};
 use std::cmp::Ordering;
 
@@ -245,9 +245,8 @@ pub(crate) fn reach_of(own: &Own, reaches: &[Reach], places: &[u32]) -> Result<R
     ensures { IfOk result (λ made. made ≡ reach_over own.now (reaches_at reaches.now places.now)) }
 {
     let timeless = is_timeless(own, reaches, places);
-    let bound = model_bound(timeless, &own.kind)?;
-    let name = own.name.copy()?;
-    let timed = timed_of(own, reaches, places)?;
+    let link = together(own.name.copy(), model_bound(timeless, &own.kind));
+    let ((name, bound), timed) = together(link, timed_of(own, reaches, places))?;
     Ok(Reach {
         link: Link { name, bound },
         timeless,

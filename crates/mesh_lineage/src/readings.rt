@@ -13,7 +13,7 @@ use crate::once::in_order;
 use mesh_base::{
     Defn, Expr, FromItem, Froms, Item, Own, Query, Reading, Reads, Rel, Select, Selects,
 };
-use mesh_list::{Duplicate, Memory, Seq};
+use mesh_list::{Memory, Seq, both};
 use mesh_values::{Str, same_text};
 use std::alloc::Global;
 
@@ -44,28 +44,28 @@ fn add_on_columns<'a>(from: &'a [FromItem], places: &mut Named<'a>) -> Result<()
     Ok(())
 }
 
-// The columns that a SELECT names, in its order.
-fn select_columns<'a>(alloc: Global, s: &'a Select) -> Result<Named<'a>, Memory>
-    ensures { IfOk result (λ places. places ≡ flat_map columns (expressions s.now)) }
+// The columns that a SELECT names, in its order, put behind others.
+fn add_select_columns<'a>(s: &'a Select, places: &mut Named<'a>) -> Result<(), Memory>
+    ensures { OnOk result (places.new ≡ places.old ++ flat_map columns (expressions s.now)) }
 {
-    let mut places = Named::new(alloc);
-    add_items_columns(s.items.as_slice(), &mut places)?;
-    add_on_columns(s.from.as_slice(), &mut places)?;
-    add_columns_in(&s.filter, &mut places)?;
-    add_all_columns(s.keys.as_slice(), &mut places)?;
-    add_columns_in(&s.having, &mut places)?;
-    Ok(places)
+    add_items_columns(s.items.as_slice(), places)?;
+    add_on_columns(s.from.as_slice(), places)?;
+    add_columns_in(&s.filter, places)?;
+    add_all_columns(s.keys.as_slice(), places)?;
+    add_columns_in(&s.having, places)?;
+    Ok(())
 }
 
 fn add_rel_reading(rel: &Rel, column: &Str, made: &mut Reads) -> Result<(), Memory>
     ensures { OnOk result (made.new ≡ made.old ++ rel_reading column.now rel.now) }
 {
-    if let Rel::Named(name) = rel {
-        let relation = name.copy()?;
-        let column = column.copy()?;
-        made.push(Reading { relation, column })?;
+    match rel {
+        Rel::Cte(_) => Ok(()),
+        Rel::Named(name) => {
+            let (relation, column) = both(name, column)?;
+            made.push(Reading { relation, column })
+        }
     }
-    Ok(())
 }
 
 fn add_reading(from: &Froms, item: u32, column: &Str, made: &mut Reads) -> Result<(), Memory>
@@ -110,7 +110,8 @@ fn add_readings(from: &Froms, places: &[(u32, &Str)], made: &mut Reads) -> Resul
 fn add_select_reads(s: &Select, made: &mut Reads) -> Result<(), Memory>
     ensures { OnOk result (IsAlike made.new (made.old ++ select_readings s.now)) }
 {
-    let mut places = select_columns(made.alloc(), s)?;
+    let mut places = Named::new(made.alloc());
+    add_select_columns(s, &mut places)?;
     places.sort();
     add_readings(&s.from, places.as_slice(), made)
 }

@@ -33,9 +33,9 @@ use Rattle.mesh_query.proofs.Counted.{First, Then, parts_of_read, fault_of_read}
 use Rattle.mesh_query.proofs.Steps.{started, noted, past, past_sign, past_type, past_add, past_mul, without, missed, saw, has_read, is_done}
 
 -- what is answered is handed on
-pub handed : {A : Type 0} (P Q : A × ℕ → Type 0) (F G : Fault → Type 0) (r : Result (A × ℕ) Fault) → ((x : A × ℕ) → P x → Q x) → ((e : Fault) → F e → G e) → MatchResult r P F → MatchResult r Q G
-handed P Q F G (Ok x) f g h = f x h
-handed P Q F G (Err e) f g h = g e h
+pub handed : {A : Type 0} (P Q : A × ℕ → Type 0) (F G : Fault → Type 0) (r : Result (A × ℕ) Fault) → MatchResult r P F → ((x : A × ℕ) → P x → Q x) → ((e : Fault) → F e → G e) → MatchResult r Q G
+handed P Q F G (Ok x) h f g = f x h
+handed P Q F G (Err e) h f g = g e h
 
 pub stuck_here : {i : Bool} {n c d : ℕ} {r : Rule} {s : List Token} (ts : List Token) (q : ℕ) → Onward i n r s stuck (drop q ts) c d → Failed i n r s ts c d (fault.Syntax q)
 stuck_here {d = d} ts q I = I.fails_on syntax (drop q ts) d (fails_here, refl)

@@ -37,7 +37,7 @@ impl Named for Decl {
 }
 
 /// Whether each name is below the next.
-fn is_ascending<T: Named>(items: &[T]) -> bool
+pub(crate) fn is_ascending<T: Named>(items: &[T]) -> bool
     ensures { IsTrue result → ascends name_cmp T.called items.now ≡ true }
 {
     for i in 1..items.len() {
@@ -82,8 +82,8 @@ fn sought<'a, T: Named>(items: &'a [T], name: &Name) -> Option<&'a T>
     None
 }
 
-// The same where the list need not ascend, from the front.
-fn met<'a, T: Named>(items: &'a [T], name: &Name) -> Option<&'a T>
+/// The first item of that name, from the front.
+pub(crate) fn met<'a, T: Named>(items: &'a [T], name: &Name) -> Option<&'a T>
     ensures { option_copied result ≡ found name_cmp T.called name.now items.now }
 {
     for item in items {

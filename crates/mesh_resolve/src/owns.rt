@@ -11,7 +11,7 @@ use crate::queries::resolve;
 use crate::sources::sources_read;
 use mesh_base::{Defn, Own, Sources};
 use mesh_columns::select_columns;
-use mesh_list::{Duplicate, Memory, Seq, both};
+use mesh_list::{Duplicate, Memory, Seq, are_same, both};
 use mesh_model::ModelText;
 use mesh_surface::Surface;
 use mesh_tokens::ReadFault;
@@ -40,19 +40,10 @@ fn timed(kind: &Kind, columns: &[Column]) -> Result<(), ReadFault>
     Err(no_time_column(time.copy()?))
 }
 
-#[tactic(auto, using(crate::proofs::Sides::unlike_columns))]
 fn are_same_columns(a: &[Column], b: &[Column]) -> bool
     ensures { result ≡ are_same_columns a.now b.now }
 {
-    if a.len() != b.len() {
-        return false;
-    }
-    for i in 0..a.len() {
-        if !same_text(a[i].name.as_slice(), b[i].name.as_slice()) || a[i].kind != b[i].kind {
-            return false;
-        }
-    }
-    true
+    are_same(a, b)
 }
 
 fn as_declared(declared: &[Column], columns: &[Column]) -> Result<(), ReadFault>

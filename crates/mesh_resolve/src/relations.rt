@@ -9,7 +9,7 @@ ghost use Rattle.mesh_selects.specs.outputs.Leads.{Leads};
 use crate::catalog::Catalog;
 use crate::drawn::Drawing;
 use mesh_base::{Join, Rel};
-use mesh_list::{Duplicate, Memory, Seq, both};
+use mesh_list::{Duplicate, Memory, Seq, both, push_made};
 use mesh_scope::typed_expression;
 use mesh_selects::outputs::{Commons, cte_named};
 use mesh_selects::selects::Drawn;
@@ -125,8 +125,7 @@ fn unconditional(
 {
     let (rel, columns) = relation(alloc, known, ctes, r)?;
     see_relation(&mut f.sight, r, columns)?;
-    let item = item_drawn(join, r, rel, None)?;
-    f.drawn.push(item)?;
+    push_made(&mut f.drawn, item_drawn(join, r, rel, None))?;
     Ok(())
 }
 
@@ -145,8 +144,7 @@ fn conditional(
     let (rel, columns) = relation(alloc, known, ctes, r)?;
     see_relation(&mut f.sight, r, columns)?;
     let t = condition(alloc, &f.sight, on)?;
-    let item = item_drawn(join, r, rel, Some(t))?;
-    f.drawn.push(item)?;
+    push_made(&mut f.drawn, item_drawn(join, r, rel, Some(t)))?;
     Ok(())
 }
 

@@ -12,9 +12,10 @@ ghost use Rattle.mesh_values.specs.Names.{name_cmp};
 ghost use Rattle.mesh_resolve.specs.Relations.{decl_name};
 ghost use Rattle.mesh_resolve.specs.Owns.{in_order, is_read, sources_read};
 
+use crate::catalog::{is_ascending, met};
 use crate::known::Known;
 use mesh_base::{Decl, FromItem, Query, Rel, Select, Selects, Sources};
-use mesh_list::{Duplicate, Memory, Seq};
+use mesh_list::{Duplicate, Memory, Seq, push_made};
 use mesh_values::{Name, Names};
 use std::alloc::Global;
 use std::collections::BTreeSet;
@@ -25,7 +26,7 @@ fn add_from_names(names: &mut Names, from: &[FromItem]) -> Result<(), Memory>
 {
     for f in from {
         if let Rel::Named(name) = &f.rel {
-            names.push(name.copy()?)?;
+            push_made(names, name.copy())?;
         }
     }
     Ok(())
@@ -70,22 +71,11 @@ fn all_names(alloc: Global, names: Names) -> Result<BTreeSet<Name>, Memory>
     Ok(set)
 }
 
-fn is_model(known: &Known, name: &Name) -> bool
-    ensures { result ≡ is_some (found name_cmp input_name name.now known.now.models) }
-{
-    for model in known.models.as_slice() {
-        if model.name.compare(name).is_eq() {
-            return true;
-        }
-    }
-    false
-}
-
 // A declared source is read where the query names it; a model hides a source of its name.
 fn is_read(known: &Known, set: &BTreeSet<Name>, d: &Decl) -> bool
     ensures { result ≡ (contains name_cmp set.now d.now.name && not (is_some (found name_cmp input_name d.now.name known.now.models))) }
 {
-    set.contains(&d.name) && !is_model(known, &d.name)
+    set.contains(&d.name) && met(known.models.as_slice(), &d.name).is_none()
 }
 
 // The declared sources that are read, in their order.
@@ -96,7 +86,7 @@ fn all_read(alloc: Global, known: &Known, names: Names) -> Result<Sources, Memor
     let mut read = Seq::new(alloc);
     for d in known.sources.as_slice() {
         if is_read(known, &set, d) {
-            read.push(d.copy()?)?;
+            push_made(&mut read, d.copy())?;
         }
     }
     Ok(read)
@@ -130,18 +120,6 @@ fn place(list: &mut Vec<Decl>, d: Decl) -> Result<(), Memory>
     }
     list.insert(at, d)?;
     Ok(())
-}
-
-// Whether each name is below the next.
-fn is_ascending(list: &[Decl]) -> bool
-    ensures { IsTrue result → ascends name_cmp decl_name list.now ≡ true }
-{
-    for i in 1..list.len() {
-        if !list[i - 1].name.compare(&list[i].name).is_lt() {
-            return false;
-        }
-    }
-    true
 }
 
 // Each once, in the order of the names. Where they stand so already, as they mostly do, nothing is moved.

@@ -1,22 +1,24 @@
 // Names by their order.
 ghost use Rattle.std.specs.Prelude.{◌≡◌, IfOk, OnOk, map};
+ghost use Rattle.std.specs.List.{filter};
 ghost use Rattle.mesh_list.specs.Keyed.{ascends, placed};
 ghost use Rattle.mesh_values.specs.Names.{name_cmp};
 ghost use Rattle.mesh_base.specs.Keys.{ref_name};
 ghost use Rattle.mesh_changes.specs.Changes.{name_itself, names_by_order};
+ghost use Rattle.mesh_state_sync.specs.promote.Promotion.{is_absent};
 
 use mesh_base::Ref;
-use mesh_list::{Duplicate, Memory, Register};
-use mesh_values::Name;
+use mesh_list::{Duplicate, Memory, Register, Seq, push_made};
+use mesh_values::{Name, Names};
 use std::alloc::Global;
 
 /// The names of some models, as they stand.
-pub(crate) fn names_of(alloc: Global, refs: &[Ref]) -> Result<Vec<Name>, Memory>
-    ensures { IfOk result (λ names. names.items ≡ map ref_name refs.now) }
+pub(crate) fn names_of(alloc: Global, refs: &[Ref]) -> Result<Names, Memory>
+    ensures { IfOk result (λ names. names ≡ map ref_name refs.now) }
 {
-    let mut names = Vec::new(alloc);
+    let mut names = Seq::new(alloc);
     for r in refs {
-        names.push(r.name.copy()?)?;
+        push_made(&mut names, r.name.copy())?;
     }
     Ok(names)
 }
@@ -58,11 +60,32 @@ fn placed_all(alloc: Global, names: &[Name]) -> Result<Register<Name>, Memory>
 
 /// Some names by their order, each once. Where they stand so already, none is moved.
 #[tactic(auto, using(crate::proofs::naming::ByOrder::stays))]
-pub(crate) fn by_order(alloc: Global, names: Vec<Name>) -> Result<Register<Name>, Memory>
-    ensures { IfOk result (λ made. made ≡ names_by_order names.items) }
+pub(crate) fn by_order(alloc: Global, names: Names) -> Result<Register<Name>, Memory>
+    ensures { IfOk result (λ made. made ≡ names_by_order names) }
 {
     if ascend(names.as_slice()) {
-        return Ok(Register::from_vec(names));
+        return Ok(Register::from_vec(names.into_vec()));
     }
     placed_all(alloc, names.as_slice())
+}
+
+/// The names of some models by their order, each once.
+pub(crate) fn ordered_names(alloc: Global, refs: &[Ref]) -> Result<Register<Name>, Memory>
+    ensures { IfOk result (λ made. made ≡ names_by_order (map ref_name refs.now)) }
+{
+    let names = names_of(alloc, refs)?;
+    by_order(alloc, names)
+}
+
+/// Those of some names that are not among others.
+pub(crate) fn absent(alloc: Global, names: &Register<Name>, all: &[Name]) -> Result<Names, Memory>
+    ensures { IfOk result (λ made. made ≡ filter (is_absent names.now) all.now) }
+{
+    let mut made = Seq::new(alloc);
+    for name in all {
+        if names.find(name).is_none() {
+            push_made(&mut made, name.copy())?;
+        }
+    }
+    Ok(made)
 }

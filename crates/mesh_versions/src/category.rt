@@ -10,3 +10,4 @@ mod parents;
 
 pub use additive::is_additive;
 pub use categories::categorize;
+pub(crate) use parents::node_at;

@@ -11,45 +11,6 @@ use mesh_list::{Duplicate, Memory, Seq};
 use mesh_values::{Name, Str};
 use std::alloc::Global;
 
-fn snapshot(name: &Name, fingerprint: &[u8; 32]) -> Result<Thing, Memory>
-    ensures { IfOk result (λ made. made ≡ things.Snapshot (record { name = name.now; fingerprint = fingerprint.now })) }
-{
-    Ok(Thing::Snapshot(Ref {
-        name: name.copy()?,
-        fingerprint: *fingerprint,
-    }))
-}
-
-fn version(object: &Name) -> Result<Thing, Memory>
-    ensures { IfOk result (λ made. made ≡ things.Version object.now) }
-{
-    Ok(Thing::Version(object.copy()?))
-}
-
-fn environment(name: &Str) -> Result<Thing, Memory>
-    ensures { IfOk result (λ made. made ≡ things.Env name.now) }
-{
-    Ok(Thing::Env(name.copy()?))
-}
-
-fn view(name: &Name) -> Result<Thing, Memory>
-    ensures { IfOk result (λ made. made ≡ things.View name.now) }
-{
-    Ok(Thing::View(name.copy()?))
-}
-
-fn object(name: &Name) -> Result<Thing, Memory>
-    ensures { IfOk result (λ made. made ≡ things.Object name.now) }
-{
-    Ok(Thing::Object(name.copy()?))
-}
-
-fn source(name: &Name) -> Result<Thing, Memory>
-    ensures { IfOk result (λ made. made ≡ things.Source name.now) }
-{
-    Ok(Thing::Source(name.copy()?))
-}
-
 fn one(alloc: Global, thing: Thing) -> Result<Things, Memory>
     ensures { IfOk result (λ made. made ≡ thing ∷ []) }
 {
@@ -58,19 +19,73 @@ fn one(alloc: Global, thing: Thing) -> Result<Things, Memory>
     Ok(made)
 }
 
-// A thing, and then the version of an object.
-fn with_version(alloc: Global, thing: Thing, of: &Name) -> Result<Things, Memory>
-    ensures { IfOk result (λ made. made ≡ thing ∷ things.Version of.now ∷ []) }
+fn reference(name: &Name, fingerprint: &[u8; 32]) -> Result<Ref, Memory>
+    ensures { IfOk result (λ made. made ≡ record { name = name.now; fingerprint = fingerprint.now }) }
 {
-    let mut made = one(alloc, thing)?;
-    made.push(version(of)?)?;
+    Ok(Ref {
+        name: name.copy()?,
+        fingerprint: *fingerprint,
+    })
+}
+
+fn snapshot(alloc: Global, name: &Name, fingerprint: &[u8; 32]) -> Result<Things, Memory>
+    ensures { IfOk result (λ made. made ≡ things.Snapshot (record { name = name.now; fingerprint = fingerprint.now }) ∷ []) }
+{
+    one(alloc, Thing::Snapshot(reference(name, fingerprint)?))
+}
+
+fn version(alloc: Global, object: &Name) -> Result<Things, Memory>
+    ensures { IfOk result (λ made. made ≡ things.Version object.now ∷ []) }
+{
+    one(alloc, Thing::Version(object.copy()?))
+}
+
+fn environment(alloc: Global, name: &Str) -> Result<Things, Memory>
+    ensures { IfOk result (λ made. made ≡ things.Env name.now ∷ []) }
+{
+    one(alloc, Thing::Env(name.copy()?))
+}
+
+fn view(alloc: Global, name: &Name) -> Result<Things, Memory>
+    ensures { IfOk result (λ made. made ≡ things.View name.now ∷ []) }
+{
+    one(alloc, Thing::View(name.copy()?))
+}
+
+fn object(alloc: Global, name: &Name) -> Result<Things, Memory>
+    ensures { IfOk result (λ made. made ≡ things.Object name.now ∷ []) }
+{
+    one(alloc, Thing::Object(name.copy()?))
+}
+
+fn source(alloc: Global, name: &Name) -> Result<Things, Memory>
+    ensures { IfOk result (λ made. made ≡ things.Source name.now ∷ []) }
+{
+    one(alloc, Thing::Source(name.copy()?))
+}
+
+// An object, and then its version.
+fn object_and_version(alloc: Global, name: &Name) -> Result<Things, Memory>
+    ensures { IfOk result (λ made. made ≡ things.Object name.now ∷ things.Version name.now ∷ []) }
+{
+    let mut made = object(alloc, name)?;
+    made.append(version(alloc, name)?)?;
+    Ok(made)
+}
+
+// A snapshot, and then the version of its object.
+fn snapshot_and_version(alloc: Global, s: &Snapshot) -> Result<Things, Memory>
+    ensures { IfOk result (λ made. made ≡ snapshot_thing s.now ∷ things.Version s.now.object ∷ []) }
+{
+    let mut made = snapshot(alloc, &s.name, &s.fingerprint)?;
+    made.append(version(alloc, &s.object)?)?;
     Ok(made)
 }
 
 fn push_snapshot(made: &mut Things, s: &Snapshot) -> Result<(), Memory>
     ensures { IfOk result (λ _. made.new ≡ made.old ++ snapshot_thing s.now ∷ []) }
 {
-    made.push(snapshot(&s.name, &s.fingerprint)?)
+    made.push(Thing::Snapshot(reference(&s.name, &s.fingerprint)?))
 }
 
 fn snapshots(alloc: Global, list: &[Snapshot]) -> Result<Things, Memory>
@@ -86,7 +101,7 @@ fn snapshots(alloc: Global, list: &[Snapshot]) -> Result<Things, Memory>
 fn push_env(made: &mut Things, env: &Env) -> Result<(), Memory>
     ensures { IfOk result (λ _. made.new ≡ made.old ++ env_thing env.now ∷ []) }
 {
-    made.push(environment(&env.name)?)
+    made.push(Thing::Env(env.name.copy()?))
 }
 
 fn environments(alloc: Global, list: &[Env]) -> Result<Things, Memory>
@@ -111,7 +126,7 @@ fn forgotten(forget: &Forget) -> &Name
 fn push_forgotten(made: &mut Things, forget: &Forget) -> Result<(), Memory>
     ensures { IfOk result (λ _. made.new ≡ made.old ++ forget_thing forget.now ∷ []) }
 {
-    made.push(version(forgotten(forget))?)
+    made.push(Thing::Version(forgotten(forget).copy()?))
 }
 
 fn units(alloc: Global, list: &[Forget]) -> Result<Things, Memory>
@@ -150,25 +165,23 @@ pub(crate) fn about(alloc: Global, world: &World, change: &Change) -> Result<Thi
 {
     match change {
         Change::Moment { .. } => one(alloc, Thing::Head),
-        Change::Load { name, .. } => one(alloc, source(name)?),
-        Change::PutSnapshot { snapshot: s } => {
-            with_version(alloc, snapshot(&s.name, &s.fingerprint)?, &s.object)
-        }
-        Change::MakeTable { object: name, .. } => with_version(alloc, object(name)?, name),
-        Change::MakeView { object: name, .. } => with_version(alloc, object(name)?, name),
-        Change::ReplaceRows { object: name, .. } => one(alloc, object(name)?),
-        Change::WriteRange { object: name, .. } => one(alloc, object(name)?),
-        Change::RecordRange { object, .. } => one(alloc, version(object)?),
-        Change::RecordMarks { object, .. } => one(alloc, version(object)?),
-        Change::SetPending { env, .. } => one(alloc, environment(env)?),
-        Change::PointView { view: name, .. } => one(alloc, view(name)?),
-        Change::DropView { view: name } => one(alloc, view(name)?),
-        Change::Finalize { env } => one(alloc, environment(env)?),
-        Change::Expire { env } => one(alloc, environment(env)?),
-        Change::ForgetVersion { object } => one(alloc, version(object)?),
-        Change::DropObject { object: name } => one(alloc, object(name)?),
-        Change::DeleteSnapshot { name, fingerprint } => one(alloc, snapshot(name, fingerprint)?),
-        Change::DeleteEnv { env } => one(alloc, environment(env)?),
+        Change::Load { name, .. } => source(alloc, name),
+        Change::PutSnapshot { snapshot: s } => snapshot_and_version(alloc, s),
+        Change::MakeTable { object: name, .. } => object_and_version(alloc, name),
+        Change::MakeView { object: name, .. } => object_and_version(alloc, name),
+        Change::ReplaceRows { object: name, .. } => object(alloc, name),
+        Change::WriteRange { object: name, .. } => object(alloc, name),
+        Change::RecordRange { object: name, .. } => version(alloc, name),
+        Change::RecordMarks { object: name, .. } => version(alloc, name),
+        Change::SetPending { env, .. } => environment(alloc, env),
+        Change::PointView { view: name, .. } => view(alloc, name),
+        Change::DropView { view: name } => view(alloc, name),
+        Change::Finalize { env } => environment(alloc, env),
+        Change::Expire { env } => environment(alloc, env),
+        Change::ForgetVersion { object: name } => version(alloc, name),
+        Change::DropObject { object: name } => object(alloc, name),
+        Change::DeleteSnapshot { name, fingerprint } => snapshot(alloc, name, fingerprint),
+        Change::DeleteEnv { env } => environment(alloc, env),
         Change::ForgetUnits { list } => units(alloc, list.as_slice()),
         Change::Migrate { .. } => moved(alloc, &world.book),
     }

@@ -17,7 +17,7 @@ use Rattle.mesh_book.specs.WellFormed.{all_fit, is_above, is_moment, is_snapshot
 use Rattle.mesh_laws.proofs.Has.{Has}
 use Rattle.mesh_listed.specs.Closing.{IsSnapshot}
 use Rattle.mesh_listed.proofs.Lists.{below_each}
-use Rattle.mesh_state_sync.specs.janitor.Walk.{limit_above, limit_from}
+use Rattle.mesh_state_sync.specs.migrate.Walk.{limit_above, limit_from}
 
 pub all_from : {X : Type 0} (P : X → Type 0) (xs : List X) → ((x : X) → Has x xs → P x) → All P xs
 all_from P [] f = All-nil P

@@ -19,7 +19,8 @@ use Rattle.mesh_laws.proofs.Has.{Has, Has_cases, Has_filter_from}
 use Rattle.mesh_listed.specs.Listed.{snapshot_itself}
 use Rattle.mesh_listed.proofs.Lists.{below_each}
 use Rattle.mesh_changes.specs.Kept.{down_cmp, downwards, gone_snapshots, is_kept}
-use Rattle.mesh_state_sync.specs.janitor.Walk.{by_layers, deletes, deletes_by, deletes_of, goes, gone_layer, limit_from, stays}
+use Rattle.mesh_state_sync.specs.janitor.Walk.{by_layers, deletes, deletes_by, deletes_of, goes, gone_layer, stays}
+use Rattle.mesh_state_sync.specs.migrate.Walk.{limit_from}
 use Rattle.mesh_state_sync.proofs.janitor.Books.{below_limit, snapshots_ascend}
 use Rattle.mesh_state_sync.proofs.janitor.Used.{filter_same}
 

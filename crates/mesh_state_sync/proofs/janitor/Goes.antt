@@ -14,7 +14,8 @@ use Rattle.mesh_book.specs.WellFormed.{is_well_formed_book}
 use Rattle.mesh_due.specs.Parts.{same_name}
 use Rattle.mesh_laws.proofs.Has.{Has, Has_cases, Has_filter, Has_filter_from, Has_from, Has_left, Has_right, Has_to}
 use Rattle.mesh_changes.specs.Kept.{gone_snapshots, gone_tables, is_kept, is_table_kept, tables}
-use Rattle.mesh_state_sync.specs.janitor.Walk.{by_layers, gone_layer, limit_from}
+use Rattle.mesh_state_sync.specs.janitor.Walk.{by_layers, gone_layer}
+use Rattle.mesh_state_sync.specs.migrate.Walk.{limit_from}
 use Rattle.mesh_state_sync.proofs.janitor.Books.{below_limit, snapshots_ascend}
 use Rattle.mesh_state_sync.proofs.janitor.Down.{below_or, layers_down}
 

@@ -24,7 +24,8 @@ use Rattle.mesh_listed.specs.Listed.{named}
 use Rattle.mesh_listed.proofs.Books.{fits, is_its_own, its_ref}
 use Rattle.mesh_changes.specs.Environments.{is_over}
 use Rattle.mesh_changes.specs.Kept.{both_lists, is_kept, kept, line, roots, staying}
-use Rattle.mesh_state_sync.specs.janitor.Walk.{after, env_after, envs_after, layer, layers, limit_from, stays}
+use Rattle.mesh_state_sync.specs.janitor.Walk.{after, env_after, envs_after, layer, layers, stays}
+use Rattle.mesh_state_sync.specs.migrate.Walk.{limit_from}
 use Rattle.mesh_state_sync.proofs.janitor.Books.{all_from, below_limit, is_there, its_own, snapshots_ascend}
 use Rattle.mesh_state_sync.proofs.janitor.Down.{below_or}
 

@@ -17,7 +17,8 @@ use Rattle.mesh_book.specs.declared.book.Book.{Book}
 use Rattle.mesh_due.specs.Parts.{same_name}
 use Rattle.mesh_changes.specs.Changes.{name_itself, names_by_order}
 use Rattle.mesh_changes.specs.Kept.{gone_tables, is_kept, is_table_kept, tables}
-use Rattle.mesh_state_sync.specs.janitor.Walk.{is_absent, object_after, objects_after, stays, with_names}
+use Rattle.mesh_state_sync.specs.janitor.Walk.{object_after, objects_after, stays, with_names}
+use Rattle.mesh_state_sync.specs.promote.Promotion.{is_absent}
 
 -- one more name, from the last to the first
 pub one_earlier : {A : Type 0} (f : A → Name) (xs : List A) (left : ℕ) (x : A) (names old : List Name) → 0 < left → left ≤ length xs → names ≡ with_names (map f (drop left xs)) old

@@ -1,9 +1,8 @@
 -- What stays, as the janitor finds it: by descending rank, so that what stands on a snapshot comes before it.
-use Rattle.std.specs.Prelude.{ℕ, zero, suc, ℤ, Bool, not, ◌||◌, ◌&&◌, nat_eq, nat_le, if◌then◌else◌, List, [], ◌∷◌, ◌++◌}
+use Rattle.std.specs.Prelude.{ℕ, zero, suc, ℤ, Bool, not, ◌||◌, ◌&&◌, nat_eq, if◌then◌else◌, List, [], ◌∷◌, ◌++◌}
 use Rattle.std.specs.List.{filter, flat_map}
 use Rattle.std.specs.Int.Signed.{le_z}
-use Rattle.std.specs.Option.{is_none}
-use Rattle.mesh_list.specs.Keyed.{found, placed}
+use Rattle.mesh_list.specs.Keyed.{placed}
 use Rattle.mesh_values.specs.Names.{name_cmp}
 use Rattle.mesh_values.specs.declared.values.Name.{Name}
 use Rattle.mesh_base.specs.Keys.{snapshot_ref}
@@ -42,14 +41,6 @@ layer t rank (s ∷ ss) wanted = layer t rank ss (if nat_eq s.rank rank then aft
 abbrev pub layers : ℤ → ℕ → List Snapshot → List Ref → List Ref
 layers t zero all wanted = wanted
 layers t (suc rank) all wanted = layers t rank all (layer t rank all wanted)
-
-abbrev pub limit_above : ℕ → ℕ → ℕ
-limit_above limit rank = if nat_le limit rank then suc rank else limit
-
--- a number that is above each rank
-abbrev pub limit_from : ℕ → List Snapshot → ℕ
-limit_from limit [] = limit
-limit_from limit (s ∷ ss) = limit_from (limit_above limit s.rank) ss
 
 -- the snapshots of one rank that pass a test
 abbrev pub gone_layer : (Snapshot → Bool) → ℕ → List Snapshot → List Snapshot
@@ -97,7 +88,3 @@ object_after t wanted s names = if stays t wanted s then placed name_cmp name_it
 abbrev pub objects_after : ℤ → List Ref → List Snapshot → List Name → List Name
 objects_after t wanted [] names = names
 objects_after t wanted (s ∷ ss) names = objects_after t wanted ss (object_after t wanted s names)
-
--- none of these names is that one
-abbrev pub is_absent : List Name → Name → Bool
-is_absent names n = is_none (found name_cmp name_itself n names)

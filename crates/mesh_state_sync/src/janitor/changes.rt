@@ -7,39 +7,23 @@ ghost use Rattle.mesh_base.specs.declared.snapshots.Snapshot.{Snapshot};
 ghost use Rattle.mesh_book.specs.WellFormed.{is_well_formed_book};
 ghost use Rattle.mesh_house.specs.declared.world.Change.{Change};
 ghost use Rattle.mesh_house.specs.declared.world.Change.TheVariants.{DeleteEnv, DeleteSnapshot, DropObject, ForgetVersion, Moment, SetPending};
-ghost use Rattle.mesh_changes.specs.Changes.{names_by_order};
+ghost use Rattle.mesh_changes.specs.Changes.{drops, names_by_order};
 ghost use Rattle.mesh_changes.specs.Kept.{both_lists, gone_snapshots, gone_tables, is_kept, leaving, removes, sweeps};
+ghost use Rattle.mesh_state_sync.specs.janitor.Sweeping.{numbers};
 ghost use Rattle.mesh_state_sync.specs.janitor.Walk.{deletes, deletes_by, deletes_of, discards, forgets, goes, stays, with_names};
 
-use crate::janitor::kept::{is_over, rank_limit, stays, wanted};
+use crate::janitor::faults::Swept;
+use crate::janitor::kept::{is_over, stays, wanted};
 use crate::janitor::tables::gone_tables;
-use crate::naming::{by_order, names_of, place_copy};
+use crate::naming::{ordered_names, place_copy};
 use crate::promote::push_drops;
+use crate::snapshots::rank_limit;
 use mesh_base::{Env, Ref, Snapshot};
 use mesh_book::Book;
 use mesh_house::{Change, Changes};
 use mesh_list::{Duplicate, Memory, Register, Seq, push_made};
 use mesh_values::{Name, Str};
 use std::alloc::Global;
-
-/// What a sweep makes, and how much of each kind goes.
-pub(crate) struct Sweep {
-    pub changes: Changes,
-    pub environments: u64,
-    pub objects: u64,
-    pub snapshots: u64,
-}
-
-impl Drop for Sweep {
-    fn drop(self) {
-        let Sweep {
-            changes: _,
-            environments: _,
-            objects: _,
-            snapshots: _,
-        } = self;
-    }
-}
 
 fn emptied(alloc: Global, env: &Env) -> Result<Change, Memory>
     ensures { IfOk result (λ change. change ≡ SetPending env.now.name [] env.now.expires) }
@@ -101,20 +85,27 @@ fn models(alloc: Global, env: &Env) -> Result<Register<Name>, Memory>
     ensures { IfOk result (λ names. names ≡ names_by_order (map ref_name (both_lists env.now))) }
 {
     if env.previous.is_empty() {
-        return by_order(alloc, names_of(alloc, env.list.as_slice())?);
+        return ordered_names(alloc, env.list.as_slice());
     }
-    let mut names = by_order(alloc, names_of(alloc, env.previous.as_slice())?)?;
+    let mut names = ordered_names(alloc, env.previous.as_slice())?;
     add_names(env.list.as_slice(), &mut names)?;
     Ok(names)
+}
+
+// The views of an environment go.
+fn push_views(alloc: Global, changes: &mut Changes, env: &Env) -> Result<(), Memory>
+    ensures { OnOk result (changes.new ≡ changes.old ++ map (drops env.now.name) (names_by_order (map ref_name (both_lists env.now)))) }
+{
+    let names = models(alloc, env)?;
+    push_drops(alloc, changes, &env.name, names.as_slice())
 }
 
 // An environment goes with its views.
 fn push_removes(alloc: Global, changes: &mut Changes, env: &Env) -> Result<(), Memory>
     ensures { OnOk result (changes.new ≡ changes.old ++ removes env.now) }
 {
-    let names = models(alloc, env)?;
     push_made(changes, emptied(alloc, env))?;
-    push_drops(alloc, changes, &env.name, names.as_slice())?;
+    push_views(alloc, changes, env)?;
     push_made(changes, deleting(env))
 }
 
@@ -231,13 +222,11 @@ fn push_deletes(
 }
 
 // The moment, and the environments that go.
-fn opening(alloc: Global, b: &Book, t: i64) -> Result<Changes, Memory>
-    ensures { IfOk result (λ changes. changes ≡ Moment t ∷ flat_map removes (leaving t b.now.environments)) }
+fn push_opening(alloc: Global, changes: &mut Changes, b: &Book, t: i64) -> Result<(), Memory>
+    ensures { OnOk result (changes.new ≡ changes.old ++ Moment t ∷ flat_map removes (leaving t b.now.environments)) }
 {
-    let mut changes = Seq::new(alloc);
     changes.push(Change::Moment { t })?;
-    push_leaving(alloc, &mut changes, b.environments.as_slice(), t)?;
-    Ok(changes)
+    push_leaving(alloc, changes, b.environments.as_slice(), t)
 }
 
 // The tables that go, and their number.
@@ -257,21 +246,26 @@ fn push_tables(
     Ok(gone.len() as u64)
 }
 
-/// What a sweep makes.
-pub(crate) fn sweep_of(alloc: Global, b: &Book, t: i64) -> Result<Sweep, Memory>
-    requires { is_well_formed_book b.now ≡ true }
-    ensures changes { IfOk result (λ made. made.changes ≡ sweeps b.now t) }
-    ensures numbers { IfOk result (λ made. (made.environments ≡ length (leaving t b.now.environments)) × (made.objects ≡ length (gone_tables b.now t)) × (made.snapshots ≡ length (gone_snapshots b.now t))) }
+/// What a sweep makes, and how much of each kind goes.
+pub(crate) fn push_sweep(
+    alloc: Global,
+    changes: &mut Changes,
+    b: &Book,
+    t: i64,
+) -> Result<Swept, Memory>
+    requires fit { is_well_formed_book b.now ≡ true }
+    requires empty { changes.old ≡ [] }
+    ensures changes { OnOk result (changes.new ≡ sweeps b.now t) }
+    ensures numbers { IfOk result (λ swept. swept ≡ numbers b.now t) }
 {
     let wanted = wanted(alloc, b, t)?;
-    let mut changes = opening(alloc, b, t)?;
-    let objects = push_tables(alloc, &mut changes, b, t, &wanted)?;
-    let snapshots = push_deletes(&mut changes, b, t, &wanted)?;
-    let environments = count_leaving(b.environments.as_slice(), t);
-    Ok(Sweep {
-        changes,
-        environments,
+    push_opening(alloc, changes, b, t)?;
+    let objects = push_tables(alloc, changes, b, t, &wanted)?;
+    let snapshots = push_deletes(changes, b, t, &wanted)?;
+    Ok(Swept {
+        environments: count_leaving(b.environments.as_slice(), t),
         objects,
         snapshots,
+        changes: changes.len() as u64,
     })
 }

@@ -1,28 +1,17 @@
 // What stays, by a walk from what stays for its own sake down to what it stands on.
 ghost use Rattle.std.specs.Prelude.{◌≡◌, true, IfOk, OnOk};
 ghost use Rattle.std.specs.List.{All};
-ghost use Rattle.mesh_list.specs.Keyed.{placed};
-ghost use Rattle.mesh_base.specs.Keys.{ref_cmp, ref_itself, snapshot_ref};
 ghost use Rattle.mesh_base.specs.declared.snapshots.Snapshot.{Snapshot};
-ghost use Rattle.mesh_book.specs.Changes.{with_refs};
 ghost use Rattle.mesh_book.specs.WellFormed.{is_well_formed_book};
 ghost use Rattle.mesh_changes.specs.Environments.{is_over};
 ghost use Rattle.mesh_changes.specs.Kept.{is_kept};
-ghost use Rattle.mesh_state_sync.specs.janitor.Walk.{after, env_after, envs_after, layer, layers, limit_above, limit_from, stays};
+ghost use Rattle.mesh_state_sync.specs.janitor.Walk.{after, env_after, envs_after, layer, layers, stays};
 
+use crate::snapshots::{add_refs, rank_limit, reference};
 use mesh_base::{Env, Ref, Snapshot};
 use mesh_book::Book;
-use mesh_list::{Duplicate, Memory, Register};
+use mesh_list::{Memory, Register};
 use std::alloc::Global;
-
-fn reference(s: &Snapshot) -> Result<Ref, Memory>
-    ensures { IfOk result (λ r. r ≡ snapshot_ref s.now) }
-{
-    Ok(Ref {
-        name: s.name.copy()?,
-        fingerprint: s.fingerprint,
-    })
-}
 
 /// Whether an environment may go.
 pub(crate) fn is_over(t: i64, expires: Option<i64>) -> bool
@@ -32,21 +21,6 @@ pub(crate) fn is_over(t: i64, expires: Option<i64>) -> bool
         None => false,
         Some(expires) => expires <= t,
     }
-}
-
-fn add_ref(r: &Ref, wanted: &mut Register<Ref>) -> Result<(), Memory>
-    ensures { OnOk result (wanted.new ≡ placed ref_cmp ref_itself r.now wanted.old) }
-{
-    wanted.place(r.copy()?)
-}
-
-fn add_refs(refs: &[Ref], wanted: &mut Register<Ref>) -> Result<(), Memory>
-    ensures { OnOk result (wanted.new ≡ with_refs wanted.old refs.now) }
-{
-    for r in refs {
-        add_ref(r, wanted)?;
-    }
-    Ok(())
 }
 
 // What an environment has that stays.
@@ -98,27 +72,6 @@ fn add_layer(t: i64, rank: u64, all: &[Snapshot], wanted: &mut Register<Ref>) ->
         }
     }
     Ok(())
-}
-
-/// A number that is above each rank.
-pub(crate) fn rank_limit(all: &[Snapshot]) -> u64
-    ensures { result ≡ limit_from 0 all.now }
-{
-    let mut limit = 0;
-    for s in all {
-        limit = higher(limit, s.rank);
-    }
-    limit
-}
-
-fn higher(limit: u64, rank: u32) -> u64
-    ensures { result ≡ limit_above limit rank }
-{
-    if limit <= rank as u64 {
-        rank as u64 + 1
-    } else {
-        limit
-    }
 }
 
 // The same for all ranks below the limit, from the highest down.

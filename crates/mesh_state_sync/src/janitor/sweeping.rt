@@ -12,7 +12,7 @@ ghost use Rattle.mesh_changes.specs.Kept.{sweeps};
 ghost use Rattle.mesh_state_sync.specs.declared.janitor.faults.SweepFault.TheVariants.{EnvUnknown, Moment};
 ghost use Rattle.mesh_state_sync.specs.janitor.Sweeping.{Sweeps, as_fault, numbers};
 
-use crate::janitor::changes::sweep_of;
+use crate::janitor::changes::push_sweep;
 use crate::janitor::faults::{SweepFault, Swept};
 use crate::making::make_counted;
 use mesh_book::Book;
@@ -37,14 +37,10 @@ fn sweep_all<W: Warehouse>(alloc: Global, house: &mut W, b: &Book, t: i64) -> Re
     ensures numbers { IfOk result (λ swept. swept ≡ numbers b.now t) }
     ensures calls { IfOk result (λ swept. (W.told house.new).calls ≡ risen swept.changes (W.told house.old).calls) }
 {
-    let sweep = sweep_of(alloc, b, t)?;
-    let changes = make_counted(alloc, house, sweep.changes.as_slice())?;
-    Ok(Swept {
-        environments: sweep.environments,
-        objects: sweep.objects,
-        snapshots: sweep.snapshots,
-        changes,
-    })
+    let mut changes = Seq::new(alloc);
+    let swept = push_sweep(alloc, &mut changes, b, t)?;
+    make_counted(alloc, house, changes.as_slice())?;
+    Ok(swept)
 }
 
 /// Takes out what is over at the moment and what nothing that stays uses, by this book, which was read before. Where the

@@ -1,6 +1,6 @@
 // The tables and stored queries that nothing uses any more.
 ghost use Rattle.std.specs.Prelude.{◌≡◌, IfOk, OnOk, map};
-ghost use Rattle.std.specs.List.{All, filter};
+ghost use Rattle.std.specs.List.{All};
 ghost use Rattle.mesh_list.specs.Keyed.{placed};
 ghost use Rattle.mesh_values.specs.Names.{name_cmp};
 ghost use Rattle.mesh_values.specs.declared.values.Name.{Name};
@@ -8,10 +8,10 @@ ghost use Rattle.mesh_base.specs.declared.snapshots.Snapshot.{Snapshot};
 ghost use Rattle.mesh_book.specs.Changes.{version_object};
 ghost use Rattle.mesh_changes.specs.Changes.{name_itself};
 ghost use Rattle.mesh_changes.specs.Kept.{gone_tables, is_kept, tables};
-ghost use Rattle.mesh_state_sync.specs.janitor.Walk.{is_absent, object_after, objects_after, snapshot_object, stays, with_names};
+ghost use Rattle.mesh_state_sync.specs.janitor.Walk.{object_after, objects_after, snapshot_object, stays, with_names};
 
 use crate::janitor::kept::stays;
-use crate::naming::{by_order, place_copy};
+use crate::naming::{absent, by_order, place_copy};
 use mesh_base::{Ref, Snapshot};
 use mesh_book::{Book, Version};
 use mesh_list::{Duplicate, Memory, Register, Seq, push_made};
@@ -19,12 +19,12 @@ use mesh_values::{Name, Names};
 use std::alloc::Global;
 
 // The objects of versions, as they stand.
-fn objects_of(alloc: Global, versions: &[Version]) -> Result<Vec<Name>, Memory>
-    ensures { IfOk result (λ names. names.items ≡ map version_object versions.now) }
+fn objects_of(alloc: Global, versions: &[Version]) -> Result<Names, Memory>
+    ensures { IfOk result (λ names. names ≡ map version_object versions.now) }
 {
-    let mut names = Vec::new(alloc);
+    let mut names = Seq::new(alloc);
     for version in versions {
-        names.push(version.object.copy()?)?;
+        push_made(&mut names, version.object.copy())?;
     }
     Ok(names)
 }
@@ -77,19 +77,6 @@ fn add_used(
         add_object(t, wanted, s, names)?;
     }
     Ok(())
-}
-
-// Those of some names that are not among others.
-fn absent(alloc: Global, used: &Register<Name>, all: &[Name]) -> Result<Names, Memory>
-    ensures { IfOk result (λ made. made ≡ filter (is_absent used.now) all.now) }
-{
-    let mut made = Seq::new(alloc);
-    for name in all {
-        if used.find(name).is_none() {
-            push_made(&mut made, name.copy())?;
-        }
-    }
-    Ok(made)
 }
 
 /// The tables and stored queries that no snapshot uses that stays, by name.

@@ -1,11 +1,12 @@
 // Renames that are found by the references that they name, and what they make of references.
 ghost use Rattle.std.specs.Prelude.{◌≡◌, ◌++◌, ◌∷◌, [], IfOk, OnOk, map};
-ghost use Rattle.mesh_base.specs.Keys.{ref_cmp, refs_exact, refs_total, snapshot_ref};
+ghost use Rattle.mesh_base.specs.Keys.{ref_cmp, refs_exact, refs_total};
 ghost use Rattle.mesh_moves.specs.Renames.{renamed};
 ghost use Rattle.mesh_state_sync.specs.migrate.Walk.{entry_old, renames_of};
 
+use crate::snapshots::reference;
 use mesh_base::{Ref, Refs, Rename, Snapshot};
-use mesh_list::{Duplicate, Keyed, Memory, Register, Seq};
+use mesh_list::{Duplicate, Keyed, Memory, Register, Seq, push_made};
 use std::alloc::Global;
 use std::cmp::Ordering;
 
@@ -43,16 +44,6 @@ impl Keyed for Entry {
     ghost exact = { refs_exact };
 }
 
-/// The reference of a snapshot.
-pub(crate) fn reference(s: &Snapshot) -> Result<Ref, Memory>
-    ensures { IfOk result (λ r. r ≡ snapshot_ref s.now) }
-{
-    Ok(Ref {
-        name: s.name.copy()?,
-        fingerprint: s.fingerprint,
-    })
-}
-
 /// The fingerprint that the map gives a reference.
 pub(crate) fn new_fingerprint(entries: &Entries, r: &Ref) -> [u8; 32]
     ensures { result ≡ (renamed (renames_of entries.now) r.now).fingerprint }
@@ -78,7 +69,7 @@ pub(crate) fn renamed_refs(entries: &Entries, refs: &Refs) -> Result<Refs, Memor
 {
     let mut made = Seq::new(refs.alloc());
     for r in refs.as_slice() {
-        made.push(renamed(entries, r)?)?;
+        push_made(&mut made, renamed(entries, r))?;
     }
     Ok(made)
 }

@@ -4,10 +4,11 @@ ghost use Rattle.mesh_book.specs.WellFormed.{is_well_formed_book};
 ghost use Rattle.mesh_state_sync.specs.migrate.Migration.{IsMap, IsRefused, first_twins};
 ghost use Rattle.mesh_state_sync.specs.migrate.Walk.{layers, limit_from, rename_at, renames_of};
 
-use crate::migrate::entries::{Entries, new_fingerprint, own_entries, reference};
+use crate::migrate::entries::{Entries, new_fingerprint, own_entries};
 use crate::migrate::fault::MigrationFault;
 use crate::migrate::twins::without_twins;
 use crate::migrate::walk::put_all;
+use crate::snapshots::reference;
 use mesh_base::{Rename, Renames, Snapshot};
 use mesh_book::Book;
 use mesh_list::{Memory, Seq};
@@ -46,14 +47,17 @@ fn map_of(alloc: Global, b: &Book) -> Result<Renames, Memory>
 
 /// The map of a book: each snapshot's new fingerprint. `Twins` tells the first snapshot in the book's order that would get
 /// the name and fingerprint of a later one, with the first such later one.
-#[tactic(auto, using(crate::proofs::migrate::Near::tells_the_first, crate::proofs::migrate::Near::none_at_all))]
 pub fn book_renames(alloc: Global, b: &Book) -> Result<Renames, MigrationFault>
     requires { is_well_formed_book b.now ≡ true }
     ensures map { IfOk result (λ renames. IsMap b.now renames) }
     ensures apart { IfOk result (λ renames. first_twins renames ≡ None) }
     ensures refused { IfErr result (λ fault. IsRefused b.now fault) }
 {
-    let renames = map_of(alloc, b)?;
-    without_twins(renames.as_slice())?;
-    Ok(renames)
+    match map_of(alloc, b) {
+        Err(_) => Err(MigrationFault::Memory),
+        Ok(renames) => match without_twins(renames.as_slice()) {
+            Ok(()) => Ok(renames),
+            Err(fault) => Err(fault),
+        },
+    }
 }

@@ -1,9 +1,10 @@
 // The new fingerprints, one rank after another: what a snapshot stands on has a lower rank.
 ghost use Rattle.std.specs.Prelude.{◌≡◌, IfOk, OnOk};
 ghost use Rattle.mesh_state_sync.specs.migrate.Migration.{fingerprint_by, rename_by};
-ghost use Rattle.mesh_state_sync.specs.migrate.Walk.{layer, layers, limit_above, limit_from, put, renames_of};
+ghost use Rattle.mesh_state_sync.specs.migrate.Walk.{layer, layers, limit_from, put, renames_of};
 
-use crate::migrate::entries::{Entries, Entry, reference, renamed_refs};
+use crate::migrate::entries::{Entries, Entry, renamed_refs};
+use crate::snapshots::{rank_limit, reference};
 use mesh_base::{Rename, Snapshot};
 use mesh_canon_text::node_text;
 use mesh_fingerprint::fingerprint;
@@ -43,27 +44,6 @@ fn put_layer(entries: &mut Entries, rank: u64, all: &[Snapshot]) -> Result<(), M
         }
     }
     Ok(())
-}
-
-fn higher(limit: u64, rank: u32) -> u64
-    ensures { result ≡ limit_above limit rank }
-{
-    if limit <= rank as u64 {
-        rank as u64 + 1
-    } else {
-        limit
-    }
-}
-
-// A number that is above each rank.
-fn rank_limit(all: &[Snapshot]) -> u64
-    ensures { result ≡ limit_from 0 all.now }
-{
-    let mut limit = 0;
-    for s in all {
-        limit = higher(limit, s.rank);
-    }
-    limit
 }
 
 /// Puts the new fingerprint of each snapshot in place, from the lowest rank up.

@@ -12,7 +12,7 @@ use mesh_base::{Ref, Refs};
 use mesh_book::Book;
 use mesh_house::{Change, Changes};
 use mesh_layer::view_in;
-use mesh_list::{Duplicate, Memory, Seq, both, push_made};
+use mesh_list::{Duplicate, Memory, Seq, both, push_made, together};
 use mesh_values::{LIFETIME, Name, Names, Str, same_text};
 use std::alloc::Global;
 
@@ -43,8 +43,7 @@ fn setting(env: &Str, list: &Refs, t: i64) -> Result<Change, Memory>
 fn pointing(alloc: Global, env: &Str, model: &Name, object: &Name) -> Result<Change, Memory>
     ensures { IfOk result (λ change. change ≡ PointView (view_in env.now model.now) object.now) }
 {
-    let view = view_in(alloc, env, model)?;
-    let target = object.copy()?;
+    let (view, target) = together(view_in(alloc, env, model), object.copy())?;
     Ok(Change::PointView { view, target })
 }
 
@@ -96,6 +95,32 @@ pub fn push_drops(
     Ok(())
 }
 
+// The views of what the environment loses go, and only then it is finalized.
+fn push_end(alloc: Global, changes: &mut Changes, env: &Str, gone: &[Name]) -> Result<(), Memory>
+    ensures { OnOk result (changes.new ≡ changes.old ++ (map (drops env.now) gone.now ++ Finalize env.now ∷ [])) }
+{
+    push_drops(alloc, changes, env, gone)?;
+    push_made(changes, finalizing(env))
+}
+
+// All of them, where these models go.
+fn push_steps(
+    alloc: Global,
+    changes: &mut Changes,
+    env: &Str,
+    list: &Refs,
+    objects: &Names,
+    gone: &[Name],
+    t: i64,
+) -> Result<(), Memory>
+    requires { IsTrue (is_moment t) }
+    ensures { OnOk result (changes.new ≡ changes.old ++ SetPending env.now list.now (expiry env.now t) ∷ (map (points env.now) (paired list.now objects.now) ++ (map (drops env.now) gone.now ++ Finalize env.now ∷ []))) }
+{
+    push_made(changes, setting(env, list, t))?;
+    push_points(alloc, changes, env, list.as_slice(), objects.as_slice())?;
+    push_end(alloc, changes, env, gone)
+}
+
 /// The changes that give the environment its list and its views.
 pub(crate) fn promotion(
     alloc: Global,
@@ -110,15 +135,6 @@ pub(crate) fn promotion(
 {
     let gone = left_out(alloc, b, env, list.as_slice())?;
     let mut changes = Seq::new(alloc);
-    push_made(&mut changes, setting(env, list, t))?;
-    push_points(
-        alloc,
-        &mut changes,
-        env,
-        list.as_slice(),
-        objects.as_slice(),
-    )?;
-    push_drops(alloc, &mut changes, env, gone.as_slice())?;
-    push_made(&mut changes, finalizing(env))?;
+    push_steps(alloc, &mut changes, env, list, objects, gone.as_slice(), t)?;
     Ok(changes)
 }

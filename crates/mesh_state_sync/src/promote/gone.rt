@@ -1,33 +1,19 @@
 // The models that an environment loses.
-ghost use Rattle.std.specs.Prelude.{◌≡◌, IfOk, OnOk};
+ghost use Rattle.std.specs.Prelude.{◌≡◌, IfOk, map};
 ghost use Rattle.std.specs.Option.{option_copied};
-ghost use Rattle.std.specs.List.{filter};
-ghost use Rattle.mesh_list.specs.Keyed.{placed};
-ghost use Rattle.mesh_base.specs.Keys.{ref_cmp, ref_itself};
-ghost use Rattle.mesh_book.specs.Changes.{joined, previous_of, with_refs};
-ghost use Rattle.mesh_state_sync.specs.promote.Promotion.{is_absent, left_out};
+ghost use Rattle.mesh_base.specs.Keys.{ref_name};
+ghost use Rattle.mesh_book.specs.Changes.{joined, previous_of};
+ghost use Rattle.mesh_changes.specs.Changes.{names_by_order};
+ghost use Rattle.mesh_changes.specs.Environments.{env_at};
+ghost use Rattle.mesh_state_sync.specs.promote.Promotion.{left_out};
 
-use crate::naming::{by_order, names_of};
+use crate::naming::{absent, names_of, ordered_names};
+use crate::snapshots::add_refs;
 use mesh_base::{Env, Ref, Refs};
 use mesh_book::Book;
-use mesh_list::{Duplicate, Memory, Register, Seq};
+use mesh_list::{Duplicate, Memory, Register, Seq, together};
 use mesh_values::{Name, Names, Str};
 use std::alloc::Global;
-
-fn add_ref(r: &Ref, all: &mut Register<Ref>) -> Result<(), Memory>
-    ensures { OnOk result (all.new ≡ placed ref_cmp ref_itself r.now all.old) }
-{
-    all.place(r.copy()?)
-}
-
-fn add_refs(refs: &[Ref], all: &mut Register<Ref>) -> Result<(), Memory>
-    ensures { OnOk result (all.new ≡ with_refs all.old refs.now) }
-{
-    for r in refs {
-        add_ref(r, all)?;
-    }
-    Ok(())
-}
 
 fn joined(alloc: Global, list: &[Ref], previous: &[Ref]) -> Result<Refs, Memory>
     ensures { IfOk result (λ all. all ≡ joined list.now previous.now) }
@@ -49,25 +35,19 @@ fn previous_of(alloc: Global, env: Option<&Env>) -> Result<Refs, Memory>
     }
 }
 
-/// Those of some names that are not among others.
-fn absent(alloc: Global, names: &Register<Name>, all: &[Name]) -> Result<Names, Memory>
-    ensures { IfOk result (λ made. made ≡ filter (is_absent names.now) all.now) }
+// The models that the environment had, by name.
+fn had(alloc: Global, b: &Book, env: &Str) -> Result<Register<Name>, Memory>
+    ensures { IfOk result (λ made. made ≡ names_by_order (map ref_name (previous_of (env_at b.now env.now)))) }
 {
-    let mut made = Seq::new(alloc);
-    for name in all {
-        if names.find(name).is_none() {
-            made.push(name.copy()?)?;
-        }
-    }
-    Ok(made)
+    let previous = previous_of(alloc, b.environments.find(env))?;
+    ordered_names(alloc, previous.as_slice())
 }
 
 /// The models that the environment had and the list doesn't have, by name.
 pub(crate) fn left_out(alloc: Global, b: &Book, env: &Str, list: &[Ref]) -> Result<Names, Memory>
     ensures { IfOk result (λ made. made ≡ left_out b.now env.now list.now) }
 {
-    let previous = previous_of(alloc, b.environments.find(env))?;
-    let all = by_order(alloc, names_of(alloc, previous.as_slice())?)?;
-    let names = Register::from_vec(names_of(alloc, list)?);
+    let (all, names) = together(had(alloc, b, env), names_of(alloc, list))?;
+    let names = Register::from_vec(names.into_vec());
     absent(alloc, &names, all.as_slice())
 }

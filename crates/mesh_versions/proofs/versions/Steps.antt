@@ -1,5 +1,6 @@
 -- References and objects, one after another.
-use Rattle.std.proofs.Common.{◌≡◌, ℕ, true, zero, suc, List, [], ◌∷◌, ◌++◌, map, length, take, Some, None, refl, sym, ◌∙◌, ap, arith, append_assoc}
+use Rattle.std.specs.Prelude.{IfOk}
+use Rattle.std.proofs.Common.{◌≡◌, ℕ, true, Ok, Err, Result, zero, suc, List, [], ◌∷◌, ◌++◌, map, length, take, Some, None, refl, sym, ◌∙◌, ap, arith, append_assoc}
 use Rattle.std.specs.List.{All, AllZip, flat_map, slice_get}
 use Rattle.std.specs.Option.{is_some, option_and_then, option_map, option_to_list}
 use Rattle.std.specs.declared.option.Option.{Option}
@@ -24,6 +25,11 @@ use Rattle.mesh_versions.specs.declared.versions.faults.PlanFault.{PlanFault}
 use Rattle.mesh_versions.specs.declared.versions.faults.PlanFault.TheVariants.{Model, Moment, EnvUnknown, EnvPending, Memory}
 use Rattle.mesh_versions.specs.versions.Clashes.{IsAlone, Refuses, RefusesModel, compared_in, refs_at, versions}
 use Rattle.mesh_versions.specs.versions.Index.{listed_print, ref_print}
+
+-- what an answer is, by what it was first told to be
+pub turned : {A E : Type 0} (P Q : A → Type 0) (r : Result A E) → ((x : A) → P x → Q x) → IfOk r P → IfOk r Q
+turned P Q (Ok x) f is = f x is
+turned P Q (Err e) f is = tt
 
 -- one reference more
 first_ref : (nodes : List Node) (p : ℕ) (places : List ℕ) → refs_at nodes (p ∷ places) ≡ map node_ref (option_to_list (slice_get nodes p)) ++ refs_at nodes places

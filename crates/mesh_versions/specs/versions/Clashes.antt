@@ -92,6 +92,14 @@ RefusesModel all nodes base category n EnvUnknown = ⊥
 RefusesModel all nodes base category n EnvPending = ⊥
 RefusesModel all nodes base category n Memory = Unit {0}
 
+-- a clash with a stored fingerprint, as it is told where there is memory for it
+abbrev pub TellsClash : List ℕ → Node → PlanFault → Type 0
+TellsClash stored n (Model name kind) = (name ≡ n.own.name) × (kind ≡ FingerprintClash stored n.fingerprint)
+TellsClash stored n (Moment given kept) = ⊥
+TellsClash stored n EnvUnknown = ⊥
+TellsClash stored n EnvPending = ⊥
+TellsClash stored n Memory = Unit {0}
+
 -- a clash is told of the first model, by rank and name, that has one
 pub record IsFirstClash (all : List Snapshot) (nodes : List Node) (base : List Ref) (categories : List Category) (name : Name) (kind : FaultKind) : Type 0 where
   pub at : ℕ

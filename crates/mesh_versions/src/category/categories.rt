@@ -1,5 +1,5 @@
 // The category of each model of a project.
-ghost use Rattle.std.specs.Prelude.{◌≡◌, ◌↔◌, ◌<◌, ℕ, length, take, IsTrue, IfOk, Some};
+ghost use Rattle.std.specs.Prelude.{◌≡◌, ◌↔◌, ◌<◌, ◌++◌, ◌∷◌, [], ℕ, length, take, IsTrue, IfOk, OnOk, Some};
 ghost use Rattle.std.specs.BTreeMap.{get};
 ghost use Rattle.std.specs.List.{AllZip, slice_get};
 ghost use Rattle.std.specs.Option.{option_copied};
@@ -17,7 +17,7 @@ use crate::category::additive::is_additive;
 use crate::category::named::{place_of, places_of, removed};
 use crate::category::parents::are_alike;
 use mesh_base::{Categories, Category, CategoryList, Node};
-use mesh_list::{Memory, Same, Seq};
+use mesh_list::{Memory, Same, Seq, together};
 use mesh_rules::Project;
 use mesh_values::Name;
 use std::alloc::Global;
@@ -96,6 +96,19 @@ fn category_at(
     }
 }
 
+// What a model's answers are comes behind those of the models before it.
+fn push_answers(
+    adds: &mut Vec<bool>,
+    made: &mut CategoryList,
+    is: bool,
+    category: Category,
+) -> Result<(), Memory>
+    ensures { OnOk result ((adds.new.items ≡ adds.old.items ++ is ∷ []) × (made.new ≡ made.old ++ category ∷ [])) }
+{
+    adds.push(is)?;
+    made.push(category)
+}
+
 fn categories(alloc: Global, olds: &[Node], news: &[Node]) -> Result<CategoryList, Memory>
     requires old { IsTrue (is_proper olds.now) }
     requires new { IsTrue (is_proper news.now) }
@@ -106,8 +119,7 @@ fn categories(alloc: Global, olds: &[Node], news: &[Node]) -> Result<CategoryLis
     let mut made = Seq::new(alloc);
     for at in 0..news.len() {
         let (is, category) = category_at(olds, news, &places, adds.as_slice(), at);
-        adds.push(is)?;
-        made.push(category)?;
+        push_answers(&mut adds, &mut made, is, category)?;
     }
     Ok(made)
 }
@@ -118,8 +130,7 @@ fn compared(alloc: Global, olds: &[Node], news: &[Node]) -> Result<Categories, M
     ensures of { IfOk result (λ made. HaveCategories olds.now news.now made.of) }
     ensures removed { IfOk result (λ made. AreGone olds.now news.now made.removed) }
 {
-    let of = categories(alloc, olds, news)?;
-    let removed = removed(alloc, olds, news)?;
+    let (of, removed) = together(categories(alloc, olds, news), removed(alloc, olds, news))?;
     Ok(Categories { of, removed })
 }
 

@@ -1,13 +1,14 @@
 // Where the models of a list stand, by their names.
-ghost use Rattle.std.specs.Prelude.{◌≡◌, IfOk};
+ghost use Rattle.std.specs.Prelude.{◌≡◌, ◌++◌, ◌∷◌, [], if◌then◌else◌, IfOk, OnOk};
 ghost use Rattle.std.specs.BTreeMap.{get};
+ghost use Rattle.std.specs.Option.{is_none};
 ghost use Rattle.mesh_values.specs.Names.{name_cmp};
 ghost use Rattle.mesh_values.specs.declared.values.Name.{Name};
 ghost use Rattle.mesh_reuse.specs.Categories.{removed};
 ghost use Rattle.mesh_versions.specs.category.Gone.{AreGone, IsAscending, IsPlaceOf, IsSameBag, names_of};
 
 use mesh_base::Node;
-use mesh_list::{Duplicate, Memory, Seq};
+use mesh_list::{Duplicate, Memory, Seq, push_made};
 use mesh_values::{Name, Names};
 use std::alloc::Global;
 use std::collections::BTreeMap;
@@ -30,16 +31,23 @@ pub(crate) fn place_of(places: &BTreeMap<Name, usize>, name: &Name) -> Option<us
     places.get(name).copied()
 }
 
+// A name comes to those that are gone, where it has none of these places.
+fn push_gone(made: &mut Names, places: &BTreeMap<Name, usize>, name: &Name) -> Result<(), Memory>
+    ensures { OnOk result (made.new ≡ made.old ++ (if is_none (get name_cmp places.now name.now) then name.now ∷ [] else [])) }
+{
+    match places.get(name) {
+        Some(_) => Ok(()),
+        None => push_made(made, name.copy()),
+    }
+}
+
 fn gone(alloc: Global, olds: &[Node], news: &[Node]) -> Result<Names, Memory>
     ensures { IfOk result (λ made. made ≡ removed (names_of olds.now) (names_of news.now)) }
 {
     let places = places_of(alloc, news)?;
     let mut made = Seq::new(alloc);
     for node in olds {
-        match places.get(&node.own.name) {
-            Some(_) => {}
-            None => made.push(node.own.name.copy()?)?,
-        }
+        push_gone(&mut made, &places, &node.own.name)?;
     }
     Ok(made)
 }

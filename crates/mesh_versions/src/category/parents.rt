@@ -1,16 +1,24 @@
 // Whether the parents of two models are compatible, pair by pair.
 ghost use Rattle.std.specs.Prelude.{◌≡◌, false, slice_index_or};
 ghost use Rattle.std.specs.List.{slice_get};
+ghost use Rattle.std.specs.Option.{option_copied};
 ghost use Rattle.mesh_versions.specs.category.Alike.{are_alike, have_one_name, is_alike};
 
 use mesh_base::Node;
 
-fn have_one_name(olds: &[Node], news: &[Node], p: u32, q: u32) -> bool
-    ensures { result ≡ have_one_name (slice_get olds.now p) (slice_get news.now q) }
+/// The model at a place.
+pub(crate) fn node_at<'a>(nodes: &'a [Node], place: u32) -> Option<&'a Node>
+    ensures { option_copied result ≡ slice_get nodes.now place }
 {
-    match olds.get(p as usize) {
+    nodes.get(place as usize)
+}
+
+fn have_one_name(old: Option<&Node>, new: Option<&Node>) -> bool
+    ensures { result ≡ have_one_name (option_copied old.entry) (option_copied new.entry) }
+{
+    match old {
         None => false,
-        Some(old) => match news.get(q as usize) {
+        Some(old) => match new {
             None => false,
             Some(new) => old.own.name.compare(&new.own.name).is_eq(),
         },
@@ -29,7 +37,7 @@ fn is_set(bits: &[bool], at: u32) -> bool
 fn is_alike(olds: &[Node], news: &[Node], adds: &[bool], p: u32, q: u32) -> bool
     ensures { result ≡ is_alike olds.now news.now adds.now p q }
 {
-    have_one_name(olds, news, p, q) && is_set(adds, q)
+    have_one_name(node_at(olds, p), node_at(news, q)) && is_set(adds, q)
 }
 
 /// Whether the old and the new parents have the same names, one beside the other, and each new one only adds columns to

@@ -1,7 +1,7 @@
 // Whether a model's fingerprint stands for it alone.
 ghost use Rattle.std.specs.Prelude.{◌≡◌, ◌++◌, ◌⊎◌, ℕ, List, false, true, map, IsTrue, IfOk, OnOk, Some};
 ghost use Rattle.std.specs.BTreeMap.{get};
-ghost use Rattle.std.specs.List.{Contains, slice_get};
+ghost use Rattle.std.specs.List.{Contains};
 ghost use Rattle.std.specs.Option.{option_copied, option_to_list};
 ghost use Rattle.mesh_values.specs.Names.{text_cmp};
 ghost use Rattle.mesh_base.specs.declared.snapshots.Snapshot.{Snapshot};
@@ -11,6 +11,7 @@ ghost use Rattle.mesh_rules.specs.Proper.{is_proper};
 ghost use Rattle.mesh_versions.specs.versions.Clashes.{ClashesWithBook, ClashesWithProject, IsAlone, IsOf, SuitsBook, SuitsProject, refs_at};
 ghost use Rattle.mesh_versions.specs.versions.Index.{IsIndex, again, node_print, snapshot_print};
 
+use crate::category::node_at;
 use crate::versions::index::{Index, Prints};
 use mesh_base::{Node, Ref, Refs, Snapshot};
 use mesh_book::Book;
@@ -35,13 +36,6 @@ pub(crate) fn known<'a>(b: &'a Book, node: &Node) -> Result<Option<&'a Snapshot>
     Ok(b.snapshots.find(&r))
 }
 
-// The model at a place.
-fn node_at<'a>(nodes: &'a [Node], place: u32) -> Option<&'a Node>
-    ensures { option_copied result ≡ slice_get nodes.now place }
-{
-    nodes.get(place as usize)
-}
-
 fn put_ref(refs: &mut Refs, node: Option<&Node>) -> Result<(), Memory>
     ensures { OnOk result (refs.new ≡ refs.old ++ map node_ref (option_to_list (option_copied node.entry))) }
 {
@@ -52,7 +46,6 @@ fn put_ref(refs: &mut Refs, node: Option<&Node>) -> Result<(), Memory>
 }
 
 // The models at some places.
-#[tactic(auto, using(crate::proofs::versions::Steps::one_more_ref))]
 fn refs_at(alloc: Global, nodes: &[Node], places: &[u32]) -> Result<Refs, Memory>
     ensures { IfOk result (λ refs. refs ≡ refs_at nodes.now places.now) }
 {

@@ -8,7 +8,7 @@ ghost use Rattle.mesh_values.specs.declared.values.Name.{Name};
 ghost use Rattle.mesh_versions.specs.versions.Index.{IsIndex, again, holder, listed_print, node_print, snapshot_print};
 
 use mesh_base::{Node, Ref, Snapshot};
-use mesh_list::{Duplicate, Memory};
+use mesh_list::{Duplicate, Memory, together};
 use mesh_values::Name;
 use std::alloc::Global;
 use std::collections::BTreeMap;
@@ -117,10 +117,8 @@ pub(crate) fn indexed(
 ) -> Result<Index, Memory>
     ensures { IfOk result (λ index. IsIndex all.now nodes.now base.now index) }
 {
-    let stored = stored(alloc, all)?;
-    let given = given(alloc, nodes)?;
-    let objects = objects(alloc, all)?;
-    let compared = compared(alloc, base)?;
+    let (stored, given) = together(stored(alloc, all), given(alloc, nodes))?;
+    let (objects, compared) = together(objects(alloc, all), compared(alloc, base))?;
     Ok(Index {
         stored,
         given,

@@ -3,7 +3,7 @@ ghost use Rattle.std.specs.Prelude.{◌≡◌, ◌<◌, ◌++◌, codes, IfOk, O
 ghost use Rattle.hex.specs.Hex.{encode_lower};
 ghost use Rattle.mesh_due.specs.Versions.{group, table_name};
 
-use mesh_list::{Memory, Seq};
+use mesh_list::{Memory, Seq, together};
 use mesh_values::{Name, Str};
 use std::alloc::Global;
 
@@ -57,7 +57,6 @@ pub(crate) fn table_name(
     requires { k < 4 }
     ensures { IfOk result (λ name. name ≡ table_name m.now print.now k) }
 {
-    let schema = schema_of(alloc, &m.schema)?;
-    let model = model_of(alloc, m, print, k)?;
+    let (schema, model) = together(schema_of(alloc, &m.schema), model_of(alloc, m, print, k))?;
     Ok(Name { schema, model })
 }

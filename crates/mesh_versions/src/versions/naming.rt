@@ -6,9 +6,7 @@ ghost use Rattle.mesh_rules.specs.Proper.{is_proper};
 ghost use Rattle.mesh_versions.specs.category.Stated.{HaveCategories};
 ghost use Rattle.mesh_due.specs.Versions.{version};
 ghost use Rattle.mesh_listed.specs.Listed.{is_list_fit, listed};
-ghost use Rattle.mesh_tokens.specs.declared.faults.FaultKind.TheVariants.{FingerprintClash};
-ghost use Rattle.mesh_versions.specs.declared.versions.faults.PlanFault.TheVariants.{Model};
-ghost use Rattle.mesh_versions.specs.versions.Clashes.{IsAlone, Refuses, RefusesModel, compared_in, versions};
+ghost use Rattle.mesh_versions.specs.versions.Clashes.{IsAlone, Refuses, RefusesModel, TellsClash, compared_in, versions};
 ghost use Rattle.mesh_versions.specs.versions.Index.{IsIndex};
 
 use crate::versions::clashes::is_alone;
@@ -17,23 +15,26 @@ use crate::versions::index::{Index, indexed};
 use crate::versions::objects::{Object, object_of};
 use mesh_base::{Categories, Category, Node, Ref, Refs};
 use mesh_book::Book;
-use mesh_list::{Duplicate, Memory, Seq};
+use mesh_list::{Duplicate, Seq};
 use mesh_rules::Project;
 use mesh_tokens::FaultKind;
 use mesh_values::{Name, Names};
 use std::alloc::Global;
 
-// A model's fingerprint clashes with a stored one.
-fn clash(node: &Node, stored: [u8; 32]) -> Result<PlanFault, Memory>
-    ensures { IfOk result (λ fault. fault ≡ Model node.now.own.name (FingerprintClash stored node.now.fingerprint)) }
+// A model's fingerprint clashes with a stored one, which is told where there is memory for it.
+fn clash(node: &Node, stored: [u8; 32]) -> PlanFault
+    ensures { TellsClash stored node.now result }
 {
-    Ok(PlanFault::Model {
-        name: node.own.name.copy()?,
-        kind: FaultKind::FingerprintClash {
-            stored,
-            given: node.fingerprint,
+    match node.own.name.copy() {
+        Ok(name) => PlanFault::Model {
+            name,
+            kind: FaultKind::FingerprintClash {
+                stored,
+                given: node.fingerprint,
+            },
         },
-    })
+        Err(_) => PlanFault::Memory,
+    }
 }
 
 // The object of one model.
@@ -55,11 +56,11 @@ fn named(
     ensures refused { IfErr result (λ fault. RefusesModel b.now.snapshots nodes.now base.now category node.now fault) }
 {
     if !is_alone(alloc, b, index, nodes, node, base)? {
-        return Err(clash(node, node.fingerprint)?);
+        return Err(clash(node, node.fingerprint));
     }
     match object_of(alloc, b, index, nodes, base, node, category)? {
         Object::Named(name) => Ok(name),
-        Object::Taken(stored) => Err(clash(node, stored)?),
+        Object::Taken(stored) => Err(clash(node, stored)),
     }
 }
 

@@ -10,7 +10,7 @@ ghost use Rattle.mesh_versions.specs.versions.Standing.{node_by, places_by, snap
 use crate::versions::standing::{Standing, collected, places};
 use mesh_base::{Indexes, Node, Nodes, Ref, Refs, Snapshot};
 use mesh_book::Book;
-use mesh_list::{Duplicate, Memory, Seq};
+use mesh_list::{Duplicate, Memory, Seq, push_made, together};
 use mesh_rules::Project;
 use mesh_values::Name;
 use std::alloc::Global;
@@ -44,8 +44,10 @@ fn parents_at(
 fn as_node(alloc: Global, places: &BTreeMap<Name, u32>, s: &Snapshot) -> Result<Node, Memory>
     ensures { IfOk result (λ node. node ≡ node_by (get name_cmp places.now) s.now) }
 {
-    let parents = parents_at(alloc, places, s.parents.as_slice())?;
-    let own = s.own.copy()?;
+    let (parents, own) = together(
+        parents_at(alloc, places, s.parents.as_slice()),
+        s.own.copy(),
+    )?;
     Ok(Node {
         own,
         parents,
@@ -59,7 +61,7 @@ fn as_nodes(alloc: Global, places: &BTreeMap<Name, u32>, all: &[Standing]) -> Re
 {
     let mut nodes = Seq::new(alloc);
     for one in all {
-        nodes.push(as_node(alloc, places, one.snapshot)?)?;
+        push_made(&mut nodes, as_node(alloc, places, one.snapshot))?;
     }
     Ok(nodes)
 }
@@ -71,8 +73,7 @@ fn listed(alloc: Global, b: &Book, list: &[Ref]) -> Result<Nodes, Memory>
 {
     let all = collected(alloc, b, list)?;
     let places = places(alloc, all.as_slice())?;
-    let nodes = as_nodes(alloc, &places, all.as_slice())?;
-    Ok(nodes)
+    as_nodes(alloc, &places, all.as_slice())
 }
 
 /// The project of a list that an environment of the book may have. Each snapshot is found in steps in proportion to the

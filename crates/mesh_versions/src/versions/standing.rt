@@ -1,7 +1,8 @@
 // The snapshots that a list names, by rank and name.
-ghost use Rattle.std.specs.Prelude.{◌≡◌, IfOk, OnOk};
+ghost use Rattle.std.specs.Prelude.{◌≡◌, Some, if◌then◌else◌, IfOk, OnOk};
 ghost use Rattle.std.specs.BTreeMap.{get};
 ghost use Rattle.std.specs.Option.{option_copied};
+ghost use Rattle.std.specs.Ordering.{is_eq};
 ghost use Rattle.mesh_values.specs.Names.{name_cmp};
 ghost use Rattle.mesh_values.specs.declared.values.Name.{Name};
 ghost use Rattle.mesh_listed.specs.Listed.{entries};
@@ -102,6 +103,18 @@ fn as_place(at: usize) -> Result<u32, Memory>
     }
 }
 
+// A name with its place, instead of the one that it had.
+fn stand_at(places: &mut BTreeMap<Name, u32>, name: &Name, at: usize) -> Result<(), Memory>
+    ensures { OnOk result ((other : Name) → get name_cmp places.new other ≡ (if is_eq (name_cmp name.now other) then Some at else get name_cmp places.old other)) }
+{
+    let place = as_place(at)?;
+    let key = name.copy()?;
+    match places.insert(key, place) {
+        Ok(_) => Ok(()),
+        Err(_) => Err(Memory),
+    }
+}
+
 /// Where they stand, by their names.
 pub(crate) fn places(alloc: Global, all: &[Standing]) -> Result<BTreeMap<Name, u32>, Memory>
     ensures { IfOk result (λ places. (name : Name) → get name_cmp places name ≡ place_from 0 name (snapshots_of all.now)) }
@@ -111,8 +124,7 @@ pub(crate) fn places(alloc: Global, all: &[Standing]) -> Result<BTreeMap<Name, u
     while left > 0 {
         left -= 1;
         let s = all[left].snapshot;
-        let name = s.name.copy()?;
-        places.insert(name, as_place(left)?)?;
+        stand_at(&mut places, &s.name, left)?;
     }
     Ok(places)
 }

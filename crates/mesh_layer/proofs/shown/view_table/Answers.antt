@@ -2,7 +2,7 @@ use Rattle.std.proofs.Common.{Some, sym, ap, ◌∙◌}
 use Rattle.mesh_house.specs.World.{view}
 use Rattle.mesh_layer.specs.Asked.{lost_table, table_behind}
 use Rattle.mesh_changes.specs.Environments.{view_in}
-use Rattle.mesh_layer.proofs.Finding.{answers, and_then, by_read, part_fails, read_is, told_later}
+use Rattle.mesh_layer.proofs.Finding.{answers, and_then, by_read, house_fails, part_fails, read_is, stays, told_later, wants}
 use Rattle.mesh_layer.proofs.Heights.{target_is}
 use Rattle.mesh_layer.proofs.shown.view_table.Goals as goal
 
@@ -25,3 +25,9 @@ returns g c =
           ∙ target_is w 4096 (record { first = c.args.model.now; second = c.in-Some.target }) c.in_ok-found-in-Some.found c.in_ok-found-in-Some.ensures.height here.1
           ∙ ap Some (sym c.in_ok-table-in-Some.ensures),
     ))
+
+pub returns-in_err-name : goal.returns-in_err-name
+returns-in_err-name g c = wants _ _ _ _ _ c.from_residual.result (stays _) c.from_residual.ensures.1
+
+pub returns-in_err-view : goal.returns-in_err-view
+returns-in_err-view g c = house_fails _ _ _ _ _ _ _ c.in_err-view.field-0.0 c.from_residual-in_err-view.result (stays _) c.in_err-view.ensures c.from_residual-in_err-view.ensures.1

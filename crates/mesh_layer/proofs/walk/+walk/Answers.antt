@@ -1,23 +1,22 @@
-use Rattle.std.proofs.Common.{◌≡◌, List, Some, map, take, sym, ap, ◌∙◌, subst, arith}
+use Rattle.std.proofs.Common.{◌≡◌, List, Some, None, map, take, sym, ap, ◌∙◌, subst, arith}
 use Rattle.std.proofs.lemmas.List.{take_all}
 use Rattle.mesh_values.specs.declared.values.Pair.{Pair}
 use Rattle.mesh_house.specs.declared.objects.Body.TheVariants.{Stored}
 use Rattle.mesh_house.specs.World.{object_at, body_of}
 use Rattle.mesh_shown.specs.Shown.{each_there, rows_through, target_table}
 use Rattle.mesh_layer.specs.Lost.{lost_behind, lost_through}
-use Rattle.mesh_layer.specs.Read.{IsFound}
-use Rattle.mesh_layer.proofs.Finding.{answers, and_then, by_read, part_fails, passes_on, read_is, stays, told_later}
-use Rattle.mesh_layer.proofs.Heights.{body_shown, first_at, lost_deeper, stored_shown, tables_found, tables_higher, tables_more}
+use Rattle.mesh_layer.proofs.Finding.{answers, and_then, by_read, dangles, house_fails, part_fails, passes_on, read_is, stays, told_later, wants}
+use Rattle.mesh_layer.proofs.Heights.{body_shown, first_at, lost_deeper, nothing_there, stored_shown, tables_found, tables_higher, tables_more, too_deep}
 use Rattle.mesh_layer.proofs.walk.+walk.Goals as goal
 
 pub object_behind-returns-clause-finds : goal.object_behind-returns-clause-finds
 object_behind-returns-clause-finds g t c =
     let there = c.in_ok-height.ensures.finds in
-    answers _ _ _ _ _ _ (and_then _ _ _ there.untouched (by_read _ _ _ _ c.in_ok-columns.ensures)) (λ w told given.
-    let here = there.ok w told given in
-    let columns = read_is _ _ _ _ c.in_ok-columns.ensures w (told_later _ _ w there.untouched told) in
-    let is : IsFound w c.args.name.now (record { height = c.in_ok-height.height; columns = c.in_ok-columns.columns; rows = c.in_ok-height.rows }) = record { rows = here.1; columns = sym columns } in
-    (c.in_ok-keep.ensures w here.0 is, is))
+    passes_on _ _ _ _ _ _ _ _ _ c.found_with.result there.untouched c.found_with.ensures.finds (λ w told given. (
+      there.ok w told given,
+      λ x found. found,
+      λ o is. absurd (let no : None ≡ Some o = is in cc),
+    ))
 
 pub rows_behind-returns-else-depth-eq0-clause-finds : goal.rows_behind-returns-else-depth-eq0-clause-finds
 rows_behind-returns-else-depth-eq0-clause-finds g t c =
@@ -85,3 +84,42 @@ tables_behind-returns-clause-finds g t c =
     answers _ _ _ _ _ _ so_far.untouched (λ w told given.
     let here = so_far.told w told given in
     (here.0, subst (λ (l : List Pair). each_there (map (target_table (rows_through c.loop-target.height w) w) l) ≡ Some c.loop-target.tables) (take_all c.loop-target.target-index c.args.targets.now (omega arith)) here.1))
+
+pub object_behind-returns-in_err-found-clause-finds : goal.object_behind-returns-in_err-found-clause-finds
+object_behind-returns-in_err-found-clause-finds g t c = wants _ _ _ _ _ c.from_residual.result (stays _) c.from_residual.ensures.1
+
+pub object_behind-returns-in_err-height-clause-finds : goal.object_behind-returns-in_err-height-clause-finds
+object_behind-returns-in_err-height-clause-finds g t c =
+    part_fails _ _ _ _ _ _ _ _ _ c.in_err-height.field-0.0 c.from_residual-in_err-height.result (stays _) c.in_err-height.ensures.finds c.from_residual-in_err-height.ensures.1
+    (λ w told given. (given, λ o is. is))
+
+pub rows_behind-returns-in_err-kept-clause-finds : goal.rows_behind-returns-in_err-kept-clause-finds
+rows_behind-returns-in_err-kept-clause-finds g t c = house_fails _ _ _ _ _ _ _ c.in_err-kept.field-0.0 c.from_residual.result (stays _) c.in_err-kept.ensures c.from_residual.ensures.1
+
+pub stored_behind-returns-in_err-rows-in-Some-clause-finds : goal.stored_behind-returns-in_err-rows-in-Some-clause-finds
+stored_behind-returns-in_err-rows-in-Some-clause-finds g t c =
+    part_fails _ _ _ _ _ _ _ _ _ c.in_err-rows-in-Some.field-0.0 c.from_residual-in_err-rows-in-Some.result c.in_ok-height-in-Some.ensures.finds.untouched c.in_err-rows-in-Some.ensures c.from_residual-in_err-rows-in-Some.ensures.1
+    (λ w told given. (given.plain, λ o is. absurd (let no : None ≡ Some o = is in cc)))
+
+pub tables_behind-returns-in_err-push_table-clause-finds : goal.tables_behind-returns-in_err-push_table-clause-finds
+tables_behind-returns-in_err-push_table-clause-finds g t c = wants _ _ _ _ _ c.from_residual-in_err-push_table.result (and_then _ _ _ c.loop-target.invariant.1.untouched c.in_ok-found.ensures.finds.untouched) c.from_residual-in_err-push_table.ensures.1
+
+pub rows_behind-returns-in_default-clause-finds : goal.rows_behind-returns-in_default-clause-finds
+rows_behind-returns-in_default-clause-finds g t c =
+    dangles _ _ _ _ _ c.dangling.result c.args.name.now (by_read _ _ _ _ c.in_ok-kept.ensures) c.dangling.ensures
+    (λ w told given. nothing_there w c.args.depth c.args.name.now _ c.in_default.not-Some (read_is _ _ _ _ c.in_ok-kept.ensures w told))
+
+pub rows_behind-returns-then-depth-eq0-clause-finds : goal.rows_behind-returns-then-depth-eq0-clause-finds
+rows_behind-returns-then-depth-eq0-clause-finds g t c =
+    dangles _ _ _ _ _ c.dangling-then-depth-eq0.result c.args.name.now (by_read _ _ _ _ c.in_ok-kept.ensures) c.dangling-then-depth-eq0.ensures (λ w told given.
+    let read = read_is _ _ _ _ c.in_ok-kept.ensures w told in
+    let some = c.in-Some.is in
+    let got = c.get.ensures in
+    let stored = c.in-Stored.is in
+    let here : body_of (object_at w c.args.name.now) ≡ Some (Stored c.in-Stored.own c.in-Stored.targets) = cc in
+    too_deep w c.args.depth c.args.name.now c.in-Stored.own c.in-Stored.targets c.if-depth-eq0.true here)
+
+pub stored_behind-returns-in-None-clause-finds : goal.stored_behind-returns-in-None-clause-finds
+stored_behind-returns-in-None-clause-finds g t c =
+    dangles _ _ _ _ _ c.dangling.result c.args.name.now (stays _) c.dangling.ensures
+    (λ w told given. ap (lost_behind (lost_through c.args.depth w) c.args.name.now c.args.targets.now) (sym c.in-None.ensures))

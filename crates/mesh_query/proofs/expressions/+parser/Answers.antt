@@ -7,7 +7,7 @@ use Rattle.mesh_grammar.specs.Rules.{tested, cat, value, named}
 use Rattle.mesh_grammar.specs.Plans.{done, read, take, is_sign}
 use Rattle.mesh_words.specs.declared.fault.Fault.TheVariants.{Syntax}
 use Rattle.mesh_query.proofs.Steps.{started, noted, past_word, past_sign, past_name, past_type, past_cmp, without, saw, missed, has_read, has_nested, is_done, counted, read_from}
-use Rattle.mesh_query.proofs.Made.{with_read, unread, kept, unshut, shut_out}
+use Rattle.mesh_query.proofs.Made.{with_read, unread, kept, unclosed, untyped, shut_out, nearer}
 use Rattle.mesh_query.proofs.Descent.{handed, told, stuck_here, lacks, fails_in, fails_nested, too_deep, closed, closed_by, goes_on, alone, name_here, call_left, sum_begun, sum_on, product_begun, product_on, cast_on, failed_from}
 use Rattle.mesh_query.proofs.expressions.+parser.Goals as goal
 
@@ -22,6 +22,16 @@ expr-ors-preserved t c =
     let before = c.ors.invariant in
     let sign = c.is_word.ensures.taken c.ors-test.true in
     with_read _ _ _ c.conjunction-part.result c.in_ok-next.ensures c.conjunction-part.ensures (λ x q p. rw (q.0, q.1) (omega (arith, before.0, p.0), goes_on (λ x. x) (refl, λ z. refl) before.1 (has_read x.0 (past_word (codes "or") started sign.2) (read_from c.meet.ensures p.1))))
+
+pub expr-overflow_add-at : goal.expr-overflow_add-at
+expr-overflow_add-at t c =
+    let sign = c.is_word.ensures.taken c.ors-test.true in
+    omega (arith, sign.1)
+
+pub expr-ors-smaller : goal.expr-ors-smaller
+expr-ors-smaller t c =
+    let sign = c.is_word.ensures.taken c.ors-test.true in
+    with_read _ _ _ c.conjunction-part.result c.in_ok-next.ensures c.conjunction-part.ensures (λ x q p. nearer _ sign.1 q.1 p.0)
 
 pub expr-returns-in_err-next : goal.expr-returns-in_err-next
 expr-returns-in_err-next t c =
@@ -46,6 +56,16 @@ conjunction-ands-preserved t c =
     let sign = c.is_word.ensures.taken c.ands-test.true in
     with_read _ _ _ c.negation-part.result c.in_ok-next.ensures c.negation-part.ensures (λ x q p. rw (q.0, q.1) (omega (arith, before.0, p.0), goes_on (λ x. x) (refl, λ z. refl) before.1 (has_read x.0 (past_word (codes "and") started sign.2) (read_from c.meet.ensures p.1))))
 
+pub conjunction-overflow_add-at : goal.conjunction-overflow_add-at
+conjunction-overflow_add-at t c =
+    let sign = c.is_word.ensures.taken c.ands-test.true in
+    omega (arith, sign.1)
+
+pub conjunction-ands-smaller : goal.conjunction-ands-smaller
+conjunction-ands-smaller t c =
+    let sign = c.is_word.ensures.taken c.ands-test.true in
+    with_read _ _ _ c.negation-part.result c.in_ok-next.ensures c.negation-part.ensures (λ x q p. nearer _ sign.1 q.1 p.0)
+
 pub conjunction-returns-in_err-next : goal.conjunction-returns-in_err-next
 conjunction-returns-in_err-next t c =
     let before = c.ands.invariant in
@@ -69,6 +89,16 @@ cat-cats-preserved t c =
     let sign = c.is_sign.ensures.taken c.cats-test.true in
     with_read _ _ _ c.sum-part.result c.in_ok-next.ensures c.sum-part.ensures (λ x q p. rw (q.0, q.1) (omega (arith, before.0, p.0), goes_on (λ x. x) (refl, λ z. refl) before.1 (has_read x.0 (past_sign (codes "||") started sign.2) (read_from c.meet.ensures p.1))))
 
+pub cat-overflow_add-at : goal.cat-overflow_add-at
+cat-overflow_add-at t c =
+    let sign = c.is_sign.ensures.taken c.cats-test.true in
+    omega (arith, sign.1)
+
+pub cat-cats-smaller : goal.cat-cats-smaller
+cat-cats-smaller t c =
+    let sign = c.is_sign.ensures.taken c.cats-test.true in
+    with_read _ _ _ c.sum-part.result c.in_ok-next.ensures c.sum-part.ensures (λ x q p. nearer _ sign.1 q.1 p.0)
+
 pub cat-returns-in_err-next : goal.cat-returns-in_err-next
 cat-returns-in_err-next t c =
     let before = c.cats.invariant in
@@ -91,6 +121,16 @@ exprs-commas-preserved t c =
     let before = c.commas.invariant in
     let sign = c.is_sign.ensures.taken c.commas-test.true in
     with_read _ _ _ c.expr-more.result c.in_ok-next.ensures c.expr-more.ensures (λ x q p. rw (q.0, q.1) (omega (arith, before.0, p.0), goes_on (λ x. x) (refl, λ z. refl) before.1 (has_read x.0 (past_sign (codes ",") started sign.2) p.1)))
+
+pub exprs-overflow_add-at : goal.exprs-overflow_add-at
+exprs-overflow_add-at t c =
+    let sign = c.is_sign.ensures.taken c.commas-test.true in
+    omega (arith, sign.1)
+
+pub exprs-commas-smaller : goal.exprs-commas-smaller
+exprs-commas-smaller t c =
+    let sign = c.is_sign.ensures.taken c.commas-test.true in
+    with_read _ _ _ c.expr-more.result c.in_ok-next.ensures c.expr-more.ensures (λ x q p. nearer _ sign.1 q.1 p.0)
 
 pub exprs-returns-in_err-next : goal.exprs-returns-in_err-next
 exprs-returns-in_err-next t c =
@@ -117,6 +157,16 @@ sum-sums-preserved t c =
     let sign = c.in-Some.ensures in
     with_read _ _ _ c.product-part.result c.in-Ok.ensures c.product-part.ensures (λ x q p. rw (q.0, q.1, c.place.ensures) (omega (arith, before.0, p.0), goes_on (λ x. x) (refl, λ z. refl) before.1 (sum_on c.in-Some.sign x.0 sign.2 (read_from c.meet.ensures p.1))))
 
+pub sum-overflow_add-at : goal.sum-overflow_add-at
+sum-overflow_add-at t c =
+    let sign = c.in-Some.ensures in
+    omega (arith, sign.1)
+
+pub sum-sums-smaller : goal.sum-sums-smaller
+sum-sums-smaller t c =
+    let sign = c.in-Some.ensures in
+    with_read _ _ _ c.product-part.result c.in-Ok.ensures c.product-part.ensures (λ x q p. nearer _ sign.1 q.1 p.0)
+
 pub sum-returns-in-Err : goal.sum-returns-in-Err
 sum-returns-in-Err t c =
     let before = c.sums.invariant in
@@ -141,6 +191,16 @@ product-products-preserved t c =
     let before = c.products.invariant in
     let sign = c.in-Some.ensures in
     with_read _ _ _ c.unary-part.result c.in-Ok.ensures c.unary-part.ensures (λ x q p. rw (q.0, q.1, c.place.ensures) (omega (arith, before.0, p.0), goes_on (λ x. x) (refl, λ z. refl) before.1 (product_on c.in-Some.sign x.0 sign.2 (read_from c.meet.ensures p.1))))
+
+pub product-overflow_add-at : goal.product-overflow_add-at
+product-overflow_add-at t c =
+    let sign = c.in-Some.ensures in
+    omega (arith, sign.1)
+
+pub product-products-smaller : goal.product-products-smaller
+product-products-smaller t c =
+    let sign = c.in-Some.ensures in
+    with_read _ _ _ c.unary-part.result c.in-Ok.ensures c.unary-part.ensures (λ x q p. nearer _ sign.1 q.1 p.0)
 
 pub product-returns-in-Err : goal.product-returns-in-Err
 product-returns-in-Err t c =
@@ -167,6 +227,16 @@ post-casts-preserved t c =
     let sign = c.is_sign.ensures.taken c.casts-test.true in
     with_read _ _ _ c.column_type-kind.result c.in-Ok.ensures c.column_type-kind.ensures (λ x q p. rw (q.0, q.1) (omega (arith, before.0, p.0), goes_on (λ x. x) (refl, λ z. refl) before.1 (counted c.meet.ensures (cast_on sign.2 p.2))))
 
+pub post-overflow_add-at : goal.post-overflow_add-at
+post-overflow_add-at t c =
+    let sign = c.is_sign.ensures.taken c.casts-test.true in
+    omega (arith, sign.1)
+
+pub post-casts-smaller : goal.post-casts-smaller
+post-casts-smaller t c =
+    let sign = c.is_sign.ensures.taken c.casts-test.true in
+    with_read _ _ _ c.column_type-kind.result c.in-Ok.ensures c.column_type-kind.ensures (λ x q p. nearer _ sign.1 q.1 (omega (arith, p.0)))
+
 pub post-returns-in-Err : goal.post-returns-in-Err
 post-returns-in-Err t c =
     let before = c.casts.invariant in
@@ -189,6 +259,11 @@ arms-whens-preserved t c =
     let before = c.whens.invariant in
     with_read _ _ _ c.arm-more.result c.in_ok-next.ensures c.arm-more.ensures.answers (λ x q p. rw (q.0, q.1) (omega (arith, before.0, p.0), goes_on (λ x. x) (refl, λ z. refl) before.1 (has_read x.0 (saw started (sym c.is_word.ensures.seen ∙ c.whens-test.true)) p.1)))
 
+pub arms-whens-smaller : goal.arms-whens-smaller
+arms-whens-smaller t c =
+    let word = c.is_word.ensures.taken c.whens-test.true in
+    with_read _ _ _ c.arm-more.result c.in_ok-next.ensures c.arm-more.ensures.on (λ x q p. nearer _ word.1 q.1 (omega (arith, p)))
+
 pub arms-returns-in_err-next : goal.arms-returns-in_err-next
 arms-returns-in_err-next t c =
     let before = c.whens.invariant in
@@ -203,6 +278,11 @@ pub negation-returns-in_err-deeper : goal.negation-returns-in_err-deeper
 negation-returns-in_err-deeper t c =
     let first = c.is_word.ensures.taken c.if-is_word.true in
     told _ _ c.from_residual.result c.from_residual.ensures (too_deep c.args.tokens.now _ (past_word (codes "not") (noted started) first.2) c.in_err-deeper.ensures)
+
+pub negation-overflow_add-from : goal.negation-overflow_add-from
+negation-overflow_add-from t c =
+    let sign = c.is_word.ensures.taken c.if-is_word.true in
+    omega (arith, sign.1)
 
 pub negation-returns-in_err-inner : goal.negation-returns-in_err-inner
 negation-returns-in_err-inner t c =
@@ -226,6 +306,11 @@ pub unary-returns-in_err-deeper : goal.unary-returns-in_err-deeper
 unary-returns-in_err-deeper t c =
     let first = c.is_sign.ensures.taken c.if-is_sign.true in
     told _ _ c.from_residual.result c.from_residual.ensures (too_deep c.args.tokens.now _ (past_sign (codes "-") (noted started) first.2) c.in_err-deeper.ensures)
+
+pub unary-overflow_add-from : goal.unary-overflow_add-from
+unary-overflow_add-from t c =
+    let sign = c.is_sign.ensures.taken c.if-is_sign.true in
+    omega (arith, sign.1)
 
 pub unary-returns-in_err-inner : goal.unary-returns-in_err-inner
 unary-returns-in_err-inner t c =
@@ -259,21 +344,31 @@ pred-returns t c =
     let test = c.in_ok-test.ensures in
     rw c.place.ensures (omega (arith, left.0, test.0), is_done (has_read c.in_ok-test.test (has_read c.in_ok-left.left (noted started) left.1) test.1))
 
+pub test-overflow_add-from : goal.test-overflow_add-from
+test-overflow_add-from t c =
+    let sign = c.is_word.ensures.taken c.if-is_word.true in
+    omega (arith, sign.1)
+
 pub test-returns-then-is_word : goal.test-returns-then-is_word
 test-returns-then-is_word t c =
     let word = c.is_word.ensures.taken c.if-is_word.true in
-    handed _ _ _ _ c.null_test.result (λ x h. (omega (arith, h.0), h.1)) (λ e h. h) (c.null_test.ensures c.args.depth _ (drop c.args.from c.args.tokens.now) _ (counted c.meet.ensures (past_word (codes "is") started word.2)))
+    handed _ _ _ _ c.null_test.result (c.null_test.ensures c.args.depth _ (drop c.args.from c.args.tokens.now) _ (counted c.meet.ensures (past_word (codes "is") started word.2))) (λ x h. (omega (arith, h.0), h.1)) (λ e h. h)
+
+pub test-overflow_add-from-then-is_word-2 : goal.test-overflow_add-from-then-is_word-2
+test-overflow_add-from-then-is_word-2 t c =
+    let sign = c.is_word-2.ensures.taken c.if-is_word-2.true in
+    omega (arith, sign.1)
 
 pub test-returns-then-is_word-2 : goal.test-returns-then-is_word-2
 test-returns-then-is_word-2 t c =
     let word = c.is_word-2.ensures.taken c.if-is_word-2.true in
     let I = past_word (codes "not") (without (started {n = c.args.depth} {r = tested} {s = (drop c.args.from c.args.tokens.now)}) (sym c.is_word.ensures.seen ∙ c.if-is_word.false)) word.2 in
-    handed _ _ _ _ c.range_test.result (λ x h. (omega (arith, h.0), is_done (closed_by x.0 I h.1))) (λ e h. fails_in _ c.args.tokens.now e I h) c.range_test.ensures
+    handed _ _ _ _ c.range_test.result c.range_test.ensures (λ x h. (omega (arith, h.0), is_done (closed_by x.0 I h.1))) (λ e h. fails_in _ c.args.tokens.now e I h)
 
 pub test-returns-then-is_range : goal.test-returns-then-is_range
 test-returns-then-is_range t c =
     let I = saw (without (without (started {n = c.args.depth} {r = tested} {s = (drop c.args.from c.args.tokens.now)}) (sym c.is_word.ensures.seen ∙ c.if-is_word.false)) (sym c.is_word-2.ensures.seen ∙ c.if-is_word-2.false)) (sym c.is_range.ensures ∙ c.if-is_range.true) in
-    handed _ _ _ _ c.range_test-then-is_range.result (λ x h. (h.0, is_done (closed_by x.0 I h.1))) (λ e h. fails_in _ c.args.tokens.now e I h) c.range_test-then-is_range.ensures
+    handed _ _ _ _ c.range_test-then-is_range.result c.range_test-then-is_range.ensures (λ x h. (h.0, is_done (closed_by x.0 I h.1))) (λ e h. fails_in _ c.args.tokens.now e I h)
 
 pub test-returns-in_err-right-in-Some : goal.test-returns-in_err-right-in-Some
 test-returns-in_err-right-in-Some t c =
@@ -289,10 +384,15 @@ test-returns-in_ok-right-in-Some t c =
 pub test-returns-in-None : goal.test-returns-in-None
 test-returns-in-None t c = (omega arith, is_done (without (missed (without (without (started {n = c.args.depth} {r = tested} {s = (drop c.args.from c.args.tokens.now)}) (sym c.is_word.ensures.seen ∙ c.if-is_word.false)) (sym c.is_word-2.ensures.seen ∙ c.if-is_word-2.false)) (sym c.is_range.ensures ∙ c.if-is_range.false)) c.in-None.ensures))
 
+pub range_test-overflow_add-from : goal.range_test-overflow_add-from
+range_test-overflow_add-from t c =
+    let sign = c.is_word.ensures.taken c.if-is_word.true in
+    omega (arith, sign.1)
+
 pub range_test-returns-then-is_word : goal.range_test-returns-then-is_word
 range_test-returns-then-is_word t c =
     let word = c.is_word.ensures.taken c.if-is_word.true in
-    handed _ _ _ _ c.between.result (λ x h. (omega (arith, h.0), h.1)) (λ e h. h) (c.between.ensures (drop c.args.from c.args.tokens.now) _ (counted c.meet.ensures (past_word (codes "between") started word.2)))
+    handed _ _ _ _ c.between.result (c.between.ensures (drop c.args.from c.args.tokens.now) _ (counted c.meet.ensures (past_word (codes "between") started word.2))) (λ x h. (omega (arith, h.0), h.1)) (λ e h. h)
 
 pub range_test-returns-in_err-at : goal.range_test-returns-in_err-at
 range_test-returns-in_err-at t c = told _ _ c.from_residual.result c.from_residual.ensures (lacks c.args.tokens.now c.args.from _ (without started (sym c.is_word.ensures.seen ∙ c.if-is_word.false)) c.in_err-at.ensures)
@@ -300,7 +400,7 @@ range_test-returns-in_err-at t c = told _ _ c.from_residual.result c.from_residu
 pub range_test-returns : goal.range_test-returns
 range_test-returns t c =
     let word = c.in_ok-at.ensures in
-    handed _ _ _ _ c.one_of.result (λ x h. (omega (arith, word.0, h.0), h.1)) (λ e h. h) (c.one_of.ensures (drop c.args.from c.args.tokens.now) _ (counted c.meet-2.ensures (past_word (codes "in") (without started (sym c.is_word.ensures.seen ∙ c.if-is_word.false)) word.2)))
+    handed _ _ _ _ c.one_of.result (c.one_of.ensures (drop c.args.from c.args.tokens.now) _ (counted c.meet-2.ensures (past_word (codes "in") (without started (sym c.is_word.ensures.seen ∙ c.if-is_word.false)) word.2))) (λ x h. (omega (arith, word.0, h.0), h.1)) (λ e h. h)
 
 pub between-returns-in_err-low : goal.between-returns-in_err-low
 between-returns-in_err-low t c = λ s b I.
@@ -331,9 +431,7 @@ one_of-returns-in_err-deeper t c = λ s b I.
 pub one_of-returns-in_err-of : goal.one_of-returns-in_err-of
 one_of-returns-in_err-of t c = λ s b I.
     let open_ = c.in_ok-deeper.ensures in
-    told _ _ c.from_residual-in_err-of.result c.from_residual-in_err-of.ensures (unshut _ _ _ c.exprs-of.result c.in_err-of.ensures c.exprs-of.ensures
-    (λ x q p. lacks c.args.tokens.now x.1 _ (has_nested x.0 (past_sign (codes "(") I open_.0.2) open_.1 p.1) q)
-    (λ g. fails_nested _ c.in_ok-deeper.deeper c.args.tokens.now _ (past_sign (codes "(") I open_.0.2) open_.1 g))
+    told _ _ c.from_residual-in_err-of.result c.from_residual-in_err-of.ensures (unclosed _ _ _ c.args.tokens.now _ (past_sign (codes "(") I open_.0.2) open_.1 c.exprs-of.result c.in_err-of.ensures c.exprs-of.ensures)
 
 pub one_of-returns : goal.one_of-returns
 one_of-returns t c = λ s b I.
@@ -344,17 +442,17 @@ one_of-returns t c = λ s b I.
 pub primary-returns-then-is_sign : goal.primary-returns-then-is_sign
 primary-returns-then-is_sign t c =
     let I = saw (noted (started {n = c.args.depth} {r = value} {s = (drop c.args.from c.args.tokens.now)})) (sym c.is_sign.ensures.seen ∙ c.if-is_sign.true) in
-    handed _ _ _ _ c.group.result (λ x h. (h.0, is_done (closed_by x.0 I h.1))) (λ e h. fails_in _ c.args.tokens.now e I h) c.group.ensures
+    handed _ _ _ _ c.group.result c.group.ensures (λ x h. (h.0, is_done (closed_by x.0 I h.1))) (λ e h. fails_in _ c.args.tokens.now e I h)
 
 pub primary-returns-then-is_word : goal.primary-returns-then-is_word
 primary-returns-then-is_word t c =
     let I = saw (missed (noted (started {n = c.args.depth} {r = value} {s = (drop c.args.from c.args.tokens.now)})) (sym c.is_sign.ensures.seen ∙ c.if-is_sign.false)) (sym c.is_word.ensures.seen ∙ c.if-is_word.true) in
-    handed _ _ _ _ c.case.result (λ x h. (h.0, is_done (closed_by x.0 I h.1))) (λ e h. fails_in _ c.args.tokens.now e I h) c.case.ensures
+    handed _ _ _ _ c.case.result c.case.ensures (λ x h. (h.0, is_done (closed_by x.0 I h.1))) (λ e h. fails_in _ c.args.tokens.now e I h)
 
 pub primary-returns-then-is_word-2 : goal.primary-returns-then-is_word-2
 primary-returns-then-is_word-2 t c =
     let I = saw (missed (missed (noted (started {n = c.args.depth} {r = value} {s = (drop c.args.from c.args.tokens.now)})) (sym c.is_sign.ensures.seen ∙ c.if-is_sign.false)) (sym c.is_word.ensures.seen ∙ c.if-is_word.false)) (sym c.is_word-2.ensures.seen ∙ c.if-is_word-2.true) in
-    handed _ _ _ _ c.cast.result (λ x h. (h.0, is_done (closed_by x.0 I (read_from c.meet.ensures h.1)))) (λ e h. fails_in _ c.args.tokens.now e I (failed_from _ _ _ _ _ _ _ c.meet.ensures h)) c.cast.ensures
+    handed _ _ _ _ c.cast.result c.cast.ensures (λ x h. (h.0, is_done (closed_by x.0 I (read_from c.meet.ensures h.1)))) (λ e h. fails_in _ c.args.tokens.now e I (failed_from _ _ _ _ _ _ _ c.meet.ensures h))
 
 pub primary-returns-then-is_date : goal.primary-returns-then-is_date
 primary-returns-then-is_date t c = c.date.ensures c.args.depth (drop c.args.from c.args.tokens.now) _ (missed (missed (missed (noted (started {n = c.args.depth} {r = value} {s = (drop c.args.from c.args.tokens.now)})) (sym c.is_sign.ensures.seen ∙ c.if-is_sign.false)) (sym c.is_word.ensures.seen ∙ c.if-is_word.false)) (sym c.is_word-2.ensures.seen ∙ c.if-is_word-2.false))
@@ -374,9 +472,7 @@ group-returns-in_err-deeper t c = told _ _ c.from_residual.result c.from_residua
 pub group-returns-in_err-inner : goal.group-returns-in_err-inner
 group-returns-in_err-inner t c =
     let open_ = c.in_ok-deeper.ensures in
-    told _ _ c.from_residual-in_err-inner.result c.from_residual-in_err-inner.ensures (unshut _ _ _ c.boxed-inner.result c.in_err-inner.ensures (kept _ _ c.expr-inner.result c.boxed-inner.result c.boxed-inner.ensures c.expr-inner.ensures tt)
-    (λ x q p. lacks c.args.tokens.now x.1 _ (has_nested x.0 (past_sign (codes "(") (noted started) open_.0.2) open_.1 p.1) q)
-    (λ g. fails_nested _ c.in_ok-deeper.deeper c.args.tokens.now _ (past_sign (codes "(") (noted started) open_.0.2) open_.1 g))
+    told _ _ c.from_residual-in_err-inner.result c.from_residual-in_err-inner.ensures (unclosed _ _ _ c.args.tokens.now _ (past_sign (codes "(") (noted started) open_.0.2) open_.1 c.boxed-inner.result c.in_err-inner.ensures (kept _ _ c.expr-inner.result c.boxed-inner.result c.boxed-inner.ensures c.expr-inner.ensures tt))
 
 pub group-returns : goal.group-returns
 group-returns t c =
@@ -411,9 +507,7 @@ cast-returns-in_err-to t c =
     let open_ = c.in_ok-deeper.ensures in
     let as_ = c.in_ok-next-2.ensures in
     with_read _ _ _ c.expr-value.result c.in_ok-value.ensures c.expr-value.ensures (λ x q p.
-    told _ _ c.from_residual-in_err-to.result c.from_residual-in_err-to.ensures (unshut _ _ _ c.column_type-to.result c.in_err-to.ensures c.column_type-to.ensures
-    (λ y u v. lacks c.args.tokens.now y.1 _ (past_type (λ k. take (is_sign (codes ")")) (λ g. done (the_primary.Cast (place (drop c.args.from c.args.tokens.now)) x.0 k))) (past_word (codes "as") (has_nested x.0 (past_sign (codes "(") (past_word (codes "cast") (noted started) word.2) open_.0.2) open_.1 p.1) (rw q.1 at as_.2)) v.2) u)
-    (λ g. lacks c.args.tokens.now c.in_ok-next-2.next _ (past_word (codes "as") (has_nested x.0 (past_sign (codes "(") (past_word (codes "cast") (noted started) word.2) open_.0.2) open_.1 p.1) (rw q.1 at as_.2)) g)))
+    told _ _ c.from_residual-in_err-to.result c.from_residual-in_err-to.ensures (untyped (λ k g. done (the_primary.Cast (place (drop c.args.from c.args.tokens.now)) x.0 k)) c.args.tokens.now c.in_ok-next-2.next _ (past_word (codes "as") (has_nested x.0 (past_sign (codes "(") (past_word (codes "cast") (noted started) word.2) open_.0.2) open_.1 p.1) (rw q.1 at as_.2)) c.column_type-to.result c.in_err-to.ensures c.column_type-to.ensures))
 
 pub cast-returns : goal.cast-returns
 cast-returns t c =
@@ -476,6 +570,11 @@ case_operand-returns-in_err-operand t c = told _ _ c.from_residual.result c.from
 pub case_operand-returns : goal.case_operand-returns
 case_operand-returns t c = with_read _ _ _ c.expr-operand.result c.in_ok-operand.ensures c.expr-operand.ensures (λ x q p. rw (q.0, q.1) (p.0, is_done (has_read x.0 (missed started (sym c.is_word.ensures.seen ∙ c.if-is_word.false)) p.1)))
 
+pub case_else-overflow_add-from : goal.case_else-overflow_add-from
+case_else-overflow_add-from t c =
+    let sign = c.is_word.ensures.taken c.if-is_word.true in
+    omega (arith, sign.1)
+
 pub case_else-returns-in_err-otherwise : goal.case_else-returns-in_err-otherwise
 case_else-returns-in_err-otherwise t c =
     let word = c.is_word.ensures.taken c.if-is_word.true in
@@ -518,6 +617,18 @@ arm-returns-clause-answers t c =
     let value = c.in_ok-value.ensures in
     rw c.place.ensures (omega (arith, word.0, test.0, then_.0, value.0), is_done (has_read c.in_ok-value.value (past_word (codes "then") (has_read c.in_ok-test.test (past_word (codes "when") (noted started) word.2) test.1) then_.2) value.1))
 
+pub arm-returns-in_err-next-clause-on : goal.arm-returns-in_err-next-clause-on
+arm-returns-in_err-next-clause-on t c = told _ _ c.from_residual.result c.from_residual.ensures tt
+
+pub arm-returns-in_err-test-clause-on : goal.arm-returns-in_err-test-clause-on
+arm-returns-in_err-test-clause-on t c = told _ _ c.from_residual-in_err-test.result c.from_residual-in_err-test.ensures tt
+
+pub arm-returns-in_err-next-2-clause-on : goal.arm-returns-in_err-next-2-clause-on
+arm-returns-in_err-next-2-clause-on t c = told _ _ c.from_residual-in_err-next-2.result c.from_residual-in_err-next-2.ensures tt
+
+pub arm-returns-in_err-value-clause-on : goal.arm-returns-in_err-value-clause-on
+arm-returns-in_err-value-clause-on t c = told _ _ c.from_residual-in_err-value.result c.from_residual-in_err-value.ensures tt
+
 pub arm-returns-clause-on : goal.arm-returns-clause-on
 arm-returns-clause-on t c =
     let word = c.in_ok-next.ensures in
@@ -538,8 +649,18 @@ args-returns-in-Nullif t c = rw c.in-Nullif.is c.nullif_args.ensures
 pub args-returns-in_default : goal.args-returns-in_default
 args-returns-in_default t c = c.one_arg.ensures c.args.function (drop c.args.from c.args.tokens.now) _ (alone c.args.function c.in_default.not-Count c.in_default.not-Coalesce c.in_default.not-Nullif)
 
+pub count_args-overflow_add-result : goal.count_args-overflow_add-result
+count_args-overflow_add-result t c =
+    let sign = c.is_sign.ensures.taken c.if-is_sign.true in
+    omega (arith, sign.1)
+
 pub count_args-returns-then-is_sign : goal.count_args-returns-then-is_sign
 count_args-returns-then-is_sign t c = rw c.place-at.ensures (omega arith, is_done (past_sign (codes "*") (noted started) (c.is_sign.ensures.taken c.if-is_sign.true).2))
+
+pub count_args-overflow_add-from : goal.count_args-overflow_add-from
+count_args-overflow_add-from t c =
+    let sign = c.is_word.ensures.taken c.if-is_word.true in
+    omega (arith, sign.1)
 
 pub count_args-returns-in_err-value : goal.count_args-returns-in_err-value
 count_args-returns-in_err-value t c =
@@ -611,9 +732,7 @@ call-returns-in_err-args-in-Some t c = λ s b I.
     let J = counted c.meet.ensures (past_name (λ x. read (named (place (drop c.args.from c.args.tokens.now)) x) done) I name.1) in
     let K = call_left {n = c.args.depth} {at = place (drop c.args.from c.args.tokens.now)} c.args.tokens.now c.args.from (Some c.in-Some.function) c.in-Some.ensures name.1 c.requires.undated c.requires.opened in
     let open_ = c.in_ok-deeper-in-Some.ensures in
-    told _ _ c.from_residual-in_err-args-in-Some.result c.from_residual-in_err-args-in-Some.ensures (fails_in _ c.args.tokens.now _ J (unshut _ _ _ c.args-args.result c.in_err-args-in-Some.ensures c.args-args.ensures
-    (λ x q p. lacks c.args.tokens.now x.1 _ (has_nested x.0 (past_sign (codes "(") K open_.0.2) open_.1 p.1) q)
-    (λ g. fails_nested _ c.in_ok-deeper-in-Some.deeper c.args.tokens.now _ (past_sign (codes "(") K open_.0.2) open_.1 g)))
+    told _ _ c.from_residual-in_err-args-in-Some.result c.from_residual-in_err-args-in-Some.ensures (fails_in _ c.args.tokens.now _ J (unclosed _ _ _ c.args.tokens.now _ (past_sign (codes "(") K open_.0.2) open_.1 c.args-args.result c.in_err-args-in-Some.ensures c.args-args.ensures))
 
 pub call-returns-in_ok-args-in-Some : goal.call-returns-in_ok-args-in-Some
 call-returns-in_ok-args-in-Some t c = λ s b I.

@@ -1,6 +1,6 @@
 use Rattle.std.proofs.Common.{refl, codes, arith, sym, ◌∙◌}
 use Rattle.mesh_query.proofs.Steps.{started, past_sign, without, has_read, is_done}
-use Rattle.mesh_query.proofs.Made.{with_read, unread}
+use Rattle.mesh_query.proofs.Made.{with_read, unread, nearer}
 use Rattle.mesh_query.proofs.Descent.{told, fails_in, closed, goes_on}
 use Rattle.mesh_query.proofs.queries.cte_list.Goals as goal
 
@@ -15,6 +15,16 @@ commas-preserved c =
     let before = c.commas.invariant in
     let sign = c.is_sign.ensures.taken c.commas-test.true in
     with_read _ _ _ c.cte-more.result c.in_ok-next.ensures c.cte-more.ensures (λ x q p. rw (q.0, q.1) (omega (arith, before.0, p.0), goes_on (λ x. x) (refl, λ z. refl) before.1 (has_read x.0 (past_sign (codes ",") started sign.2) p.1)))
+
+pub overflow_add-at : goal.overflow_add-at
+overflow_add-at c =
+    let sign = c.is_sign.ensures.taken c.commas-test.true in
+    omega (arith, sign.1)
+
+pub commas-smaller : goal.commas-smaller
+commas-smaller c =
+    let sign = c.is_sign.ensures.taken c.commas-test.true in
+    with_read _ _ _ c.cte-more.result c.in_ok-next.ensures c.cte-more.ensures (λ x q p. nearer _ sign.1 q.1 p.0)
 
 pub returns-in_err-next : goal.returns-in_err-next
 returns-in_err-next c =

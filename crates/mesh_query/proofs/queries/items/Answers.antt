@@ -1,6 +1,6 @@
 use Rattle.std.proofs.Common.{refl, codes, arith, sym, ◌∙◌}
 use Rattle.mesh_query.proofs.Steps.{started, past_sign, without, has_read, is_done}
-use Rattle.mesh_query.proofs.Made.{with_read, unread}
+use Rattle.mesh_query.proofs.Made.{with_read, unread, nearer}
 use Rattle.mesh_query.proofs.Descent.{told, fails_in, closed, goes_on, items_over, items_left}
 use Rattle.mesh_query.proofs.queries.items.Goals as goal
 
@@ -15,6 +15,11 @@ returns-then-are_items_over c =
     let before = c.commas.invariant in
     let sign = c.is_sign.ensures.taken c.commas-test.true in
     (omega (arith, before.0), is_done (closed before.1 (items_over (past_sign (codes ",") started sign.2) (sym c.are_items_over.ensures ∙ c.if-are_items_over.true))))
+
+pub commas-smaller : goal.commas-smaller
+commas-smaller c =
+    let sign = c.is_sign.ensures.taken c.commas-test.true in
+    with_read _ _ _ c.item-more.result c.in_ok-next.ensures c.item-more.ensures (λ x q p. nearer _ sign.1 q.1 p.0)
 
 pub returns-in_err-next : goal.returns-in_err-next
 returns-in_err-next c =

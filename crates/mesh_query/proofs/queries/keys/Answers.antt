@@ -14,7 +14,7 @@ returns-then-is_word c =
     let word = c.is_word.ensures.taken c.if-is_word.true in
     let by = c.in_ok-next.ensures in
     let I = past_word (codes "by") (past_word (codes "group") (started {n = c.args.depth} {r = keys} {s = (drop c.args.from c.args.tokens.now)}) word.2) by.2 in
-    handed _ _ _ _ c.key_list.result (λ x h. (omega (arith, by.0, h.0), is_done (closed_by x.0 I h.1))) (λ e h. fails_in _ c.args.tokens.now e I h) c.key_list.ensures
+    handed _ _ _ _ c.key_list.result c.key_list.ensures (λ x h. (omega (arith, by.0, h.0), is_done (closed_by x.0 I h.1))) (λ e h. fails_in _ c.args.tokens.now e I h)
 
 pub returns : goal.returns
 returns c = rw c.new-none.ensures (omega arith, is_done (without started (sym c.is_word.ensures.seen ∙ c.if-is_word.false)))

@@ -16,4 +16,4 @@ returns c =
     let word = c.in_ok-next.ensures in
     let I = c.distinct-distinct.ensures.left c.args.depth _ _ (drop c.args.from c.args.tokens.now) (λ d. read (selected (place (drop c.args.from c.args.tokens.now)) d) done) (past_word (codes "select") (noted started) word.2) in
     let J = subst (λ (z : ℕ). Onward false c.args.depth select (drop c.args.from c.args.tokens.now) (read (selected z c.distinct-distinct.result.0) done) (drop c.distinct-distinct.result.1 c.args.tokens.now) c.args.nodes.now.left c.args.nodes.now.left) (sym c.place-at.ensures) I in
-    handed _ _ _ _ c.selected.result (λ x h. (omega (arith, word.0, c.distinct-distinct.ensures.on, h.0), is_done (closed_by x.0 J h.1))) (λ e h. fails_in _ c.args.tokens.now e J h) c.selected.ensures
+    handed _ _ _ _ c.selected.result c.selected.ensures (λ x h. (omega (arith, word.0, c.distinct-distinct.ensures.on, h.0), is_done (closed_by x.0 J h.1))) (λ e h. fails_in _ c.args.tokens.now e J h)

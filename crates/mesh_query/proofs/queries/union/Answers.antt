@@ -1,6 +1,6 @@
 use Rattle.std.proofs.Common.{refl, ◌+◌, codes, arith, sym, ◌∙◌}
 use Rattle.mesh_query.proofs.Steps.{started, noted, past_word, without, has_read, is_done}
-use Rattle.mesh_query.proofs.Made.{with_read, unread}
+use Rattle.mesh_query.proofs.Made.{with_read, unread, nearer}
 use Rattle.mesh_query.proofs.Descent.{told, lacks, fails_in, closed, goes_on}
 use Rattle.mesh_query.proofs.queries.union.Goals as goal
 
@@ -15,6 +15,12 @@ returns-in_err-behind c =
     let before = c.unions.invariant in
     let word = c.is_word.ensures.taken c.unions-test.true in
     told _ _ c.from_residual-in_err-behind.result c.from_residual-in_err-behind.ensures (fails_in _ c.args.tokens.now _ before.1 (lacks c.args.tokens.now (c.unions.at + 1) _ (past_word (codes "union") started word.2) c.in_err-behind.ensures))
+
+pub unions-smaller : goal.unions-smaller
+unions-smaller c =
+    let word = c.is_word.ensures.taken c.unions-test.true in
+    let all = c.in_ok-behind.ensures in
+    with_read _ _ _ c.select-more.result c.in_ok-next.ensures c.select-more.ensures (λ x q p. nearer _ word.1 q.1 (omega (arith, all.0, p.0)))
 
 pub returns-in_err-next : goal.returns-in_err-next
 returns-in_err-next c =

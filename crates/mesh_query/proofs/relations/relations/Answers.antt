@@ -1,6 +1,6 @@
 use Rattle.std.proofs.Common.{refl, arith, sym, ◌∙◌}
 use Rattle.mesh_query.proofs.Steps.{started, noted, saw, missed, has_read, is_done}
-use Rattle.mesh_query.proofs.Made.{with_read, unread}
+use Rattle.mesh_query.proofs.Made.{with_read, unread, nearer}
 use Rattle.mesh_query.proofs.Descent.{told, fails_in, closed, goes_on}
 use Rattle.mesh_query.proofs.relations.relations.Goals as goal
 
@@ -16,6 +16,11 @@ pub joins-preserved : goal.joins-preserved
 joins-preserved c =
     let before = c.joins.invariant in
     with_read _ _ _ c.join-more.result c.in_ok-next.ensures c.join-more.ensures.answers (λ x q p. rw (q.0, q.1) (omega (arith, before.0, p.0), goes_on (λ x. x) (refl, λ z. refl) before.1 (has_read x.0 (saw started (sym c.begins_join.ensures.seen ∙ c.joins-test.true)) p.1)))
+
+pub joins-smaller : goal.joins-smaller
+joins-smaller c =
+    let within = c.begins_join.ensures.within c.joins-test.true in
+    with_read _ _ _ c.join-more.result c.in_ok-next.ensures c.join-more.ensures.on (λ x q p. nearer _ (omega (arith, within)) q.1 (omega (arith, p)))
 
 pub returns-in_err-next : goal.returns-in_err-next
 returns-in_err-next c =

@@ -1,38 +1,27 @@
-use Rattle.std.proofs.Common.{◌≡◌, true, [], ℕ, List, sym, ◌∙◌, ap}
-use Rattle.std.proofs.lemmas.Result.{on_ok_weaker}
-use Rattle.mesh_list.specs.Keyed.{placed, ascends}
-use Rattle.mesh_values.specs.declared.values.Name.{Name}
-use Rattle.mesh_base.specs.declared.snapshots.Ref.{Ref}
-use Rattle.mesh_base.specs.Keys.{ref_cmp, snapshot_ref}
-use Rattle.mesh_book.specs.declared.book.Book.{Book}
+use Rattle.std.proofs.Common.{◌∙◌, ap}
+use Rattle.std.proofs.lemmas.Result.{on_ok_weaker, on_err_weaker}
 use Rattle.mesh_book.specs.Changes.{delete_snapshot}
 use Rattle.mesh_house.specs.declared.world.World.{World}
-use Rattle.mesh_house.specs.Outside.{itself}
-use Rattle.mesh_house.specs.Gone.{settled}
+use Rattle.mesh_house.specs.Gone.{thinned}
 use Rattle.mesh_house.specs.Step.{with_book}
-use Rattle.mesh_house.proofs.Settled.{snapshot_waits, snapshot_goes}
+use Rattle.mesh_house.proofs.Settled.{settled_book}
 use Rattle.mesh_house.proofs.buffered.Buffered.delete_snapshot.Goals as goal
-
-abbrev ref_of : Name → List ℕ → Ref
-ref_of name fingerprint = record { name = name; fingerprint = fingerprint }
-
-pub returns-then-may_wait-clause-ok : goal.returns-then-may_wait-clause-ok
-returns-then-may_wait-clause-ok c =
-    let w = c.self.inside.world in
-    let g = c.self.inside.gone in
-    let k = ref_of c.args.name.now c.args.fingerprint.now in
-    let up : ascends ref_cmp snapshot_ref w.book.snapshots ≡ true = ap (ascends ref_cmp snapshot_ref) (sym c.as_slice-snapshots.ensures) ∙ c.may_wait.ensures.yes c.if-may_wait.true in
-    on_ok_weaker c.place.result
-    (λ d. snapshot_waits w g k c.place.new.self (d ∙ ap (λ (n : Name). placed ref_cmp itself (ref_of n c.args.fingerprint.now) g.snapshots) c.in_ok-copy.ensures) up
-    ∙ ap (λ (v : World). with_book v (delete_snapshot v.book k)) c.self.view_is)
-    c.place.ensures.ok
 
 pub returns-clause-ok : goal.returns-clause-ok
 returns-clause-ok c =
     let w = c.self.inside.world in
     let g = c.self.inside.gone in
-    let k = ref_of c.args.name.now c.args.fingerprint.now in
-    let none : g.snapshots ≡ [] = sym c.as_slice.ensures.items ∙ c.may_wait.ensures.no c.if-may_wait.false in
-    ap (λ (b : Book). settled (with_book w b) g) (c.delete_snapshot.ensures ∙ ap (λ (n : Name). delete_snapshot w.book (ref_of n c.args.fingerprint.now)) c.in_ok-copy.ensures)
-    ∙ snapshot_goes w g k none
-    ∙ ap (λ (v : World). with_book v (delete_snapshot v.book k)) c.self.view_is
+    let went = c.snapshot_goes in
+    on_ok_weaker went.result
+    (λ d. settled_book w g went.new.gone went.new.book (delete_snapshot (thinned w.book g) (record { name = c.args.name.now; fingerprint = c.args.fingerprint.now })) went.ensures.objects d
+    ∙ ap (λ (v : World). with_book v (delete_snapshot v.book (record { name = c.args.name.now; fingerprint = c.args.fingerprint.now }))) c.self.view_is)
+    went.ensures.ok
+
+pub returns-clause-err : goal.returns-clause-err
+returns-clause-err c =
+    let w = c.self.inside.world in
+    let g = c.self.inside.gone in
+    let went = c.snapshot_goes in
+    on_err_weaker went.result
+    (λ d. settled_book w g went.new.gone went.new.book (thinned w.book g) went.ensures.objects d ∙ c.self.view_is)
+    went.ensures.err

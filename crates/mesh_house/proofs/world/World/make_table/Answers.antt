@@ -1,17 +1,17 @@
-use Rattle.std.proofs.Common.{◌≡◌, ◌∙◌, ap, refl}
+use Rattle.std.proofs.Common.{◌≡◌, ◌∙◌, refl}
 use Rattle.std.specs.declared.option.Option.{Option}
 use Rattle.std.proofs.lemmas.Result.{IfOk-at_ok, on_err_weaker}
 use Rattle.mesh_book.specs.declared.versions.Version.{Version}
-use Rattle.mesh_book.specs.Changes.{as_table, at_version}
+use Rattle.mesh_book.specs.Changes.{as_table}
 use Rattle.mesh_house.specs.World.{version_of}
-use Rattle.mesh_house.specs.Step.{with_book}
-use Rattle.mesh_house.proofs.Undone.{undone}
+use Rattle.mesh_house.proofs.Undone.{all_undone}
 use Rattle.mesh_house.proofs.world.World.make_table.Goals as goal
 
-pub returns-in-Ok-clause-err : goal.returns-in-Ok-clause-err
-returns-in-Ok-clause-err c =
+pub returns-clause-err : goal.returns-clause-err
+returns-clause-err c =
     let w = c.args.self.now in
     let before = IfOk-at_ok (λ (v : Option Version). v ≡ version_of w.book c.args.object.now) c.in_ok-made.ensures.1 c.version_of.ensures in
-    on_err_weaker c.put_made.result
-    (λ d. d ∙ ap (with_book w) ((λ i. at_version (before i) (λ v. v) (c.in-Ok.ensures.ok i)) ∙ undone as_table w.book c.args.object.now _ (λ v. refl) refl))
-    c.put_made.ensures.err
+    let done = c.make_table-done in
+    on_err_weaker c.put_where.result
+    (λ d. d ∙ all_undone done.result as_table w done.new.self c.args.object.now _ (λ v. refl) before done.ensures.ok done.ensures.err)
+    c.put_where.ensures.err

@@ -3,7 +3,8 @@ use Rattle.std.proofs.lemmas.Grind.{common_steps}
 use Rattle.std.proofs.lemmas.List.{length-map}
 use Rattle.mesh_house.specs.declared.world.Change.{Change}
 use Rattle.mesh_changes.specs.Kept.{gone_snapshots}
-use Rattle.mesh_state_sync.specs.janitor.Walk.{deletes, deletes_by, goes, limit_from}
+use Rattle.mesh_state_sync.specs.janitor.Walk.{deletes, deletes_by, goes}
+use Rattle.mesh_state_sync.specs.migrate.Walk.{limit_from}
 use Rattle.mesh_state_sync.proofs.janitor.Down.{gone_deletes}
 use Rattle.mesh_state_sync.proofs.janitor.changes.push_deletes.Goals as goal
 

@@ -4,7 +4,8 @@ use Rattle.std.proofs.lemmas.Grind.{common_steps}
 use Rattle.mesh_base.specs.declared.snapshots.Ref.{Ref}
 use Rattle.mesh_base.specs.declared.snapshots.Snapshot.{Snapshot}
 use Rattle.mesh_changes.specs.Kept.{is_kept}
-use Rattle.mesh_state_sync.specs.janitor.Walk.{envs_after, layers, limit_from, stays}
+use Rattle.mesh_state_sync.specs.janitor.Walk.{envs_after, layers, stays}
+use Rattle.mesh_state_sync.specs.migrate.Walk.{limit_from}
 use Rattle.mesh_state_sync.proofs.janitor.Reached.{all_exact}
 use Rattle.mesh_state_sync.proofs.janitor.kept.wanted.Goals as goal
 

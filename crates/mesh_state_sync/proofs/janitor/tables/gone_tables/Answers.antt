@@ -2,7 +2,8 @@ use Rattle.std.proofs.Common.{◌≡◌, [], rules, arith, ◌∙◌}
 use Rattle.std.specs.List.{filter}
 use Rattle.std.proofs.lemmas.Grind.{common_steps}
 use Rattle.mesh_changes.specs.Kept.{tables}
-use Rattle.mesh_state_sync.specs.janitor.Walk.{is_absent, objects_after}
+use Rattle.mesh_state_sync.specs.janitor.Walk.{objects_after}
+use Rattle.mesh_state_sync.specs.promote.Promotion.{is_absent}
 use Rattle.mesh_state_sync.proofs.janitor.Used.{gone_are}
 use Rattle.mesh_state_sync.proofs.janitor.tables.gone_tables.Goals as goal
 

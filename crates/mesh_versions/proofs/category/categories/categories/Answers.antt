@@ -4,8 +4,8 @@ use Rattle.mesh_versions.proofs.category.categories.categories.Goals as goal
 
 pub loop-at-preserved : goal.loop-at-preserved
 loop-at-preserved c = record {
-  adds = rw c.in_ok-push.ensures.items
+  adds = rw c.in_ok-push_answers.ensures.0
       (one_more (AddsAmong (stated c.args.olds.now)) c.args.news.now c.loop-at.at c.loop-at.adds.items c.category_at-is.result.0 c.loop-at-test.true c.loop-at.invariant.adds c.category_at-is.ensures.adds);
-  made = rw c.in_ok-push-2.ensures.ok
+  made = rw c.in_ok-push_answers.ensures.1
       (one_more (IsCategoryAmong (stated c.args.olds.now)) c.args.news.now c.loop-at.at c.loop-at.made c.category_at-is.result.1 c.loop-at-test.true c.loop-at.invariant.made c.category_at-is.ensures.category);
 }
