@@ -1,4 +1,5 @@
 pub mod Places
+pub mod OneMore
 pub mod HeaderSteps
 pub mod RowSteps
 pub mod RecordSteps

@@ -22,3 +22,5 @@ pub mod Fitting
 pub mod Whole
 -- Books: a plan of a book makes the changes that the book's plan asks for.
 pub mod Books
+-- More: what comes of one item more.
+pub mod More

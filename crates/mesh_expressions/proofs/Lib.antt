@@ -4,3 +4,5 @@ pub mod Counted
 pub mod Nodes
 -- Plains: values that take no memory
 pub mod Plains
+-- Steps: one item more of what a loop is over
+pub mod Steps

@@ -2,7 +2,7 @@ pub mod Places
 pub mod Among
 pub mod Steps
 mod Alone
-mod Loops
+pub mod Loops
 pub mod Agree
 pub mod Local
 pub mod Tables

@@ -8,3 +8,7 @@ pub mod Frames
 pub mod Ahead
 -- Pools: the tables of the first of some models, one model after another.
 pub mod Pools
+-- More: one place more, and what was read as what is made of it.
+pub mod More
+-- Pushed: items that are pushed one after another, and what they are made of.
+pub mod Pushed

@@ -4,7 +4,7 @@ use Rattle.std.specs.declared.result.Result.{Result}
 use Rattle.mesh_base.specs.declared.expressions.Expr.{Expr, roll-Expr, fold-roll-Expr}
 use Rattle.mesh_base.specs.declared.expressions.Expr as expr
 use Rattle.mesh_base.specs.declared.expressions.Expr.TheOpen.{Binary, Between, OneOf, Case}
-use Rattle.mesh_base.specs.declared.expressions.When.{When}
+use Rattle.mesh_base.specs.declared.expressions.When.{When, fold-roll-When, out-When, roll-out-When}
 use Rattle.mesh_base.specs.declared.expressions.Op.{Op}
 use Rattle.mesh_selects.specs.groups.Grouping.{Breaches, all_together, barred, barred_here, barred_when, when_barred}
 
@@ -36,3 +36,9 @@ pub of-case : (e otherwise x : Expr) (whens ws : List When) → e ≡ expr.Case 
 unfolding roll-Expr denote.Hole.Carrier.roll
 of-case e otherwise x whens ws is f g =
     (λ i. all_together (map barred_when (f i)) ++ barred (g i)) ∙ sym (fold-roll-Expr Breaches Breaches barred_here when_barred (Case whens otherwise)) ∙ ap barred (sym is)
+
+-- an arm, after what stands before it
+pub of-arm : (w : When) (before middle made : Breaches) → middle ≡ before ++ barred w.test → made ≡ middle ++ barred w.value → made ≡ before ++ barred_when w
+of-arm w before middle made test value =
+    value ∙ ap (λ b. b ++ barred w.value) test ∙ append_assoc before (barred w.test) (barred w.value)
+    ∙ ap (λ b. before ++ b) (sym (ap barred_when (sym (roll-out-When w)) ∙ fold-roll-When Breaches Breaches barred_here when_barred (out-When w)))

@@ -1,10 +1,11 @@
-use Rattle.std.proofs.Common.{◌+◌, ◌-◌, ◌++◌, ◌∷◌, [], length, length-append, map, take, refl, sym, ap, ◌∙◌, arith}
+use Rattle.std.proofs.Common.{◌+◌, ◌-◌, ◌∷◌, [], length, length-append, map, take, refl, sym, ap, ◌∙◌, arith}
 use Rattle.std.specs.Option.{option_copied}
-use Rattle.mesh_layer.proofs.Finding.{and_then, told_later}
+use Rattle.mesh_layer.proofs.Finding.{and_then, answers, part_fails, told_later, wants}
 use Rattle.mesh_works.specs.Fronts.{each_pool, last_pool, pools_from}
 use Rattle.mesh_works.specs.Plain.{plain_models}
 use Rattle.mesh_works.specs.Works.{part_of}
-use Rattle.mesh_works.proofs.Pools.{at_last, comes_next, goes_some, last_added, last_again, pool_again, pool_more, there_again, there_more}
+use Rattle.mesh_works.proofs.More.{absent}
+use Rattle.mesh_works.proofs.Pools.{all_come, at_last, comes_next, goes_some, last_added, last_again, pool_again, pool_more, stops_there, there_again, there_more}
 use Rattle.mesh_works.proofs.fronts.pools_ahead.Goals as goal
 use Rattle.mesh_works.proofs.fronts.pools_ahead.Goals.{then-branch+in_ok-add_same, else-branch+in_ok-pool+in-Some+in_ok-add_pool}
 
@@ -60,3 +61,37 @@ loop-i-preserved g c =
                 at_last w all (map part_of (take (i + 1) works)) x k tables (last_pool after) is (sym found ∙ b.in-Some.is) (last_added before after tables added.pools);
           }))
     ]
+
+pub add_same-requires-clause-any : goal.add_same-requires-clause-any
+add_same-requires-clause-any g c =
+    let all = plain_models c.args.nodes.now c.args.entries.now in
+    let q = goes_some all (map part_of (take (c.loop-i.i + 1) c.args.works.now)) (option_copied c.loop-i.before) (part_of c.index-works-i.result) (c.in_ok-goes_on.ensures c.if-branch.true) in
+    c.loop-i.invariant.any q.0 q.1
+
+pub returns-in_err-pool-clause-finds : goal.returns-in_err-pool-clause-finds
+returns-in_err-pool-clause-finds g c =
+    part_fails _ _ _ _ _ _ _ _ _ c.in_err-pool.field-0.0 c.from_residual-in_err-pool.result c.loop-i.invariant.told.untouched c.in_err-pool.ensures c.from_residual-in_err-pool.ensures.1
+    (λ w told plain. (plain, λ o is. is))
+
+pub returns-in_default-clause-finds : goal.returns-in_default-clause-finds
+returns-in_default-clause-finds g c =
+    let all = plain_models c.args.nodes.now c.args.entries.now in
+    let works = c.args.works.now in
+    let i = c.loop-i.i in
+    let so_far = c.loop-i.invariant.told in
+    let there = c.in_ok-pool.ensures in
+    answers _ _ _ _ _ _ (and_then _ _ _ so_far.untouched there.untouched) (λ w told plain.
+    stops_there w all works i c.index-works-i.result c.loop-i-test.true c.index-works-i.is (each_pool c.loop-i.made) (pools_from w all [] (map part_of works)) (map part_of (take (i + 1) works)) refl
+    (sym (absent c.in_ok-pool.pool c.in_default.not-Some) ∙ there.ok w (told_later _ _ w so_far.untouched told) plain) (so_far.told w told plain))
+
+pub returns-in_err-add_pool-clause-finds : goal.returns-in_err-add_pool-clause-finds
+returns-in_err-add_pool-clause-finds g c =
+    wants _ _ _ _ _ c.from_residual-in_err-add_pool.result (and_then _ _ _ c.loop-i.invariant.told.untouched c.in_ok-pool.ensures.untouched) c.from_residual-in_err-add_pool.ensures.1
+
+pub returns-clause-finds : goal.returns-clause-finds
+returns-clause-finds g c =
+    let all = plain_models c.args.nodes.now c.args.entries.now in
+    let works = c.args.works.now in
+    let so_far = c.loop-i.invariant.told in
+    answers _ _ _ _ _ _ so_far.untouched (λ w told plain.
+    all_come w all works c.loop-i.i (each_pool c.loop-i.made) (pools_from w all [] (map part_of works)) c.loop-i-test.false (so_far.told w told plain))

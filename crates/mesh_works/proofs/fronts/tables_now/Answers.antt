@@ -1,5 +1,5 @@
 use Rattle.std.proofs.Common.{◌∙◌, ap, map}
-use Rattle.mesh_layer.proofs.Finding.{and_then, answers, told_later}
+use Rattle.mesh_layer.proofs.Finding.{and_then, answers, part_fails, stays, told_later}
 use Rattle.mesh_scratch.specs.Sources.{declared}
 use Rattle.mesh_works.proofs.Pools.{all_there, none_there}
 use Rattle.mesh_works.specs.Plain.{model_of}
@@ -17,3 +17,13 @@ returns-in_ok-append-in-Some g c =
     answers _ _ _ _ _ _ (and_then _ _ _ found.untouched read.untouched) (λ w told plain.
     all_there w (model_of c.args.node.now c.args.entry.now) c.args.parents.now c.in_ok-tables.tables c.in-Some.tables c.in_ok-read-in-Some.read c.append.new.self (found.ok w told plain) c.in-Some.is
     (read.ok w (told_later _ _ w found.untouched told) plain ∙ ap (map (declared w.sources)) c.as_slice.ensures) c.in_ok-append-in-Some.ensures)
+
+pub returns-in_err-tables : goal.returns-in_err-tables
+returns-in_err-tables g c =
+    part_fails _ _ _ _ _ _ _ _ _ c.in_err-tables.field-0.0 c.from_residual.result (stays _) c.in_err-tables.ensures c.from_residual.ensures.1
+    (λ w told plain. (plain, λ o is. is))
+
+pub returns-in_err-read-in-Some : goal.returns-in_err-read-in-Some
+returns-in_err-read-in-Some g c =
+    part_fails _ _ _ _ _ _ _ _ _ c.in_err-read-in-Some.field-0.0 c.from_residual-in_err-read-in-Some.result c.in_ok-tables.ensures.untouched c.in_err-read-in-Some.ensures c.from_residual-in_err-read-in-Some.ensures.1
+    (λ w told plain. (plain, λ o is. is))

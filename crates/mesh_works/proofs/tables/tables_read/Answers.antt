@@ -1,10 +1,15 @@
-use Rattle.std.proofs.Common.{◌≡◌, List, Some, ◌++◌, map, sym, ap, ◌∙◌}
+use Rattle.std.proofs.Common.{◌≡◌, List, Some, None, ◌++◌, map, sym, ap, ◌∙◌}
 use Rattle.mesh_base.specs.declared.jobs.Input.{Input}
 use Rattle.mesh_scratch.specs.Sources.{declared}
-use Rattle.mesh_layer.proofs.Finding.{and_then, answers, part_fails, told_later}
+use Rattle.mesh_layer.proofs.Finding.{and_then, answers, part_fails, stays, told_later}
 use Rattle.mesh_works.proofs.Parents.{lost_are, read_all}
 use Rattle.mesh_works.specs.Plain.{model_of, parents_at, plain_models, work_model}
 use Rattle.mesh_works.proofs.tables.tables_read.Goals as goal
+
+pub returns-in_err-read : goal.returns-in_err-read
+returns-in_err-read g c =
+    part_fails _ _ _ _ _ _ _ _ _ c.in_err-read.field-0.0 c.from_residual-in_err-read.result (stays _) c.in_err-read.ensures c.from_residual-in_err-read.ensures.1
+    (λ w told plain. (plain, λ o is. absurd (let no : None ≡ Some o = is in cc)))
 
 pub returns-in_err-tables : goal.returns-in_err-tables
 returns-in_err-tables g c =

@@ -1,6 +1,6 @@
-use Rattle.std.proofs.Common.{sym, ◌∙◌}
+use Rattle.std.proofs.Common.{sym}
 use Rattle.mesh_csv.specs.seeds.Cells.{row_of}
-use Rattle.mesh_csv.proofs.seeds.RowSteps.{row_goes, row_short}
+use Rattle.mesh_csv.proofs.seeds.RowSteps.{row_goes, row_short, row_ends}
 use Rattle.mesh_csv.proofs.seeds.rows.row_of.Goals as goal
 
 pub returns-in_default : goal.returns-in_default
@@ -10,3 +10,6 @@ pub loop-i-preserved : goal.loop-i-preserved
 loop-i-preserved c =
     rw c.in_ok-push_made.ensures.2 (row_goes _ c.args.kinds.now c.args.fields.now c.loop-i.i c.in-Some.field.now c.loop-i.row c.in_ok-push_made.ensures.0 (row_of c.args.kinds.now c.args.fields.now)
     c.loop-i-test.true (sym c.in-Some.ensures) (rw c.in_ok-push_made.ensures.1 at c.cell_of.ensures) c.loop-i.invariant)
+
+pub returns : goal.returns
+returns c = row_ends c.args.kinds.now c.args.fields.now c.loop-i.i c.loop-i.row (row_of c.args.kinds.now c.args.fields.now) c.loop-i-test.false c.loop-i.invariant

@@ -1,6 +1,6 @@
 use Rattle.std.proofs.Common.{sym, ◌∙◌}
 use Rattle.mesh_csv.specs.seeds.Seeds.{unread_field}
-use Rattle.mesh_csv.proofs.seeds.RowSteps.{unread_goes, unread_stops, unread_short}
+use Rattle.mesh_csv.proofs.seeds.RowSteps.{unread_goes, unread_stops, unread_short, unread_ends}
 use Rattle.mesh_csv.proofs.seeds.rows.unread_field.Goals as goal
 
 pub returns-in_default : goal.returns-in_default
@@ -15,3 +15,6 @@ pub loop-i-preserved : goal.loop-i-preserved
 loop-i-preserved c =
     unread_goes _ c.args.kinds.now c.args.fields.now c.loop-i.i c.in-Some.field.now (unread_field 1 c.args.kinds.now c.args.fields.now)
     c.loop-i-test.true (sym c.in-Some.ensures) (sym c.in_ok-is_read.ensures ∙ c.if-not-branch.false) c.loop-i.invariant
+
+pub returns : goal.returns
+returns c = sym (unread_ends c.args.kinds.now c.args.fields.now c.loop-i.i (unread_field 1 c.args.kinds.now c.args.fields.now) c.loop-i-test.false c.loop-i.invariant)

@@ -1,4 +1,6 @@
-use Rattle.mesh_selects.proofs.groups.Parts.{then_put, both_put, of-binary, of-between, of-one_of, of-case}
+use Rattle.mesh_selects.specs.groups.Grouping.{Breaches, barred, barred_when}
+use Rattle.mesh_selects.proofs.outputs.Loops.{some_gathered}
+use Rattle.mesh_selects.proofs.groups.Parts.{then_put, both_put, of-arm, of-binary, of-between, of-one_of, of-case}
 use Rattle.mesh_selects.proofs.groups.barred.+bars.Goals as goal
 
 pub bar-returns-in_ok-bar-in-Binary : goal.bar-returns-in_ok-bar-in-Binary
@@ -21,3 +23,13 @@ pub bar-returns-in_ok-bar_whens-in-Case : goal.bar-returns-in_ok-bar_whens-in-Ca
 bar-returns-in_ok-bar_whens-in-Case t c =
     then_put c.bar-in-Case.result c.args.breaches.now _ c.bar-in-Case.new.breaches _ _ _ c.in_ok-bar_whens-in-Case.ensures c.bar-in-Case.ensures
     (of-case c.args.e.now c.in-Case.otherwise c.get-in-Case.result.now c.in-Case.whens c.as_slice-in-Case.result.now c.in-Case.is c.as_slice-in-Case.ensures c.get-in-Case.ensures)
+
+pub bar_all-loop-e-preserved : goal.bar_all-loop-e-preserved
+bar_all-loop-e-preserved t c =
+    some_gathered (λ (b : Breaches). b) barred c.args.breaches.now c.loop-e.breaches c.bar.new.breaches c.args.es.now c.loop-e.e-index c.e-item.result
+    c.loop-e-test.true c.e-item.is c.loop-e.invariant c.in_ok-bar.ensures
+
+pub bar_whens-loop-w-preserved : goal.bar_whens-loop-w-preserved
+bar_whens-loop-w-preserved t c =
+    some_gathered (λ (b : Breaches). b) barred_when c.args.breaches.now c.loop-w.breaches c.bar-in-loop-w.new.breaches c.args.whens.now c.loop-w.w-index c.w-item.result
+    c.loop-w-test.true c.w-item.is c.loop-w.invariant (of-arm c.w-item.result c.loop-w.breaches _ _ c.in_ok-bar.ensures c.in_ok-bar-2.ensures)
