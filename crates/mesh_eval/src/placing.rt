@@ -100,7 +100,7 @@ pub(crate) fn values_at<'a, 'x>(
 ) -> Result<Row, Memory>
     ensures { IfOk result (λ made. made ≡ values_at all.now (shown row.now)) }
 {
-    let mut made = Row::new(alloc);
+    let mut made = Row::from_vec(Vec::with_capacity(alloc, all.len())?);
     for b in all {
         push_made(&mut made, value_at(alloc, b, row))?;
     }
@@ -111,7 +111,7 @@ pub(crate) fn values_at<'a, 'x>(
 pub(crate) fn value_rows(alloc: Global, all: &[Bound], rows: &JoinedRows) -> Result<Rows, Memory>
     ensures { IfOk result (λ made. made ≡ map (values_at all.now) rows.now.rows) }
 {
-    let mut made = Rows::new(alloc);
+    let mut made = Rows::from_vec(Vec::with_capacity(alloc, rows.len())?);
     for at in 0..rows.len() {
         push_made(&mut made, values_at(alloc, all, rows.at(at)))?;
     }

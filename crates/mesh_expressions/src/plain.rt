@@ -39,7 +39,8 @@ fn plain_key(cells: &[Cell], k: usize) -> Plain
     }
 }
 
-/// The value of a bound expression, where it takes no memory. What is asked for most stands in front.
+/// The value of a bound expression, where it takes no memory. What is asked for most stands in front, and the rest isn't inlined,
+/// since a function pays at its entry for all that its arms hold.
 #[cycle(plain)]
 pub(crate) fn plain_of<'v>(b: &'v Bound, f: &Frame<'v, 'v>) -> Option<Plain<'v>>
     ensures { IfSome result (λ p. cell_of p ≡ bound_value b.now (given_of f.now)) }
@@ -56,6 +57,7 @@ pub(crate) fn plain_of<'v>(b: &'v Bound, f: &Frame<'v, 'v>) -> Option<Plain<'v>>
 }
 
 #[cycle(plain)]
+#[inline(never)]
 fn plain_node<'v>(b: &'v Bound, f: &Frame<'v, 'v>) -> Option<Plain<'v>>
     ensures { IfSome result (λ p. cell_of p ≡ bound_value b.now (given_of f.now)) }
 {
@@ -176,6 +178,7 @@ fn taken<'v>(value: Option<Plain<'v>>) -> Option<Option<Plain<'v>>>
 
 /// The value of a function of one argument, of two, or of the first argument that isn't NULL.
 #[cycle(plain)]
+#[inline(never)]
 fn called<'v>(func: Func, args: &'v [Bound], f: &Frame<'v, 'v>) -> Option<Plain<'v>>
     ensures { IfSome result (λ p. cell_of p ≡ func_value func (bound_each args.now (given_of f.now))) }
 {
@@ -194,6 +197,7 @@ fn called<'v>(func: Func, args: &'v [Bound], f: &Frame<'v, 'v>) -> Option<Plain<
 
 /// The value of the first that isn't NULL, behind which none is looked at.
 #[cycle(plain)]
+#[inline(never)]
 fn first_known<'v>(all: &'v [Bound], f: &Frame<'v, 'v>) -> Option<Plain<'v>>
     ensures { IfSome result (λ p. cell_of p ≡ coalesce (bound_each all.now (given_of f.now))) }
 {
@@ -211,6 +215,7 @@ fn first_known<'v>(all: &'v [Bound], f: &Frame<'v, 'v>) -> Option<Plain<'v>>
 
 /// Whether x equals one of them, of which none is looked at behind the first that it equals.
 #[cycle(plain)]
+#[inline(never)]
 fn one_equals<'v>(x: Plain, all: &'v [Bound], f: &Frame<'v, 'v>) -> Option<Plain<'v>>
     ensures { IfSome result (λ p. cell_of p ≡ one_of (cell_of x.entry) (bound_each all.now (given_of f.now))) }
 {
@@ -228,6 +233,7 @@ fn one_equals<'v>(x: Plain, all: &'v [Bound], f: &Frame<'v, 'v>) -> Option<Plain
 
 /// The value of the first WHEN that is true, if one is, behind which none is looked at.
 #[cycle(plain)]
+#[inline(never)]
 fn first_true<'v>(whens: &'v [BoundWhen], f: &Frame<'v, 'v>) -> Option<Option<Plain<'v>>>
     ensures { IfSome result (λ found. option_map cell_of found ≡ fold chosen None (bound_whens whens.now (given_of f.now))) }
 {

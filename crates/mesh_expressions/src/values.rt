@@ -65,6 +65,7 @@ fn operator_value<'v>(alloc: Global, b: &'v Bound, f: &Frame<'v, 'v>) -> Result<
 }
 
 #[cycle(values)]
+#[inline(never)]
 fn node_value<'v>(alloc: Global, b: &'v Bound, f: &Frame<'v, 'v>) -> Result<Held<'v>, Memory>
     ensures { IfOk result (λ v. v ≡ bound_value b.now (given_of f.now)) }
 {
@@ -242,7 +243,7 @@ fn count_group(f: &Frame) -> Cell
 pub fn values_of<'v>(alloc: Global, all: &'v [Bound], f: &Frame<'v, 'v>) -> Result<Row, Memory>
     ensures { IfOk result (λ v. v ≡ bound_each all.now (given_of f.now)) }
 {
-    let mut made = Row::new(alloc);
+    let mut made = Row::from_vec(Vec::with_capacity(alloc, all.len())?);
     for b in all {
         push_made(&mut made, kept(value_of(alloc, b, f)))?;
     }
