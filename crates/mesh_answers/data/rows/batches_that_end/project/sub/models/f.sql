@@ -1,0 +1,1 @@
+MODEL (name a.f); SELECT 1 AS x
