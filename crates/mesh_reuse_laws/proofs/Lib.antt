@@ -30,3 +30,9 @@ pub mod Puts
 pub mod Putting
 -- Examples: twins in a small project, worked out by hand.
 pub mod Examples
+-- ExamplesOfBooks: a book in which twins share a table, worked out by hand.
+pub mod ExamplesOfBooks
+-- ExamplesOfPlans: a plan that gives a model the table of its twin, worked out by hand.
+pub mod ExamplesOfPlans
+-- ExamplesOfShops: a shop whose daily model gains a column, worked out by hand.
+pub mod ExamplesOfShops
