@@ -1,8 +1,8 @@
 #!/usr/bin/env python3
 """Times `mesh batch` over a warehouse in memory: an apply of projects that the apply before left unchanged, by the difference
 between scripts of one apply and of three; a first apply of a seed of about 4 MB, the most that a seed may have, under ten FULL
-models; and a script that has nothing. Prints the least seconds of processor of three runs, growth when the size doubles, and peak
-memory.
+models; a question to the last of 4,095 VIEWs, each over the one before, which has to give the row of the table under the first; and
+a script that has nothing. Prints the least seconds of processor of three runs, growth when the size doubles, and peak memory.
 
 Usage: bench/apply.py [PROGRAM], where PROGRAM is crates/mesh/out/mesh if left out (`rt run` in its folder makes it)."""
 import os
@@ -70,6 +70,21 @@ def first(program, rows):
         return ran(program, folder, APPLY)
 
 
+def chain(program, count):
+    """The seconds of asking the last of a table and of VIEWs over one another, which are so many models."""
+    with tempfile.TemporaryDirectory() as folder:
+        os.makedirs(f"{folder}/models")
+        for number in range(count):
+            kind, query = ("VIEW", f"SELECT x FROM s.m{number - 1:04}") if number else ("FULL", "SELECT 7 AS x")
+            with open(f"{folder}/models/m{number:04}.sql", "w") as model:
+                model.write(f"MODEL (name s.m{number:04}, kind {kind}); {query}\n")
+        question = f'fetchdf "SELECT x FROM s.m{count - 1:04}"\n'
+        words = [program, "--warehouse", ":memory:", "batch"]
+        said = subprocess.run(words, input=APPLY + question, capture_output=True, text=True, cwd=folder)
+        assert said.returncode == 0 and said.stdout.endswith("\nx\n7\n"), (said.returncode, said.stdout[-200:])
+        return ran(program, folder, APPLY + 2 * question)[0] - ran(program, folder, APPLY + question)[0]
+
+
 def main():
     program = os.path.abspath(sys.argv[1]) if len(sys.argv) > 1 else f"{TOP}/crates/mesh/out/mesh"
     with tempfile.TemporaryDirectory() as folder:
@@ -81,6 +96,7 @@ def main():
     half, _ = first(program, rows // 2)
     full, peak = first(program, rows)
     print(f"first apply of a 4 MB seed and ten FULL models: {full:.3f} s, growth {full / half:.2f}, peak memory {peak} MB")
+    print(f"a question to the last of 4,095 VIEWs over one another: {chain(program, 4_096):.3f} s")
 
 
 if __name__ == "__main__":

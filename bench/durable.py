@@ -7,8 +7,8 @@ full  An apply writes to a small disk of its own (a tmpfs) with so many pages fr
       enough. Each has to answer 0 or 3. Once there is space the file has to be readable, and the same apply to answer 0 and to show
       the same. Where nothing can be mounted, a line says that this was left out.
 byte  One byte of a finished warehouse's file is changed at random places, each in a copy of its own. Each of some commands over
-      each copy has to end by itself with one of the statuses 0, 1, 3 and 7. Counted is how often rows came that differ, and how many
-      of these places lie outside of the records of tables and sources.
+      each copy has to end by itself with one of the statuses 0, 1, 3 and 7. Counted is how often rows came that differ, all of
+      which has to be at places within the records of tables and sources.
 two   Two processes over one file at once, which nothing promises: printed is what comes of them.
 
 The random numbers begin with a fixed seed. What has to hold is asserted; the rest is printed.
@@ -249,6 +249,7 @@ def try_byte(program, folder, times):
         shutil.rmtree(trial)
     print(f"byte: {times} places of {len(content)} bytes, of which {len(own)} are of tables' and sources' records; {len(questions)} commands over each:")
     print(f"  status {tally(statuses)}; rows differed after {differ} of the changes, of which {len(outside)} were outside of these records: {outside}")
+    assert not outside, outside
 
 
 def two(program, base, folder, pair, after):

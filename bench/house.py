@@ -20,6 +20,7 @@ CHANGES = 100_000
 UNITS = 200_000
 SNAPSHOTS = 10_000
 TIMES = 20
+RUNS = 6
 STOPPED = 3
 MOVES = 5
 HOUR = 3_600
@@ -88,8 +89,8 @@ def promoted(count):
     applies = [f"mesh apply e{n:02} --execution-time 2024-01-03T00:30" for n in range(TIMES)]
     # The moment and the snapshots are made, and the next change fails.
     stopped = [step for apply in applies for step in (f"fail before {1 + count}", apply)]
-    whole = played.seconds(played.PROGRAM, files, front + applies, TIMES)
-    return (whole - played.seconds(played.PROGRAM, files, front + stopped, TIMES, STOPPED)) / TIMES
+    whole = played.seconds(played.PROGRAM, files, front + applies, TIMES, runs=RUNS)
+    return (whole - played.seconds(played.PROGRAM, files, front + stopped, TIMES, STOPPED, RUNS)) / TIMES
 
 
 def swept(count):

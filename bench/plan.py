@@ -19,7 +19,7 @@ import played
 from measured import TOP, Suite
 
 PROGRAM = f"{TOP}/crates/mesh/out/mesh"
-TIMES = 20
+TIMES = 60
 REFUSED = 7
 HOURS = {200_000: "2023-10-26T08:00", 100_000: "2012-05-29T16:00"}
 HOURLY = "MODEL (name s.m, kind INCREMENTAL_BY_TIME_RANGE (time_column t), start '2001-01-01', cron '@hourly'); SELECT 1 AS t\n"

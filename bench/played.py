@@ -3,10 +3,10 @@ warehouse in memory alone."""
 from measured import PROGRAM, ran
 
 
-def seconds(program, files, script, last=0, status=0):
-    """The least seconds of two runs of a script over an example's files, whose last commands have this status, and all others 0."""
+def seconds(program, files, script, last=0, status=0, runs=2):
+    """The least seconds of some runs of a script over an example's files, whose last commands have this status, and all others 0."""
     example = {**files, "script": "\n".join(["alone", *script]) + "\n"}
-    least, _, said = ran([program, "rows"], {f"rows/example/{path}": text for path, text in example.items()}, 2)
+    least, _, said = ran([program, "rows"], {f"rows/example/{path}": text for path, text in example.items()}, runs)
     answered = [line for line in said.splitlines() if line.startswith("status ")]
     assert len(answered) == sum(line.startswith("mesh ") for line in script), said[:1000]
     assert all(line.startswith(f"status {status}, ") for line in answered[len(answered) - last :]), said[-1000:]

@@ -1,13 +1,17 @@
 #!/usr/bin/env python3
 """Times the suite `plans` of `mesh_answers` on loading whole projects from a folder, of models of 300 bytes each: a chain, a
-star, and 64 layers of 64 models that read three of the layer before. Prints seconds of processor and growth.
+star, and 64 layers of 64 models that read three of the layer before; and one of a seed of nearly 4 MB, whose cells are in its
+fingerprint, beside reading that seed alone. Prints seconds of processor and growth.
 
 Usage: bench/project.py [PROGRAM], where PROGRAM is crates/mesh_answers/out/mesh_answers if left out (`rt run` makes it)."""
 import sys
 
+import text as texts
 from measured import Suite
 
 BYTES = 300
+ROWS = 120_000
+SEED = "MODEL (name s.s, kind SEED (path '../seeds/s.csv'), columns (id INT, day DATE, name TEXT));\n"
 
 
 def text(name, query):
@@ -40,6 +44,15 @@ def seconds(suite, models):
     return least
 
 
+def seed(suite):
+    """The seconds of loading a project of one seed, and those of reading its file alone."""
+    rows = "id,day,name\n" + "1234567,2024-02-29,a longer text\n" * ROWS
+    files = {"project/models/s.sql": SEED, "project/seeds/s.csv": rows}
+    loaded, _, said = suite.taken("cases.txt", ["read project"], 3, files)
+    assert said == "read project 1\n", said
+    return loaded, texts.seed([None, None, Suite("files", *sys.argv[1:])], ROWS, "id int day date name text")[0]
+
+
 def main():
     suite = Suite("plans", *sys.argv[1:])
     for name, made in (("chain", chain), ("star", star)):
@@ -47,6 +60,8 @@ def main():
         print(f"{name}: 1,000 models {few:.3f} s, 2,048 models {half:.3f} s, 4,096 models {full:.3f} s, growth {full / max(half, 1e-9):.2f}")
     half, full = seconds(suite, layers(64, 32)), seconds(suite, layers(64, 64))
     print(f"layers: 2,048 models {half:.3f} s, 4,096 models {full:.3f} s, growth {full / max(half, 1e-9):.2f}")
+    loaded, read = seed(suite)
+    print(f"a seed of 4 MB: {loaded:.3f} s, reading it alone {read:.3f} s, {loaded - read:.3f} s more")
 
 
 if __name__ == "__main__":
