@@ -11,6 +11,7 @@ use Rattle.mesh_house.specs.World.{object_at, body_of, version_of}
 use Rattle.mesh_shown.specs.Shown.{targets_of}
 use Rattle.mesh_due.specs.Plans.{Planned, is_made}
 
+-- what a stored query reads, each name with its object; a table reads nothing
 abbrev pub targets_behind : Option Body → List Pair
 targets_behind None = []
 targets_behind (Some b) = targets_of b

@@ -50,6 +50,7 @@ abbrev pub inserted : List Cell → List (List Cell) → List (List Cell)
 inserted row [] = row ∷ []
 inserted row (r ∷ rs) = if is_lt (row_order r row) then r ∷ inserted row rs else row ∷ r ∷ rs
 
+-- rows by ascending order
 abbrev pub ascending : List (List Cell) → List (List Cell)
 ascending [] = []
 ascending (row ∷ rows) = inserted row (ascending rows)
@@ -58,6 +59,7 @@ ascending (row ∷ rows) = inserted row (ascending rows)
 abbrev pub parents_in : List Planned → Planned → List Planned
 parents_in all p = flat_map (λ i. option_to_list (slice_get all i)) p.node.parents
 
+-- what a planned model is called in a book
 abbrev pub planned_ref : Planned → Ref
 planned_ref p = node_ref p.node
 
@@ -116,6 +118,7 @@ abbrev pub followed : World → Option (List Change) → (World → List Change)
 followed w None next = []
 followed w (Some list) next = list ++ next (run w list)
 
+-- there is one
 abbrev pub is_any : List Forget → Bool
 is_any [] = false
 is_any (q ∷ qs) = true
@@ -134,6 +137,7 @@ abbrev pub forgetting : List Forget → List Change
 forgetting [] = []
 forgetting (q ∷ qs) = ForgetUnits (q ∷ qs) ∷ []
 
+-- each model of a plan is put into the book
 abbrev pub puts : ℤ → List Planned → List Change
 puts t all = map (λ p. PutSnapshot (snapshot_of t all p)) all
 
@@ -142,6 +146,7 @@ abbrev pub refs_by_name : List Planned → List Ref
 refs_by_name [] = []
 refs_by_name (p ∷ ps) = placed name_cmp ref_name (planned_ref p) (refs_by_name ps)
 
+-- the name of a pair
 abbrev pub pair_first : Pair → Name
 pair_first q = q.first
 
@@ -150,9 +155,11 @@ abbrev pub objects_by_name : List Planned → List Pair
 objects_by_name [] = []
 objects_by_name (p ∷ ps) = placed name_cmp pair_first (target_of p) (objects_by_name ps)
 
+-- an environment's view points at its object
 abbrev pub points : List ℕ → Pair → Change
 points env o = PointView (view_in env o.first) o.second
 
+-- an environment's view goes
 abbrev pub drops : List ℕ → Name → Change
 drops env name = DropView (view_in env name)
 
@@ -160,6 +167,7 @@ drops env name = DropView (view_in env name)
 abbrev pub is_listed : List Planned → Name → Bool
 is_listed all name = list_any (λ (p : Planned). same_name p.node.own.name name) all
 
+-- a name is its own key
 abbrev pub name_itself : Name → Name
 name_itself n = n
 

@@ -34,6 +34,7 @@ pub data Command : Type 0 where
 abbrev pub is_present : Book → Bool
 is_present b = is_well_formed_book b && nat_eq b.version 2
 
+-- an environment is there and no switch of it is under way
 abbrev pub is_final : Option Env → Bool
 is_final None = false
 is_final (Some e) = not e.pending

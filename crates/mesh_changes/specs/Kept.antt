@@ -28,9 +28,11 @@ line all (suc depth) s = snapshot_ref s ∷ flat_map (line all depth) (named all
 abbrev pub staying : ℤ → List Env → List Env
 staying t envs = filter (λ (e : Env). not (is_over t e.expires)) envs
 
+-- those whose time is over
 abbrev pub leaving : ℤ → List Env → List Env
 leaving t envs = filter (λ (e : Env). is_over t e.expires) envs
 
+-- what an environment names: its list, and the one that it had before
 abbrev pub both_lists : Env → List Ref
 both_lists e = e.list ++ e.previous
 
@@ -42,6 +44,7 @@ roots b t = named b.snapshots (flat_map both_lists (staying t b.environments)) +
 abbrev pub kept : Book → ℤ → List Ref
 kept b t = flat_map (λ (s : Snapshot). line b.snapshots s.rank s) (roots b t)
 
+-- a snapshot stays
 abbrev pub is_kept : Book → ℤ → Snapshot → Bool
 is_kept b t s = list_any (λ r. is_eq (ref_cmp r (snapshot_ref s))) (kept b t)
 
@@ -53,6 +56,7 @@ is_table_kept b t name = list_any (λ (s : Snapshot). same_name s.object name) (
 abbrev pub tables : Book → List Name
 tables b = names_by_order (map (λ (s : Snapshot). s.object) b.snapshots ++ map (λ (v : Version). v.object) b.versions)
 
+-- the others go
 abbrev pub gone_tables : Book → ℤ → List Name
 gone_tables b t = filter (λ n. not (is_table_kept b t n)) (tables b)
 
@@ -60,10 +64,12 @@ gone_tables b t = filter (λ n. not (is_table_kept b t n)) (tables b)
 abbrev pub down_cmp : Snapshot → Snapshot → Ordering
 down_cmp a b = ordering_then (nat_cmp b.rank a.rank) (ref_cmp (snapshot_ref a) (snapshot_ref b))
 
+-- snapshots in that order
 abbrev pub downwards : List Snapshot → List Snapshot
 downwards [] = []
 downwards (s ∷ ss) = placed down_cmp snapshot_itself s (downwards ss)
 
+-- the snapshots that go, those first that stand on others
 abbrev pub gone_snapshots : Book → ℤ → List Snapshot
 gone_snapshots b t = downwards (filter (λ s. not (is_kept b t s)) b.snapshots)
 

@@ -32,6 +32,7 @@ abbrev pub list_of : Option Env → List Ref → List Ref
 list_of None other = other
 list_of (Some e) other = e.list
 
+-- what a plan compares with: the environment's list, or prod's where there is no such environment
 abbrev pub compared_list : Book → List ℕ → List Ref
 compared_list b env = list_of (env_at b env) (list_of (env_at b prod) [])
 
@@ -39,9 +40,11 @@ compared_list b env = list_of (env_at b env) (list_of (env_at b prod) [])
 abbrev pub compared : Book → List ℕ → Name → Option Snapshot
 compared b env name = option_and_then (snapshot_at b.snapshots) (found name_cmp ref_name name (compared_list b env))
 
+-- a recorded snapshot beside all that it stands on
 abbrev pub stated : Book → Snapshot → Stated
 stated b s = record { fingerprint = s.fingerprint; closure = closing b.snapshots s }
 
+-- a planned model beside all that it stands on
 abbrev pub stated_new : Planned → Stated
 stated_new p = record { fingerprint = p.node.fingerprint; closure = p.closure }
 

@@ -35,6 +35,7 @@ abbrev pub restates : Option Restate → Closure → Bool
 restates None c = false
 restates (Some r) c = descends r.name c
 
+-- a unit shares a day with the days that are computed again; days from first to last, both with them
 abbrev pub touches_days : Option Restate → Bounds → Bool
 touches_days None u = false
 touches_days (Some r) u = touches r.first r.last u
@@ -84,6 +85,7 @@ due_of clock b forgets p Full = if are_marks (marks_of (version_of b p.object)) 
 due_of clock b forgets p View = if is_marked b p.object then [] else Marks p.object ∷ []
 due_of clock b forgets p Seed = if is_marked b p.object then [] else Marks p.object ∷ []
 
+-- what is due of a planned model
 abbrev pub due : Clock → Book → List Forget → Planned → List Forget
 due clock b forgets p = due_of clock b forgets p p.node.own.kind
 
@@ -92,6 +94,7 @@ abbrev pub due_at : Clock → ℕ → Planned → Forget → Due
 due_at clock place p (Range object start end) = OfUnit place start end
 due_at clock place p (Marks object) = Whole place (marks clock p.closure)
 
+-- what is due of the models from a place of the plan on, each with its place, a table with its marks, in plan order
 abbrev pub dues_from : ℕ → Clock → Book → List Forget → List Planned → List Due
 dues_from place clock b forgets [] = []
 dues_from place clock b forgets (p ∷ ps) = map (due_at clock place p) (due clock b forgets p) ++ dues_from (place + 1) clock b forgets ps

@@ -15,6 +15,7 @@ pub record Mark : Type 0 where
   pub name : Name
   pub at : ℤ
 
+-- the model of a mark
 abbrev pub mark_name : Mark → Name
 mark_name m = m.name
 
@@ -25,6 +26,7 @@ is_computed (Incremental time lookback) = true
 is_computed View = false
 is_computed Seed = false
 
+-- a model with its horizon at a moment
 abbrev pub mark_of : Clock → Closure → Mark
 mark_of clock c = record { name = (own_of c).name; at = horizon clock c }
 
@@ -41,6 +43,7 @@ marked clock (Model own parents) = mark_of clock (Model own parents) ∷ map (ma
 abbrev pub marks : Clock → Closure → List ℤ
 marks clock c = map (λ (m : Mark). m.at) (by_name (marked clock c))
 
+-- marks are equal, one by one
 abbrev pub same_marks : List ℤ → List ℤ → Bool
 same_marks [] [] = true
 same_marks (a ∷ as_) (b ∷ bs) = same_second a b && same_marks as_ bs

@@ -41,10 +41,12 @@ abbrev pub ranges_of : Option Version → List Bounds
 ranges_of None = []
 ranges_of (Some v) = v.ranges
 
+-- the marks that are recorded of an object
 abbrev pub marks_of : Option Version → Option (List ℤ)
 marks_of None = None
 marks_of (Some v) = v.marks
 
+-- an object is recorded as made
 abbrev pub is_made : Option Version → Bool
 is_made None = false
 is_made (Some v) = v.made

@@ -38,10 +38,12 @@ stays IndirectNonBreaking View = false
 stays IndirectNonBreaking other = true
 stays category kind = false
 
+-- the table of the compared snapshot, where it stays
 abbrev pub kept_object : Bool → Option Snapshot → Option Name
 kept_object false compared = None
 kept_object true compared = option_map (λ (s : Snapshot). s.object) compared
 
+-- what a model of a project is called in a book: its name with its fingerprint
 abbrev pub node_ref : Node → Ref
 node_ref n = record { name = n.own.name; fingerprint = n.fingerprint }
 

@@ -24,6 +24,7 @@ is_list_fit all list =
 abbrev pub rank_cmp : Snapshot → Snapshot → Ordering
 rank_cmp a b = ordering_then (nat_cmp a.rank b.rank) (name_cmp a.name b.name)
 
+-- a snapshot is its own key
 abbrev pub snapshot_itself : Snapshot → Snapshot
 snapshot_itself s = s
 

@@ -33,10 +33,12 @@ Changed old new NonBreaking = (¬ IsOwnSame old new) × AddsOnly old new
 Changed old new IndirectBreaking = IsOwnSame old new × (¬ AddsOnly old new)
 Changed old new IndirectNonBreaking = IsOwnSame old new × AddsOnly old new
 
+-- the category is that of an equal fingerprint
 abbrev pub IsUnchanged : Category → Type 0
 IsUnchanged Unchanged = Unit {0}
 IsUnchanged other = ⊥
 
+-- the category is that of a model which was not there
 abbrev pub IsAdded : Category → Type 0
 IsAdded Added = Unit {0}
 IsAdded other = ⊥

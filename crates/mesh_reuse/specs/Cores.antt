@@ -37,6 +37,7 @@ abbrev pub pruned_defn : List (List ℕ) → Option (List ℕ) → Defn → Defn
 pruned_defn wanted time (Seed columns rows) = Seed columns rows
 pruned_defn wanted time (Sql q) = Sql (record q { selects = pruned_selects wanted time q.selects })
 
+-- a model without the columns that nothing asks for
 abbrev pub pruned_own : List (List ℕ) → Own → Own
 pruned_own wanted own = record own { defn = pruned_defn wanted (time_column own.kind) own.defn }
 

@@ -15,9 +15,11 @@ mutual
     Alone : Closures
     With : Closure → Closures → Closures
 
+-- what a model itself says
 abbrev pub own_of : Closure → Own
 own_of (Model own parents) = own
 
+-- the models that it reads, each with all above it
 abbrev pub parents_of : Closure → Closures
 parents_of (Model own parents) = parents
 

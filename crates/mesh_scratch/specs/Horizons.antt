@@ -33,9 +33,11 @@ last_tick clock own = floored own.unit (clock own.cron)
 abbrev pub HasCrons : Closure → Type 0
 HasCrons c = All (λ s. IsTrue (is_cron (own_of s).cron)) (standing c)
 
+-- a model with a schedule of its own
 abbrev pub is_timed : Closure → Bool
 is_timed c = is_incremental (own_of c).kind
 
+-- the least of a second and of those of a list
 abbrev pub least_of : ℤ → List ℤ → ℤ
 least_of t ts = fold int_min t ts
 

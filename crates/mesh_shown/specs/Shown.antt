@@ -32,10 +32,12 @@ each_there (o ∷ os) = option_and_then (λ x. option_map (λ xs. x ∷ xs) (eac
 abbrev pub selects_there : List Relation → List (List Select) → List Select → Bool
 selects_there relations ctes selects = list_all (λ (s : Select). are_there relations ctes s.from) selects
 
+-- what the CTEs read is there, each beside those before it
 abbrev pub ctes_there : List Relation → List (List Select) → List (List Select) → Bool
 ctes_there relations before [] = true
 ctes_there relations before (c ∷ cs) = selects_there relations before c && ctes_there relations (before ++ c ∷ []) cs
 
+-- what a query reads is there: each relation of its CTEs and of its SELECTs
 abbrev pub is_query_there : List Relation → Query → Bool
 is_query_there relations q = ctes_there relations [] q.ctes && selects_there relations q.ctes q.selects
 

@@ -48,6 +48,7 @@ pub record IsDone (clock : Clock) (x : Parts) (b : Book) (p : Planned) : Type 0 
   pub closure : closing b.snapshots snapshot ≡ p.closure
   pub current : IsCurrent clock x b snapshot
 
+-- each of these models is done
 abbrev pub AreDone : Clock → Parts → Book → List Planned → Type 0
 AreDone clock x b done = AllByRecursion (IsDone clock x b) done
 

@@ -113,6 +113,7 @@ IsTableSound clock x w s v Full = IsFullSound clock x w.sources (table_rows w s.
 IsTableSound clock x w s v Seed = IsSeedSound (table_rows w s.object) s.own v
 IsTableSound clock x w s v View = Unit {0}
 
+-- each table of the book is sound
 abbrev pub AreTablesSound : Parts → World → Type 0
 AreTablesSound x w =
     (clock : Clock) → Shows clock w.book.moment → (s : Snapshot) → IsSnapshot w.book.snapshots s → (v : Version) → version_of w.book s.object ≡ Some v → IsTableSound clock x w s v s.own.kind
@@ -121,6 +122,7 @@ AreTablesSound x w =
 abbrev pub object_named : List Snapshot → Ref → List Pair
 object_named all r = map (λ (s : Snapshot). record { first = r.name; second = s.object }) (option_to_list (snapshot_at all r))
 
+-- the objects of these snapshots, each by its model
 abbrev pub parent_objects : List Snapshot → List Ref → List Pair
 parent_objects all refs = flat_map (object_named all) refs
 
