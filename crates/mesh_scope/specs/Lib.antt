@@ -4,3 +4,5 @@ pub mod Expressions
 pub mod Steps
 -- Lone: a single name.
 pub mod Lone
+-- Sizes: how many nodes an expression has with the copies of operands.
+pub mod Sizes

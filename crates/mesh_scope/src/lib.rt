@@ -1,11 +1,13 @@
 //! The walk through an expression. Its contract: `typed_expression` gives exactly the expression with its columns and types,
-//! or the first fault in it, operands from left to right before their operators; `lone_name` tells an expression that is a
-//! single name. It stands on `mesh_types`, whose forms it puts together, and on `mesh_sight` for what may be named.
+//! or the first fault in it, operands from left to right before their operators; one that would grow too large is never
+//! begun. `lone_name` tells an expression that is a single name. It stands on `mesh_types`, whose forms it puts together, on
+//! `mesh_sight` for what may be named, and on the sizes of `mesh_query`.
 #![tactic(auto)]
 
 mod lone;
+mod sizes;
 mod steps;
 mod walk;
 
 pub use lone::lone_name;
-pub use walk::typed as typed_expression;
+pub use walk::typed_expression;

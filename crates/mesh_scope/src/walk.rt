@@ -2,6 +2,7 @@
 ghost use Rattle.mesh_tokens.specs.Gives.{Gives};
 ghost use Rattle.mesh_scope.specs.Expressions.{typed, and_typed, not_typed, test_typed, cat_typed, sum_typed, product_typed, unary_typed, value_typed, args_typed, some_typed, all_typed, arms_typed};
 
+use crate::sizes::is_too_large;
 use crate::steps::{
     all_cast, among_all, between_both, case_over, cast_value, compared_with, in_turn, literal,
     next_factor, next_part, next_term, number, pushed, text, whole, without_value,
@@ -17,9 +18,19 @@ use mesh_types::{Arms, Typed, Typeds, called, compare_op, denied, distinct, nega
 use mesh_values::{Cell, ColType};
 use std::alloc::Global;
 
-/// An expression, with its columns and types, or the first fault in it.
+/// An expression, with its columns and types, or the first fault in it. One that would grow too large, by the copies of
+/// the operands of its CASEs, is never begun, and gives `Memory`.
+pub fn typed_expression(alloc: Global, sight: &Sight, e: &OrExpr) -> Result<Typed, ReadFault>
+    ensures { Gives result (typed sight.now e.now) }
+{
+    if is_too_large(e) {
+        return Err(ReadFault::Memory);
+    }
+    typed(alloc, sight, e)
+}
+
 #[cycle(walk)]
-pub fn typed(alloc: Global, sight: &Sight, e: &OrExpr) -> Result<Typed, ReadFault>
+fn typed(alloc: Global, sight: &Sight, e: &OrExpr) -> Result<Typed, ReadFault>
     ensures { Gives result (typed sight.now e.now) }
 {
     let mut left = Ok(None);

@@ -23,4 +23,5 @@ pub use forms::{
     added, cast, compare_op, compared, denied, multiplied, negated, null_test, turned, uniform,
 };
 pub use ranges::{between, one_of};
+pub use sizes::LARGEST_CASE;
 pub use typed::{Arms, Typed, Typeds, leaf};

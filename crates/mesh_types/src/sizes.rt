@@ -7,8 +7,8 @@ ghost use Rattle.mesh_types.specs.Sizes.{when_size, else_size, arm_size, case_si
 use crate::typed::{Arms, Typed};
 use mesh_base::{Expr, When};
 
-/// The most nodes that a CASE with an operand has once the operand is written again for each WHEN.
-const LARGEST_CASE: u64 = 16_777_216;
+/// The most nodes that an expression has once the operand of each CASE is written again for each WHEN.
+pub const LARGEST_CASE: u64 = 16_777_216;
 
 /// What is left of the room once each node of the expression has taken a place of it. The walk ends where none is left.
 #[cycle(sizes)]
