@@ -5,6 +5,7 @@
 
 mod barred;
 mod groups;
+mod keys;
 mod places;
 mod rules;
 

@@ -1,5 +1,7 @@
 -- The equations of `placed`.
-use Rattle.std.proofs.Common.{◌≡◌, Bool, ◌||◌, List, [], ◌∷◌, map, ◌++◌, append_assoc, refl, ap, sym, ◌∙◌}
+use Rattle.std.proofs.Common.{◌≡◌, ℕ, Bool, true, false, ◌||◌, List, [], ◌∷◌, length, map, ◌++◌, take, OnOk, refl, ap, sym, subst, ◌∙◌}
+use Rattle.std.proofs.lemmas.List.{take_at}
+use Rattle.std.specs.declared.result.Result.{Result}
 use Rattle.mesh_base.specs.declared.expressions.Expr.{Expr, roll-Expr, out-Expr, roll-out-Expr, para-roll-Expr}
 use Rattle.mesh_base.specs.declared.expressions.Expr.TheOpen.{Expr-F, Literal, Col, Macro, Binary, Neg, Not, IsNull, Between, OneOf, Cast, Call, Case, CountAll, Agg}
 use Rattle.mesh_base.specs.declared.expressions.When.{When, para-roll-When, out-When, roll-out-When}
@@ -37,7 +39,10 @@ pub placed_when_is : (keys : List Expr) (w : When) (free : Bool) → placed_when
 placed_when_is keys w free =
     ap (λ x. placed_when keys x free) (sym (roll-out-When w)) ∙ ap (λ f. f free) (para-roll-When Placed Placed (placed_here keys) when_placed (out-When w))
 
--- the breaches of an arm after those of what stands before it
-pub arm_follows : (keys : List Expr) (w : When) (free : Bool) (before middle made : Breaches) → middle ≡ before ++ placed keys w.test free → made ≡ middle ++ placed keys w.value free → made ≡ before ++ placed_when keys w free
-arm_follows keys w free before middle made test value =
-    value ∙ ap (λ b. b ++ placed keys w.value free) test ∙ append_assoc before (placed keys w.test free) (placed keys w.value free) ∙ ap (λ b. before ++ b) (sym (placed_when_is keys w free))
+-- a key's parts are placed again, once what was put of them is cut off
+pub placed_again : {A E : Type 0} (r : Result A E) (keys : List Expr) (e : Expr) (start : ℕ) (before parts full kept made : Breaches) → is_key keys e ≡ true → start ≡ length before → full ≡ before ++ parts → kept ≡ take start full
+    → OnOk r (made ≡ kept ++ placed_parts keys e true) → OnOk r (made ≡ before ++ placed keys e false)
+placed_again r keys e start before parts full kept made key at put cut again =
+    let back : kept ≡ before = cut ∙ ap (take start) put ∙ take_at before parts start (sym at) in
+    let same : placed_parts keys e true ≡ placed keys e false = ap (placed_parts keys e) (sym key) ∙ sym (placed_out keys e false) in
+    subst (λ t. OnOk r (made ≡ t)) (λ i. back i ++ same i) again

@@ -1,19 +1,16 @@
-use Rattle.mesh_base.specs.declared.expressions.Expr.{Expr}
-use Rattle.mesh_base.specs.declared.expressions.When.{When}
-use Rattle.mesh_selects.specs.groups.Grouping.{arm_placed, part_placed, placed, placed_when}
-use Rattle.mesh_selects.proofs.outputs.Loops.{some_gathered}
-use Rattle.mesh_selects.proofs.groups.Placed.{arm_follows}
+use Rattle.std.proofs.Common.{◌≡◌, ◌++◌, OnOk, sym, subst, ◌∙◌}
+use Rattle.mesh_selects.specs.groups.Grouping.{placed}
+use Rattle.mesh_selects.proofs.groups.Parts.{then_put}
+use Rattle.mesh_selects.proofs.groups.Placed.{placed_again, placed_when_is}
 use Rattle.mesh_selects.proofs.groups.places.+places.Goals as goal
 
-pub place_when-returns : goal.place_when-returns
-place_when-returns t c = arm_follows c.args.keys.now c.args.w.now c.args.free c.args.breaches.now c.place.new.breaches c.place-2.new.breaches c.in_ok-place.ensures c.in_ok-place-2.ensures
+pub place_part-returns-clause-placed : goal.place_part-returns-clause-placed
+place_part-returns-clause-placed t c =
+    subst (λ free. OnOk c.place_parts-2.result (c.place_parts-2.new.breaches ≡ c.args.breaches.now ++ placed c.args.keys.now c.args.e.now free)) (sym c.if-free.false)
+    (placed_again c.place_parts-2.result c.args.keys.now c.args.e.now c.len-start.result c.args.breaches.now _ c.place_parts.new.breaches c.cut.new.breaches c.place_parts-2.new.breaches
+    (sym c.is_key.ensures ∙ c.if-not-is_key.false) c.len-start.ensures c.in_ok-after.ensures.placed c.cut.ensures c.place_parts-2.ensures.placed)
 
-pub place_all-loop-e-preserved : goal.place_all-loop-e-preserved
-place_all-loop-e-preserved t c =
-    some_gathered (part_placed c.args.free) (λ (e : Expr). (e, placed c.args.keys.now e)) c.args.breaches.now c.loop-e.breaches c.place.new.breaches c.args.es.now c.loop-e.e-index c.e-item.result
-    c.loop-e-test.true c.e-item.is c.loop-e.invariant c.in_ok-place.ensures
-
-pub place_whens-loop-w-preserved : goal.place_whens-loop-w-preserved
-place_whens-loop-w-preserved t c =
-    some_gathered (arm_placed c.args.free) (λ (w : When). (w, placed_when c.args.keys.now w)) c.args.breaches.now c.loop-w.breaches c.place_when.new.breaches c.args.whens.now c.loop-w.w-index c.w-item.result
-    c.loop-w-test.true c.w-item.is c.loop-w.invariant c.in_ok-place_when.ensures
+pub place_when-returns-clause-placed : goal.place_when-returns-clause-placed
+place_when-returns-clause-placed t c =
+    then_put c.place_part-2.result c.args.breaches.now _ c.place_part-2.new.breaches _ _ _ c.in_ok-count.ensures.placed c.place_part-2.ensures.placed
+    (sym (placed_when_is c.args.keys.now c.args.w.now c.args.free))
