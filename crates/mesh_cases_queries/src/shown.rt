@@ -1,6 +1,6 @@
 // How rows, and places of rows, are shown.
 use mesh_cases::{Pen, Trouble};
-use mesh_joined::index::Index;
+use mesh_joined::index::{Index, Listed};
 use mesh_values::{Cell, Row, Rows};
 
 fn put_text(pen: &mut Pen, text: &[u8]) {
@@ -68,13 +68,13 @@ pub fn put_sum(pen: &mut Pen, rows: &Rows) {
 /// Adds a row, all places where the index has it, and the first of them.
 fn put_places_of(pen: &mut Pen, index: &Index, row: &Row) -> Result<(), Trouble> {
     let mut found = Vec::new(pen.alloc());
-    index.find(row, &mut found)?;
+    index.find(row.as_slice(), &mut found)?;
     put_row(pen, row);
     pen.put(b" at");
     for place in found.iter() {
         put_count(pen, *place);
     }
-    put_first(pen, index.first(row));
+    put_first(pen, index.first(row.as_slice()));
     Ok(())
 }
 
@@ -88,7 +88,7 @@ fn put_first(pen: &mut Pen, first: Option<usize>) {
 
 /// Adds the places of each of these rows among others.
 pub fn put_places(pen: &mut Pen, among: &Rows, rows: &Rows) -> Result<(), Trouble> {
-    let index = Index::new(pen.alloc(), among.as_slice())?;
+    let index = Index::new(pen.alloc(), Listed::Each(among.as_slice()))?;
     for row in rows.as_slice() {
         put_places_of(pen, &index, row)?;
     }

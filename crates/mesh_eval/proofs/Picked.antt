@@ -1,7 +1,7 @@
 -- Rows at places.
 use Rattle.std.proofs.Common.{◌≡◌, ℕ, zero, suc, ◌+◌, ◌<◌, Bool, true, false, cond, not, List, [], ◌∷◌, ◌++◌, map, length, take, get_or, refl, sym, ap, ap₂, ◌∙◌, arith}
 use Rattle.std.specs.List.{filter, flat_map, list_any, range_with_len}
-use Rattle.std.proofs.lemmas.List.{append-nil, take_more, get_or_read}
+use Rattle.std.proofs.lemmas.List.{append-nil, take_more}
 use Rattle.mesh_values.specs.declared.values.Cell.{Cell}
 use Rattle.mesh_meaning.specs.Aggregates.{distinct}
 use Rattle.mesh_values.specs.declared.times.Bounds.{Bounds}
@@ -69,12 +69,11 @@ plus_0 k = omega arith
 
 -- a key that stands nowhere before has a group of its own
 pub group-added : (out : Group → List (List Cell)) (of_key : List Cell → Group) (keys all : List (List Cell)) (at : ℕ) (key : List Cell) (made : List (List Cell))
-    → all ≡ keys → at < length keys → key ≡ get_or keys at key
+    → all ≡ keys → at < length keys → key ≡ get_or keys at []
     → not (list_any (same_row (get_or all at [])) (take at all)) ≡ true
     → made ≡ flat_map out (map of_key (distinct same_row (take at keys)))
     → made ++ out (of_key key) ≡ flat_map out (map of_key (distinct same_row (take (at + 1) keys)))
-group-added out of_key keys all at key made f lt k first h =
-    let here : key ≡ get_or keys at [] = get_or_read keys at key lt k [] in
+group-added out of_key keys all at key made f lt here first h =
     let none_before : list_any (same_row key) (take at keys) ≡ false =
     turned (list_any (same_row key) (take at keys)) (ap₂ (λ l r. not (list_any (same_row r) (take at l))) (sym f) (here ∙ ap (λ l. get_or l at []) (sym f)) ∙ first) in
     ap (λ m. m ++ out (of_key key)) h

@@ -7,14 +7,14 @@ ghost use Rattle.mesh_expressions.specs.Frames.{all_places, given_of, picked};
 ghost use Rattle.mesh_meaning.specs.Sel.{same_row, key_list, group_of, groups, grouped_rows};
 ghost use Rattle.mesh_eval.specs.Placed.{IsOutput, bound_holds, output_row};
 
-use crate::placing::{bind_condition, bind_items, value_rows};
+use crate::placing::{bind_condition, bind_items, flat_values};
 use mesh_base::{Expr, Select};
 use mesh_bound::{Bound, Bounded, bind_each};
 use mesh_expressions::{Frame, Members, holds, values_of};
-use mesh_joined::index::Index;
+use mesh_joined::index::{FlatRows, Index, Listed};
 use mesh_joined::joined::JoinedRows;
 use mesh_list::{Memory, push_made, together};
-use mesh_values::{Bounds, Cell, Columns, Row, Rows};
+use mesh_values::{Bounds, Cell, Columns, Rows};
 use std::alloc::Global;
 
 /// The HAVING and the items of a SELECT, bound.
@@ -64,11 +64,11 @@ fn key_lists(
     columns: &[Columns],
     rows: &JoinedRows,
     u: Bounds,
-) -> Result<Rows, Memory>
-    ensures { IfOk result (λ made. made ≡ map (key_list u columns.now keys.now) rows.now.rows) }
+) -> Result<FlatRows, Memory>
+    ensures { IfOk result (λ made. made.rows ≡ map (key_list u columns.now keys.now) rows.now.rows) }
 {
     let keys = bind_each(alloc, keys, columns, &[], u)?;
-    value_rows(alloc, keys.as_slice(), rows)
+    flat_values(alloc, keys.as_slice(), rows)
 }
 
 /// Adds the row of a group, where HAVING is true.
@@ -118,7 +118,7 @@ fn add_group(
     alloc: Global,
     o: &Output,
     rows: &JoinedRows,
-    key: &Row,
+    key: &[Cell],
     index: &Index,
     found: &mut Vec<usize>,
     made: &mut Rows,
@@ -126,7 +126,7 @@ fn add_group(
     ensures { OnOk result (made.new ≡ made.old ++ output_row o.now (record { key_values = key.now; rows = picked rows.now.rows (places (same_row key.now) index.now) })) }
 {
     index.find(key, found)?;
-    add_row(alloc, o, key.as_slice(), rows, found.as_slice(), made)
+    add_row(alloc, o, key, rows, found.as_slice(), made)
 }
 
 /// The rows of the groups of equal keys, by the index of these.
@@ -134,11 +134,11 @@ fn indexed_groups(
     alloc: Global,
     o: &Output,
     rows: &JoinedRows,
-    keys: &Rows,
+    keys: &FlatRows,
     index: &Index,
 ) -> Result<Rows, Memory>
-    requires { index.now ≡ keys.now }
-    ensures { IfOk result (λ made. made ≡ flat_map (output_row o.now) (map (λ key. record { key_values = key; rows = picked rows.now.rows (places (same_row key) index.now) }) (distinct same_row keys.now))) }
+    requires { index.now ≡ keys.now.rows }
+    ensures { IfOk result (λ made. made ≡ flat_map (output_row o.now) (map (λ key. record { key_values = key; rows = picked rows.now.rows (places (same_row key) index.now) }) (distinct same_row keys.now.rows))) }
 {
     let mut found = Vec::new(alloc);
     let mut made = Rows::new(alloc);
@@ -163,7 +163,7 @@ fn rows_by_key(
     ensures { IfOk result (λ made. made ≡ flat_map (output_row o.now) (map (group_of u columns.now q.now.keys rows.now.rows) (distinct same_row (map (key_list u columns.now q.now.keys) rows.now.rows)))) }
 {
     let keys = key_lists(alloc, q.keys.as_slice(), columns, rows, u)?;
-    let index = Index::new(alloc, keys.as_slice())?;
+    let index = Index::new(alloc, Listed::Flat(&keys))?;
     indexed_groups(alloc, o, rows, &keys, &index)
 }
 

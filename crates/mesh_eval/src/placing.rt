@@ -1,5 +1,5 @@
 // Expressions bound before the first row, and their values at rows.
-ghost use Rattle.std.specs.Prelude.{◌≡◌, map, IfOk};
+ghost use Rattle.std.specs.Prelude.{◌≡◌, [], ◌∷◌, ◌++◌, length, map, IfOk, OnOk};
 ghost use Rattle.mesh_values.specs.declared.values.Cell.{Cell as Shown};
 ghost use Rattle.mesh_joined.specs.joined.Joined.{shown};
 ghost use Rattle.mesh_meaning.specs.Cells.{is_true};
@@ -9,6 +9,7 @@ ghost use Rattle.mesh_eval.specs.Placed.{AreItems, IsCondition, bound_holds, row
 use mesh_base::{Expr, Item};
 use mesh_bound::{Bound, Bounded, bind};
 use mesh_expressions::{Frame, holds, lent_at, value_alone};
+use mesh_joined::index::FlatRows;
 use mesh_joined::joined::JoinedRows;
 use mesh_list::{Duplicate, Memory, push_made};
 use mesh_values::{Bounds, Cell, Columns, Row, Rows};
@@ -92,19 +93,61 @@ fn value_at<'a, 'x>(alloc: Global, b: &Bound, row: &'a [&'x [Cell]]) -> Result<C
     }
 }
 
-/// The values of bound expressions at a row.
-pub(crate) fn values_at<'a, 'x>(
+/// Puts the values of bound expressions at a row into a list, instead of what was there.
+pub(crate) fn values_into<'a, 'x>(
     alloc: Global,
     all: &[Bound],
     row: &'a [&'x [Cell]],
-) -> Result<Row, Memory>
-    ensures { IfOk result (λ made. made ≡ values_at all.now (shown row.now)) }
+    made: &mut Vec<Cell>,
+) -> Result<(), Memory>
+    ensures { OnOk result (made.new.items ≡ values_at all.now (shown row.now)) }
 {
-    let mut made = Row::from_vec(Vec::with_capacity(alloc, all.len())?);
+    made.clear();
     for b in all {
-        push_made(&mut made, value_at(alloc, b, row))?;
+        made.push(value_at(alloc, b, row)?)?;
+    }
+    Ok(())
+}
+
+/// Puts the values of bound expressions at a row behind those at others. `own` is for them before they lie there.
+pub(crate) fn add_values<'a, 'x>(
+    alloc: Global,
+    all: &[Bound],
+    row: &'a [&'x [Cell]],
+    own: &mut Vec<Cell>,
+    made: &mut FlatRows,
+) -> Result<(), Memory>
+    requires { made.old.width ≡ length all.now }
+    ensures rows { OnOk result (made.new.rows ≡ made.old.rows ++ values_at all.now (shown row.now) ∷ []) }
+    ensures width { OnOk result (made.new.width ≡ made.old.width) }
+{
+    values_into(alloc, all, row, own)?;
+    made.push(own)
+}
+
+/// The values of bound expressions at each row, in one list of cells.
+pub(crate) fn flat_values(
+    alloc: Global,
+    all: &[Bound],
+    rows: &JoinedRows,
+) -> Result<FlatRows, Memory>
+    ensures { IfOk result (λ made. made.rows ≡ map (values_at all.now) rows.now.rows) }
+{
+    let mut own = Vec::new(alloc);
+    let mut made = FlatRows::with_capacity(alloc, all.len(), rows.len())?;
+    for at in 0..rows.len() {
+        add_values(alloc, all, rows.at(at), &mut own, &mut made)?;
     }
     Ok(made)
+}
+
+/// The values of bound expressions at a row.
+fn values_at<'a, 'x>(alloc: Global, all: &[Bound], row: &'a [&'x [Cell]]) -> Result<Row, Memory>
+    ensures { IfOk result (λ made. made ≡ values_at all.now (shown row.now)) }
+{
+    let mut made = Vec::with_capacity(alloc, all.len())?;
+    values_into(alloc, all, row, &mut made)?;
+    Ok(Row::from_vec(made))
 }
 
 /// The values of bound expressions at each row.

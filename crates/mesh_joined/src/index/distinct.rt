@@ -5,6 +5,7 @@ ghost use Rattle.mesh_meaning.specs.Aggregates.{distinct};
 ghost use Rattle.mesh_meaning.specs.Sel.{same_row};
 
 use crate::index::index::Index;
+use crate::index::listed::Listed;
 use mesh_list::Memory;
 use mesh_values::{Row, Rows};
 use std::alloc::Global;
@@ -13,7 +14,7 @@ use std::alloc::Global;
 fn firsts(alloc: Global, rows: &[Row]) -> Result<Vec<bool>, Memory>
     ensures { IfOk result (λ made. (length made.items ≡ length rows.now) × ((i : ℕ) → i < length rows.now → slice_index_or made.items i false ≡ not (list_any (same_row (slice_index_or rows.now i [])) (take i rows.now)))) }
 {
-    let index = Index::new(alloc, rows)?;
+    let index = Index::new(alloc, Listed::Each(rows))?;
     let mut made = Vec::new(alloc);
     for at in 0..rows.len() {
         made.push(index.is_first(at))?;

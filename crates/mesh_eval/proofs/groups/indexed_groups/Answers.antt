@@ -10,7 +10,7 @@ use Rattle.mesh_eval.proofs.groups.indexed_groups.Goals as goal
 
 pub loop-at-preserved : goal.loop-at-preserved
 loop-at-preserved c =
-    let keys = c.args.keys.now in
+    let keys = c.args.keys.now.rows in
     let all = c.args.index.now in
     let out = output_row c.args.o.now in
     let of_key : List Cell → Group = λ key. record { key_values = key; rows = picked c.args.rows.now.rows (places (same_row key) all) } in

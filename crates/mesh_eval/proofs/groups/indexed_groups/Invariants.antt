@@ -8,4 +8,4 @@ use Rattle.mesh_eval.specs.Placed.{output_row}
 use Rattle.mesh_eval.proofs.groups.indexed_groups.Given as goal
 
 abbrev pub invariant-loop-at : goal.invariant-loop-at
-invariant-loop-at l = l.made ≡ flat_map (output_row l.o) (map (λ key. record { key_values = key; rows = picked l.rows.rows (places (same_row key) l.index) }) (distinct same_row (take l.at l.keys)))
+invariant-loop-at l = l.made ≡ flat_map (output_row l.o) (map (λ key. record { key_values = key; rows = picked l.rows.rows (places (same_row key) l.index) }) (distinct same_row (take l.at l.keys.rows)))

@@ -5,6 +5,6 @@ use Rattle.mesh_eval.proofs.groups.key_lists.Goals as goal
 
 pub returns : goal.returns
 returns c =
-    IfOk-weaker c.value_rows.result _ _
+    IfOk-weaker c.flat_values.result _ _
     (λ made e. e ∙ key_rows c.args.u c.args.columns.now c.args.keys.now c.args.keys.now c.in_ok-keys.keys c.as_slice.result.now (λ row. row) c.args.rows.now.rows refl c.as_slice.ensures c.in_ok-keys.ensures)
-    c.value_rows.ensures
+    c.flat_values.ensures

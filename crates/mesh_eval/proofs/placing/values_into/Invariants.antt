@@ -1,7 +1,7 @@
 use Rattle.std.proofs.Common.{◌≡◌, take}
 use Rattle.mesh_joined.specs.joined.Joined.{shown}
 use Rattle.mesh_eval.specs.Placed.{values_at}
-use Rattle.mesh_eval.proofs.placing.values_at.Given as goal
+use Rattle.mesh_eval.proofs.placing.values_into.Given as goal
 
 abbrev pub invariant-loop-b : goal.invariant-loop-b
-invariant-loop-b l = l.made ≡ values_at (take l.b-index l.all) (shown l.row)
+invariant-loop-b l = l.made.items ≡ values_at (take l.b-index l.all) (shown l.row)
