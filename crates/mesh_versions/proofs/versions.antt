@@ -4,6 +4,8 @@ pub mod Prints
 pub mod Books
 -- Alone: whether a model's fingerprint stands for it alone.
 pub mod Alone
+-- Tells: what a fingerprint stands for, and what that tells of a model.
+pub mod Tells
 -- Choices: the first free name, as it is looked for.
 pub mod Choices
 -- Ranks: snapshots by rank and name, and their places.

@@ -1,6 +1,6 @@
 //! How the models of a project stand to those that it is compared with. Its contract: `categorize` gives each model the one
 //! category that it has beside the model of its name, with all that both stand on, and the names of the models that are
-//! gone; `is_additive` tells exactly whether a definition adds columns to another. It stands on `mesh_reuse` for what
+//! gone; `categories_beside` the categories alone; `is_additive` tells exactly whether a definition adds columns to another. It stands on `mesh_reuse` for what
 //! a category is, and on `mesh_rules` for projects.
 
 mod additive;
@@ -9,5 +9,5 @@ mod named;
 mod parents;
 
 pub use additive::is_additive;
-pub use categories::categorize;
+pub use categories::{categories_beside, categorize};
 pub(crate) use parents::node_at;

@@ -18,13 +18,13 @@ use Rattle.mesh_rules.specs.Proper.{are_fit, has_node, have_distinct_names, is_p
 use Rattle.mesh_book.specs.declared.book.Book.{Book}
 use Rattle.mesh_book.specs.WellFormed.{is_well_formed_book, snapshot_at}
 use Rattle.mesh_laws.proofs.Has.{Has, Has_from, Has_to}
-use Rattle.mesh_listed.proofs.Books.{fits, its_ref}
+use Rattle.mesh_listed.proofs.Books.{fits}
 use Rattle.mesh_listed.proofs.Lists.{below_each}
 use Rattle.mesh_due.specs.Versions.{node_ref}
 use Rattle.mesh_versions.specs.versions.Clashes.{AreOne, ClashesWithBook, ClashesWithProject, IsOf, SuitsBook, SuitsProject}
 use Rattle.mesh_versions.specs.versions.Index.{again, node_print, snapshot_print}
 use Rattle.mesh_versions.proofs.versions.Books.{is_there, its_own, snapshots_ascend}
-use Rattle.mesh_versions.proofs.versions.Prints.{Two, none_has_it, one_alone, one_has_it, two_have_it}
+use Rattle.mesh_versions.proofs.versions.Prints.{Two, none_has_it, one_alone, two_have_it}
 
 same_names : (a b : Name) → is_eq (name_cmp a b) ≡ true → a ≡ b
 same_names a b e = names_exact a b ((Equal-is (name_cmp a b)).0 e)
@@ -51,21 +51,19 @@ module _ (b : Book) (well : is_well_formed_book b ≡ true) (nodes : List Node) 
   its_key s name print = λ i. record { name = name i; fingerprint = print i }
 
   -- and is the one that is known
-  is_known : (s : Snapshot) → Has s all → s.fingerprint ≡ f → IsOf nodes n s → snapshot_at all (node_ref n) ≡ Some s
+  pub is_known : (s : Snapshot) → Has s all → s.fingerprint ≡ f → IsOf nodes n s → snapshot_at all (node_ref n) ≡ Some s
   is_known s h print is = subst (λ (r : Ref). snapshot_at all r ≡ Some s) (its_key s (its_name s h is) print) (its_own all up s h)
 
   pub suits_none : again (map snapshot_print all) f ≡ None → SuitsBook all nodes n
   suits_none e s known print = absurd (none_has_it snapshot_print f all e s (is_there all (snapshot_ref s) s known) print)
 
-  pub suits_one : again (map snapshot_print all) f ≡ Some false → (k : Snapshot) → snapshot_at all (node_ref n) ≡ Some k → IsOf nodes n k → SuitsBook all nodes n
-  suits_one e k found is s known print =
-      let same : k ≡ s = one_alone snapshot_print f all e k s (is_there all (node_ref n) k found) (is_there all (snapshot_ref s) s known) (ap (λ (r : Ref). r.fingerprint) (its_ref all (node_ref n) k found)) print in
+  pub suits_alone : again (map snapshot_print all) f ≡ Some false → (s : Snapshot) → Has s all → s.fingerprint ≡ f → IsOf nodes n s → SuitsBook all nodes n
+  suits_alone e s h its is t known print =
+      let same : s ≡ t = one_alone snapshot_print f all e s t h (is_there all (snapshot_ref t) t known) its print in
       subst (IsOf nodes n) same is
 
-  pub clashes_one : again (map snapshot_print all) f ≡ Some false → ((k : Snapshot) → snapshot_at all (node_ref n) ≡ Some k → ¬ IsOf nodes n k) → ClashesWithBook all nodes n
-  clashes_one e isnt =
-      let (s, h, print) = one_has_it snapshot_print f all false e in
-      (s, its_own all up s h, print, λ is. isnt s (is_known s h print is) is)
+  pub clashes_with : (s : Snapshot) → Has s all → s.fingerprint ≡ f → ¬ IsOf nodes n s → ClashesWithBook all nodes n
+  clashes_with s h print isnt = (s, its_own all up s h, print, isnt)
 
   abbrev Below : Snapshot → Snapshot → Type 0
   Below s t = ref_cmp (snapshot_ref s) (snapshot_ref t) ≡ Less

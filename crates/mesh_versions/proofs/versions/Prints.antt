@@ -11,10 +11,10 @@ use Rattle.mesh_values.specs.NameOrder.{texts_total}
 use Rattle.mesh_laws.proofs.Has.{Has}
 use Rattle.mesh_versions.specs.versions.Index.{again}
 
-same_print : (f g : List ℕ) → is_eq (text_cmp f g) ≡ true → f ≡ g
+pub same_print : (f g : List ℕ) → is_eq (text_cmp f g) ≡ true → f ≡ g
 same_print f g e = exact_bytes f g ((Equal-is (text_cmp f g)).0 e)
 
-its_print : (f g : List ℕ) → f ≡ g → is_eq (text_cmp f g) ≡ true
+pub its_print : (f g : List ℕ) → f ≡ g → is_eq (text_cmp f g) ≡ true
 its_print f g e = ap (λ (h : List ℕ). is_eq (text_cmp h g)) e ∙ ap is_eq (tied_itself texts_total g)
 
 module _ {A : Type 0} (print : A → List ℕ) (f : List ℕ) where

@@ -152,3 +152,10 @@ pub fn categorize(p: &Project, base: Option<&Project>) -> Result<Categories, Mem
 {
     compared(p.nodes.alloc(), nodes_of(base), p.as_slice())
 }
+
+/// The categories alone, beside a project that there is.
+pub fn categories_beside(p: &Project, base: &Project) -> Result<CategoryList, Memory>
+    ensures { IfOk result (λ made. HaveCategories base.now.nodes p.now.nodes made) }
+{
+    categories(p.nodes.alloc(), base.as_slice(), p.as_slice())
+}

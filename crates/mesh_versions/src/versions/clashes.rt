@@ -1,136 +1,85 @@
 // Whether a model's fingerprint stands for it alone.
-ghost use Rattle.std.specs.Prelude.{◌≡◌, ◌++◌, ◌⊎◌, ℕ, List, false, true, map, IsTrue, IfOk, OnOk, Some};
-ghost use Rattle.std.specs.BTreeMap.{get};
-ghost use Rattle.std.specs.List.{Contains};
+ghost use Rattle.std.specs.Prelude.{◌≡◌, ◌<◌, ◌++◌, ◌⊎◌, ◌↔◌, List, false, true, length, map, IsTrue, IfOk, Some};
+ghost use Rattle.std.specs.List.{Contains, slice_get};
 ghost use Rattle.std.specs.Option.{option_copied, option_to_list};
-ghost use Rattle.mesh_values.specs.Names.{text_cmp};
-ghost use Rattle.mesh_base.specs.declared.snapshots.Snapshot.{Snapshot};
-ghost use Rattle.mesh_book.specs.WellFormed.{is_well_formed_book, snapshot_at};
+ghost use Rattle.mesh_base.specs.declared.snapshots.Ref.{Ref};
+ghost use Rattle.mesh_book.specs.WellFormed.{is_well_formed_book};
 ghost use Rattle.mesh_due.specs.Versions.{node_ref};
 ghost use Rattle.mesh_rules.specs.Proper.{is_proper};
-ghost use Rattle.mesh_versions.specs.versions.Clashes.{ClashesWithBook, ClashesWithProject, IsAlone, IsOf, SuitsBook, SuitsProject, refs_at};
-ghost use Rattle.mesh_versions.specs.versions.Index.{IsIndex, again, node_print, snapshot_print};
+ghost use Rattle.mesh_versions.specs.versions.Clashes.{ClashesWithBook, ClashesWithProject, IsAlone, IsOf, refs_at};
+ghost use Rattle.mesh_versions.specs.versions.Index.{told_of};
 
 use crate::category::node_at;
-use crate::versions::index::{Index, Prints};
-use mesh_base::{Node, Ref, Refs, Snapshot};
+use crate::versions::index::Told;
+use mesh_base::{Node, Ref, Snapshot};
 use mesh_book::Book;
-use mesh_list::{Duplicate, Memory, Same, Seq};
-use std::alloc::Global;
+use mesh_list::Same;
 
-/// A model at its fingerprint.
-pub(crate) fn node_ref(node: &Node) -> Result<Ref, Memory>
-    ensures { IfOk result (λ r. r ≡ node_ref node.now) }
+fn is_ref_of(r: &Ref, node: &Node) -> bool
+    ensures { IsTrue result ↔ (r.now ≡ node_ref node.now) }
 {
-    Ok(Ref {
-        name: node.own.name.copy()?,
-        fingerprint: node.fingerprint,
-    })
+    r.name.same(&node.own.name) && r.fingerprint == node.fingerprint
 }
 
-/// The snapshot that the book has of a model at its fingerprint.
-pub(crate) fn known<'a>(b: &'a Book, node: &Node) -> Result<Option<&'a Snapshot>, Memory>
-    ensures { IfOk result (λ s. option_copied s ≡ snapshot_at b.now.snapshots (node_ref node.now)) }
-{
-    let r = node_ref(node)?;
-    Ok(b.snapshots.find(&r))
-}
-
-fn put_ref(refs: &mut Refs, node: Option<&Node>) -> Result<(), Memory>
-    ensures { OnOk result (refs.new ≡ refs.old ++ map node_ref (option_to_list (option_copied node.entry))) }
+// The references behind that of a model, where it is the first of these, and all where there is no model.
+fn behind<'a>(refs: &'a [Ref], node: Option<&Node>) -> Option<&'a [Ref]>
+    ensures { (rest : List Ref) → (option_copied result ≡ Some rest) ↔ (refs.now ≡ map node_ref (option_to_list (option_copied node.entry)) ++ rest) }
 {
     match node {
-        None => Ok(()),
-        Some(node) => refs.push(node_ref(node)?),
-    }
-}
-
-// The models at some places.
-fn refs_at(alloc: Global, nodes: &[Node], places: &[u32]) -> Result<Refs, Memory>
-    ensures { IfOk result (λ refs. refs ≡ refs_at nodes.now places.now) }
-{
-    let mut refs = Seq::new(alloc);
-    for place in places {
-        put_ref(&mut refs, node_at(nodes, *place))?;
-    }
-    Ok(refs)
-}
-
-fn is_of(alloc: Global, nodes: &[Node], node: &Node, s: &Snapshot) -> Result<bool, Memory>
-    ensures yes { IfOk result (λ is. IsTrue is → IsOf nodes.now node.now s.now) }
-    ensures no { IfOk result (λ is. is ≡ false → ¬ IsOf nodes.now node.now s.now) }
-{
-    let refs = refs_at(alloc, nodes, node.parents.as_slice())?;
-    Ok(s.own.same(&node.own) && s.parents.same(&refs))
-}
-
-// Whether the book has a snapshot of the model.
-fn is_known(alloc: Global, b: &Book, nodes: &[Node], node: &Node) -> Result<bool, Memory>
-    ensures yes { IfOk result (λ is. IsTrue is → (s : Snapshot) × (snapshot_at b.now.snapshots (node_ref node.now) ≡ Some s) × IsOf nodes.now node.now s) }
-    ensures no { IfOk result (λ is. is ≡ false → (s : Snapshot) → snapshot_at b.now.snapshots (node_ref node.now) ≡ Some s → ¬ IsOf nodes.now node.now s) }
-{
-    match known(b, node)? {
-        None => Ok(false),
-        Some(s) => is_of(alloc, nodes, node, s),
-    }
-}
-
-fn suits_book(
-    alloc: Global,
-    b: &Book,
-    stored: &Prints,
-    nodes: &[Node],
-    node: &Node,
-) -> Result<bool, Memory>
-    requires book { is_well_formed_book b.now ≡ true }
-    requires stored { (f : List ℕ) → get text_cmp stored.now f ≡ again (map snapshot_print b.now.snapshots) f }
-    ensures yes { IfOk result (λ suits. IsTrue suits → SuitsBook b.now.snapshots nodes.now node.now) }
-    ensures no { IfOk result (λ suits. suits ≡ false → ClashesWithBook b.now.snapshots nodes.now node.now) }
-{
-    match stored.get(&node.fingerprint) {
-        None => Ok(true),
-        Some(again) => {
-            if *again {
-                return Ok(false);
+        None => Some(refs),
+        Some(node) => match refs {
+            [first, more @ ..] => {
+                if is_ref_of(first, node) {
+                    Some(more)
+                } else {
+                    None
+                }
             }
-            let known = is_known(alloc, b, nodes, node)?;
-            Ok(known)
+            [] => None,
+        },
+    }
+}
+
+// Whether these references are those of the models at some places, where they lie.
+fn are_refs_at(nodes: &[Node], places: &[u32], refs: &[Ref]) -> bool
+    ensures { IsTrue result ↔ (refs.now ≡ refs_at nodes.now places.now) }
+{
+    let mut rest = refs;
+    for place in places {
+        match behind(rest, node_at(nodes, *place)) {
+            None => return false,
+            Some(more) => rest = more,
         }
     }
+    rest.is_empty()
 }
 
-fn suits_project(given: &Prints, nodes: &[Node], node: &Node) -> bool
-    requires nodes { is_proper nodes.now ≡ true }
-    requires node { Contains nodes.now node.now }
-    requires given { (f : List ℕ) → get text_cmp given.now f ≡ again (map node_print nodes.now) f }
-    ensures yes { IsTrue result → SuitsProject nodes.now node.now }
-    ensures no { result ≡ false → ClashesWithProject nodes.now node.now }
+fn is_of(nodes: &[Node], node: &Node, s: &Snapshot) -> bool
+    ensures { IsTrue result ↔ IsOf nodes.now node.now s.now }
 {
-    match given.get(&node.fingerprint) {
-        None => true,
-        Some(again) => !*again,
-    }
+    s.own.same(&node.own) && are_refs_at(nodes, node.parents.as_slice(), s.parents.as_slice())
 }
 
-/// Whether a model's fingerprint stands for it alone.
-pub(crate) fn is_alone(
-    alloc: Global,
-    b: &Book,
-    index: &Index,
-    nodes: &[Node],
-    node: &Node,
-    base: &[Ref],
-) -> Result<bool, Memory>
+/// The snapshot at a place.
+pub(crate) fn snapshot_at<'a>(b: &'a Book, at: usize) -> &'a Snapshot
+    requires { at < length b.now.snapshots }
+    ensures { slice_get b.now.snapshots at ≡ Some result.now }
+{
+    &b.snapshots.as_slice()[at]
+}
+
+/// Whether a model's fingerprint stands for it alone, which stands for this as far as fingerprints tell.
+pub(crate) fn is_alone(b: &Book, told: Told, nodes: &[Node], node: &Node) -> bool
     requires book { is_well_formed_book b.now ≡ true }
     requires nodes { is_proper nodes.now ≡ true }
     requires node { Contains nodes.now node.now }
-    requires index { IsIndex b.now.snapshots nodes.now base.now index.now }
-    ensures yes { IfOk result (λ is. IsTrue is → IsAlone b.now.snapshots nodes.now node.now) }
-    ensures no { IfOk result (λ is. is ≡ false → ClashesWithBook b.now.snapshots nodes.now node.now ⊎ ClashesWithProject nodes.now node.now) }
+    requires told { told_of b.now.snapshots nodes.now node.now.fingerprint ≡ Some told }
+    ensures yes { IsTrue result → IsAlone b.now.snapshots nodes.now node.now }
+    ensures no { result ≡ false → ClashesWithBook b.now.snapshots nodes.now node.now ⊎ ClashesWithProject nodes.now node.now }
 {
-    if !suits_project(&index.given, nodes, node) {
-        return Ok(false);
+    match told {
+        Told::New => true,
+        Told::Stored(at) => is_of(nodes, node, snapshot_at(b, at)),
+        Told::Shared => false,
     }
-    let suits = suits_book(alloc, b, &index.stored, nodes, node)?;
-    Ok(suits)
 }

@@ -1,11 +1,13 @@
 // What is looked up of a book, a project and a list.
-ghost use Rattle.std.specs.Prelude.{◌≡◌, ℕ, List, map, Some, if◌then◌else◌, IfOk, OnOk};
+ghost use Rattle.std.specs.Prelude.{◌≡◌, ℕ, List, map, true, Some, if◌then◌else◌, IsTrue, IsSome, IfOk, OnOk};
 ghost use Rattle.std.specs.BTreeMap.{get};
-ghost use Rattle.std.specs.Option.{is_some};
+ghost use Rattle.std.specs.List.{list_any};
+ghost use Rattle.std.specs.Option.{is_some, option_copied, option_map};
 ghost use Rattle.std.specs.Ordering.{is_eq};
+ghost use Rattle.mesh_base.specs.declared.snapshots.Node.{Node};
 ghost use Rattle.mesh_values.specs.Names.{name_cmp, text_cmp};
 ghost use Rattle.mesh_values.specs.declared.values.Name.{Name};
-ghost use Rattle.mesh_versions.specs.versions.Index.{IsIndex, again, holder, listed_print, node_print, snapshot_print};
+ghost use Rattle.mesh_versions.specs.versions.Index.{IsIndex, again, given_as, holder, is_new, listed_print, node_print, stored_too, told_of};
 
 use mesh_base::{Node, Ref, Snapshot};
 use mesh_list::{Duplicate, Memory, together};
@@ -13,16 +15,27 @@ use mesh_values::Name;
 use std::alloc::Global;
 use std::collections::BTreeMap;
 
-/// Fingerprints that stand in a list, and whether each does more than once.
-pub(crate) type Prints = BTreeMap<[u8; 32], bool>;
+/// What a model's fingerprint stands for, as far as fingerprints tell.
+#[derive(Clone, Copy)]
+pub(crate) enum Told {
+    /// No other model has it, and no snapshot.
+    New,
+    /// No other model has it, and of the snapshots the one at this place alone.
+    Stored(usize),
+    /// Several models have it, or several snapshots.
+    Shared,
+}
+
+/// The fingerprints of a project, and what each stands for.
+pub(crate) type Prints = BTreeMap<[u8; 32], Told>;
 
 /// Names, and a fingerprint for each.
 pub(crate) type Holders = BTreeMap<Name, [u8; 32]>;
 
-/// The fingerprints of a book and of a project, those that have an object, and those of a list.
+/// What the fingerprints of a project stand for in a book, and, where one is new, those that have an object and those of
+/// a list.
 pub(crate) struct Index {
-    pub stored: Prints,
-    pub given: Prints,
+    pub told: Prints,
     pub objects: Holders,
     pub compared: Holders,
 }
@@ -30,23 +43,71 @@ pub(crate) struct Index {
 impl Drop for Index {
     fn drop(self) {
         let Index {
-            stored: _,
-            given: _,
+            told: _,
             objects: _,
             compared: _,
         } = self;
     }
 }
 
-// One fingerprint more.
-fn note(prints: &mut Prints, print: [u8; 32]) -> Result<(), Memory>
-    ensures { OnOk result ((f : List ℕ) → get text_cmp prints.new f ≡ (if is_eq (text_cmp print f) then Some (is_some (get text_cmp prints.old print)) else get text_cmp prints.old f)) }
+fn given_as(again: bool) -> Told
+    ensures { result ≡ given_as again }
 {
-    let again = prints.contains_key(&print);
-    match prints.insert(print, again) {
+    if again { Told::Shared } else { Told::New }
+}
+
+fn stored_too(at: usize, told: Told) -> Told
+    ensures { result ≡ stored_too at told }
+{
+    match told {
+        Told::New => Told::Stored(at),
+        Told::Stored(_) | Told::Shared => Told::Shared,
+    }
+}
+
+fn is_new(told: Option<&Told>) -> bool
+    ensures { result ≡ is_new (option_copied told.entry) }
+{
+    match told {
+        Some(Told::New) => true,
+        _ => false,
+    }
+}
+
+// A fingerprint with what it stands for, in place of what it had.
+fn put(prints: &mut Prints, print: [u8; 32], told: Told) -> Result<(), Memory>
+    ensures { OnOk result ((f : List ℕ) → get text_cmp prints.new f ≡ (if is_eq (text_cmp print f) then Some told else get text_cmp prints.old f)) }
+{
+    match prints.insert(print, told) {
         Ok(_) => Ok(()),
         Err(_) => Err(Memory),
     }
+}
+
+// One model's fingerprint more.
+fn note(prints: &mut Prints, print: [u8; 32]) -> Result<(), Memory>
+    ensures { OnOk result ((f : List ℕ) → get text_cmp prints.new f ≡ (if is_eq (text_cmp print f) then Some (given_as (is_some (get text_cmp prints.old print))) else get text_cmp prints.old f)) }
+{
+    let again = prints.contains_key(&print);
+    put(prints, print, given_as(again))
+}
+
+// One snapshot's fingerprint more, which stands at this place.
+fn meet(prints: &mut Prints, print: &[u8; 32], at: usize) -> Result<(), Memory>
+    ensures { OnOk result ((f : List ℕ) → get text_cmp prints.new f ≡ (if is_eq (text_cmp print.now f) then option_map (stored_too at) (get text_cmp prints.old f) else get text_cmp prints.old f)) }
+{
+    match prints.get(print).copied() {
+        None => Ok(()),
+        Some(told) => put(prints, *print, stored_too(at, told)),
+    }
+}
+
+/// What a fingerprint stands for, which a model has.
+pub(crate) fn told_at(prints: &Prints, print: &[u8; 32]) -> Told
+    requires { IsSome (get text_cmp prints.now print.now) }
+    ensures { get text_cmp prints.now print.now ≡ Some result }
+{
+    *prints.get(print).unwrap()
 }
 
 // A name with its fingerprint, in place of what it had.
@@ -60,20 +121,8 @@ fn hold(holders: &mut Holders, name: &Name, print: [u8; 32]) -> Result<(), Memor
     }
 }
 
-fn stored(alloc: Global, all: &[Snapshot]) -> Result<Prints, Memory>
-    ensures { IfOk result (λ prints. (f : List ℕ) → get text_cmp prints f ≡ again (map snapshot_print all.now) f) }
-{
-    let mut prints = BTreeMap::new(alloc);
-    let mut left = all.len();
-    while left > 0 {
-        left -= 1;
-        note(&mut prints, all[left].fingerprint)?;
-    }
-    Ok(prints)
-}
-
 fn given(alloc: Global, nodes: &[Node]) -> Result<Prints, Memory>
-    ensures { IfOk result (λ prints. (f : List ℕ) → get text_cmp prints f ≡ again (map node_print nodes.now) f) }
+    ensures { IfOk result (λ prints. (f : List ℕ) → get text_cmp prints f ≡ option_map given_as (again (map node_print nodes.now) f)) }
 {
     let mut prints = BTreeMap::new(alloc);
     let mut left = nodes.len();
@@ -82,6 +131,25 @@ fn given(alloc: Global, nodes: &[Node]) -> Result<Prints, Memory>
         note(&mut prints, nodes[left].fingerprint)?;
     }
     Ok(prints)
+}
+
+// What the fingerprints of a project stand for: each snapshot is looked up among them.
+fn told_each(alloc: Global, all: &[Snapshot], nodes: &[Node]) -> Result<Prints, Memory>
+    ensures { IfOk result (λ prints. (f : List ℕ) → get text_cmp prints f ≡ told_of all.now nodes.now f) }
+{
+    let mut prints = given(alloc, nodes)?;
+    let mut left = all.len();
+    while left > 0 {
+        left -= 1;
+        meet(&mut prints, &all[left].fingerprint, left)?;
+    }
+    Ok(prints)
+}
+
+fn has_new(prints: &Prints, nodes: &[Node]) -> bool
+    ensures { result ≡ list_any (λ (n : Node). is_new (get text_cmp prints.now n.fingerprint)) nodes.now }
+{
+    nodes.iter().any(|n| is_new(prints.get(&n.fingerprint)))
 }
 
 fn objects(alloc: Global, all: &[Snapshot]) -> Result<Holders, Memory>
@@ -108,6 +176,23 @@ fn compared(alloc: Global, base: &[Ref]) -> Result<Holders, Memory>
     Ok(holders)
 }
 
+// Those that have an object, and those of the list, which only a new model asks for.
+fn asked(
+    alloc: Global,
+    all: &[Snapshot],
+    base: &[Ref],
+    is_asked: bool,
+) -> Result<(Holders, Holders), Memory>
+    ensures objects { IfOk result (λ made. IsTrue is_asked → (name : Name) → get name_cmp made.0 name ≡ holder all.now name) }
+    ensures compared { IfOk result (λ made. IsTrue is_asked → (name : Name) → get name_cmp made.1 name ≡ listed_print base.now name) }
+{
+    if is_asked {
+        together(objects(alloc, all), compared(alloc, base))
+    } else {
+        Ok((BTreeMap::new(alloc), BTreeMap::new(alloc)))
+    }
+}
+
 /// All that is looked up, so that each look-up takes steps in proportion to a logarithm.
 pub(crate) fn indexed(
     alloc: Global,
@@ -117,11 +202,11 @@ pub(crate) fn indexed(
 ) -> Result<Index, Memory>
     ensures { IfOk result (λ index. IsIndex all.now nodes.now base.now index) }
 {
-    let (stored, given) = together(stored(alloc, all), given(alloc, nodes))?;
-    let (objects, compared) = together(objects(alloc, all), compared(alloc, base))?;
+    let told = told_each(alloc, all, nodes)?;
+    let is_asked = has_new(&told, nodes);
+    let (objects, compared) = asked(alloc, all, base, is_asked)?;
     Ok(Index {
-        stored,
-        given,
+        told,
         objects,
         compared,
     })

@@ -11,7 +11,7 @@ ghost use Rattle.mesh_versions.specs.versions.Index.{IsIndex};
 
 use crate::versions::clashes::is_alone;
 use crate::versions::faults::PlanFault;
-use crate::versions::index::{Index, indexed};
+use crate::versions::index::{Index, indexed, told_at};
 use crate::versions::objects::{Object, object_of};
 use mesh_base::{Categories, Category, Node, Ref, Refs};
 use mesh_book::Book;
@@ -55,10 +55,11 @@ fn named(
     ensures object { IfOk result (λ name. version b.now.snapshots (compared_in b.now.snapshots base.now node.now.own.name) category node.now ≡ Some name) }
     ensures refused { IfErr result (λ fault. RefusesModel b.now.snapshots nodes.now base.now category node.now fault) }
 {
-    if !is_alone(alloc, b, index, nodes, node, base)? {
+    let told = told_at(&index.told, &node.fingerprint);
+    if !is_alone(b, told, nodes, node) {
         return Err(clash(node, node.fingerprint));
     }
-    match object_of(alloc, b, index, nodes, base, node, category)? {
+    match object_of(alloc, b, index, told, nodes, base, node, category)? {
         Object::Named(name) => Ok(name),
         Object::Taken(stored) => Err(clash(node, stored)),
     }

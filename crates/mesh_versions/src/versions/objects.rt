@@ -1,17 +1,19 @@
 // The object of a model whose fingerprint stands for it alone.
-ghost use Rattle.std.specs.Prelude.{◌≡◌, ◌<◌, true, IfOk};
+ghost use Rattle.std.specs.Prelude.{◌≡◌, ◌<◌, true, IfOk, Some};
 ghost use Rattle.std.specs.BTreeMap.{get};
+ghost use Rattle.std.specs.List.{Contains};
 ghost use Rattle.std.specs.Option.{option_copied};
 ghost use Rattle.mesh_values.specs.Names.{name_cmp};
 ghost use Rattle.mesh_values.specs.declared.values.Name.{Name};
 ghost use Rattle.mesh_book.specs.WellFormed.{is_well_formed_book};
+ghost use Rattle.mesh_rules.specs.Proper.{is_proper};
 ghost use Rattle.mesh_due.specs.Versions.{kept_object, stays, table_name};
-ghost use Rattle.mesh_versions.specs.versions.Clashes.{SuitsBook, compared_in};
-ghost use Rattle.mesh_versions.specs.versions.Index.{IsIndex, listed_print};
+ghost use Rattle.mesh_versions.specs.versions.Clashes.{IsAlone, compared_in};
+ghost use Rattle.mesh_versions.specs.versions.Index.{IsIndex, listed_print, told_of};
 ghost use Rattle.mesh_versions.specs.versions.Objects.{IsObject, choice_at, fresh_by, or_fresh};
 
-use crate::versions::clashes::known;
-use crate::versions::index::{Holders, Index};
+use crate::versions::clashes::snapshot_at;
+use crate::versions::index::{Holders, Index, Told};
 use crate::versions::names::table_name;
 use mesh_base::{Category, Node, Ref, Snapshot};
 use mesh_book::Book;
@@ -139,24 +141,28 @@ fn unknown(
     }
 }
 
-/// The object of a model whose fingerprint stands for it alone.
+/// The object of a model whose fingerprint stands for it alone, and for this as far as fingerprints tell.
 pub(crate) fn object_of(
     alloc: Global,
     b: &Book,
     index: &Index,
+    told: Told,
     nodes: &[Node],
     base: &[Ref],
     node: &Node,
     category: Category,
 ) -> Result<Object, Memory>
     requires book { is_well_formed_book b.now ≡ true }
+    requires nodes { is_proper nodes.now ≡ true }
+    requires node { Contains nodes.now node.now }
     requires index { IsIndex b.now.snapshots nodes.now base.now index.now }
-    requires suits { SuitsBook b.now.snapshots nodes.now node.now }
+    requires told { told_of b.now.snapshots nodes.now node.now.fingerprint ≡ Some told }
+    requires alone { IsAlone b.now.snapshots nodes.now node.now }
     ensures { IfOk result (λ made. IsObject b.now.snapshots base.now category node.now made) }
 {
-    match known(b, node)? {
-        Some(s) => Ok(Object::Named(s.object.copy()?)),
-        None => {
+    match told {
+        Told::Stored(at) => Ok(Object::Named(snapshot_at(b, at).object.copy()?)),
+        Told::New | Told::Shared => {
             let made = unknown(alloc, b, index, base, node, category)?;
             Ok(made)
         }

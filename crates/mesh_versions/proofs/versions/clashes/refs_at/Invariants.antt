@@ -1,6 +1,0 @@
-use Rattle.std.proofs.Common.{◌≡◌, take}
-use Rattle.mesh_versions.specs.versions.Clashes.{refs_at}
-use Rattle.mesh_versions.proofs.versions.clashes.refs_at.Given as goal
-
-abbrev pub invariant-loop-place : goal.invariant-loop-place
-invariant-loop-place l = l.refs ≡ refs_at l.nodes (take l.place-index l.places)
