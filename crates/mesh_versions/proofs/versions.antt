@@ -8,6 +8,8 @@ pub mod Alone
 pub mod Tells
 -- Choices: the first free name, as it is looked for.
 pub mod Choices
+-- Placing: items that are put at their places in either order.
+pub mod Placing
 -- Ranks: snapshots by rank and name, and their places.
 pub mod Ranks
 -- Steps: references and objects, one after another.

@@ -1,27 +1,32 @@
 -- Snapshots by rank and name, and their places.
-use Rattle.std.proofs.Common.{◌≡◌, ℕ, suc, ◌+◌, Bool, true, false, cond, inl, inr, List, [], ◌∷◌, ◌++◌, map, Some, None, refl, sym, ◌∙◌, ap, arith}
+use Rattle.std.proofs.Common.{◌≡◌, ℕ, zero, suc, ◌+◌, ◌<◌, Bool, true, false, cond, nat_le, inl, inr, List, [], ◌∷◌, ◌++◌, map, length, take, get_or, Some, None, refl, sym, ◌∙◌, ap, arith}
 use Rattle.std.specs.Cmp.{Equal-is}
 use Rattle.std.specs.List.{list_all}
 use Rattle.std.specs.Option.{is_some, option_map, option_to_list}
-use Rattle.std.specs.Ordering.{is_eq}
+use Rattle.std.specs.Ordering.{is_eq, nat_cmp}
 use Rattle.std.specs.declared.cmp.Ordering.{Ordering}
 use Rattle.std.specs.declared.cmp.Ordering.TheVariants.{Less, Equal, Greater}
 use Rattle.std.specs.declared.option.Option.{Option}
 use Rattle.std.proofs.lemmas.Cmp.{tied_itself}
-use Rattle.mesh_list.specs.Keyed.{first_at, found, placed, put_by}
+use Rattle.std.proofs.lemmas.List.{append-nil, take_more}
+use Rattle.std.proofs.lemmas.List.Concat.{flat_map-append}
+use Rattle.mesh_list.specs.Keyed.{ascends, below_first, first_at, found, placed, put_by}
+use Rattle.mesh_list.proofs.Ascends.{and_left, and_right}
 use Rattle.mesh_values.specs.Names.{name_cmp}
-use Rattle.mesh_values.specs.NameOrder.{names_exact, names_total}
+use Rattle.mesh_values.specs.NameOrder.{names_exact, names_total, then_equal}
 use Rattle.mesh_values.specs.declared.values.Name.{Name}
-use Rattle.mesh_base.specs.Keys.{ref_cmp, ref_itself, refs_exact, refs_total, snapshot_ref}
+use Rattle.mesh_base.specs.Keys.{ref_cmp, ref_itself, ref_name, refs_exact, refs_total, snapshot_ref}
 use Rattle.mesh_base.specs.declared.snapshots.Ref.{Ref}
 use Rattle.mesh_base.specs.declared.snapshots.Snapshot.{Snapshot}
 use Rattle.mesh_book.specs.declared.book.Book.{Book}
-use Rattle.mesh_book.specs.WellFormed.{has_parents, is_listed, is_well_formed_book, parents_at, snapshot_at}
+use Rattle.mesh_book.specs.WellFormed.{are_kept, has_parents, is_listed, is_well_formed_book, parents_at, snapshot_at}
 use Rattle.mesh_laws.proofs.Finding.{one_passes}
-use Rattle.mesh_laws.proofs.Has.{Has}
+use Rattle.mesh_laws.proofs.Has.{Has, Has_flat_from, Has_some_from}
 use Rattle.mesh_listed.specs.Listed.{as_node, by_rank, entries, is_list_fit, listed, named, places_among, rank_cmp, snapshot_itself}
 use Rattle.mesh_listed.proofs.Books.{fits, its_ref}
-use Rattle.mesh_listed.proofs.Entries.{entry_of, is_entry, one_of_name, with_parents}
+use Rattle.mesh_listed.proofs.Entries.{entry_of, is_entry, one_of_name, ranks_total, with_parents}
+use Rattle.mesh_listed.proofs.Lists.{below_each}
+use Rattle.mesh_versions.proofs.versions.Placing.{either_first}
 use Rattle.mesh_versions.specs.declared.versions.standing.Standing.{Standing}
 use Rattle.mesh_versions.specs.versions.Standing.{node_by, place_from, places_by, rank_of, rank_order, snapshot_of, snapshots_of, with_one}
 
@@ -36,13 +41,48 @@ placed_there y (x ∷ xs) = go (rank_cmp (snapshot_of x) (snapshot_of y)) (place
     go Equal more = refl
     go Greater more = refl
 
--- one entry more
-pub one_more : (all : List Snapshot) (r : Ref) (rs : List Ref) → with_one (snapshot_at all r) (by_rank (named all rs)) ≡ by_rank (named all (r ∷ rs))
-one_more all r rs = go (snapshot_at all r)
-  where
-    go : (o : Option Snapshot) → with_one o (by_rank (named all rs)) ≡ by_rank (option_to_list o ++ named all rs)
-    go None = refl
-    go (Some s) = refl
+-- one entry more, whose name none before it has
+by_rank_last : (ss : List Snapshot) (s : Snapshot) → ((x : Snapshot) → Has x ss → rank_cmp x s ≡ Equal → ⊥) → by_rank (ss ++ s ∷ []) ≡ placed rank_cmp snapshot_itself s (by_rank ss)
+by_rank_last [] s differ = refl
+by_rank_last (x ∷ xs) s differ =
+    ap (placed rank_cmp snapshot_itself x) (by_rank_last xs s (λ y h. differ y (inr h)))
+    ∙ either_first rank_cmp ranks_total snapshot_itself x s (differ x (inl refl)) (by_rank xs)
+
+stands_there : (rs : List Ref) (i : ℕ) (r : Ref) → i < length rs → r ≡ get_or rs i r → Has r rs
+stands_there [] i r lt here = absurd (omega arith)
+stands_there (q ∷ qs) zero r lt here = inl (sym here)
+stands_there (q ∷ qs) (suc i) r lt here = inr (stands_there qs i r (omega arith) here)
+
+earlier_differs : (rs : List Ref) (i : ℕ) (r : Ref) → ascends name_cmp ref_name rs ≡ true → i < length rs → r ≡ get_or rs i r → (q : Ref) → Has q (take i rs) → q.name ≡ r.name → ⊥
+earlier_differs [] i r up lt here q h same = absurd (omega (arith, lt))
+earlier_differs (p ∷ ps) zero r up lt here q h same = h
+earlier_differs (p ∷ ps) (suc i) r up lt here q (inl e) same =
+    let below : name_cmp p.name r.name ≡ Less =
+    below_each name_cmp names_total ref_name p.name ps (and_left (below_first name_cmp ref_name p.name ps) (ascends name_cmp ref_name ps) up) (and_right (below_first name_cmp ref_name p.name ps) (ascends name_cmp ref_name ps) up) r (stands_there ps i r (omega (arith, lt)) here) in
+    let clash : Less ≡ Equal = sym below ∙ ap (λ (n : Name). name_cmp n r.name) (ap (λ (x : Ref). x.name) e ∙ same) ∙ tied_itself names_total r.name in
+    absurd (cc)
+earlier_differs (p ∷ ps) (suc i) r up lt here q (inr h) same = earlier_differs ps i r (and_right (below_first name_cmp ref_name p.name ps) (ascends name_cmp ref_name ps) up) (omega (arith, lt)) here q h same
+
+module _ (all : List Snapshot) (list : List Ref) (fit : is_list_fit all list ≡ true) where
+  names_up : ascends name_cmp ref_name list ≡ true
+  names_up = and_left (ascends name_cmp ref_name list) _ (and_right (nat_le (length list) 4096) _ (and_right (are_kept all list) _ fit))
+
+  pub one_more : (i : ℕ) (r : Ref) → i < length list → r ≡ get_or list i r → with_one (snapshot_at all r) (entries all (take i list)) ≡ entries all (take (i + 1) list)
+  one_more i r lt here =
+      go (snapshot_at all r) refl
+      ∙ ap by_rank (sym (flat_map-append (λ (q : Ref). option_to_list (snapshot_at all q)) (take i list) (r ∷ [])))
+      ∙ ap (entries all) (sym (take_more list i r lt ∙ ap (λ (q : Ref). take i list ++ q ∷ []) (sym here)))
+    where
+      differ : (s : Snapshot) → snapshot_at all r ≡ Some s → (x : Snapshot) → Has x (named all (take i list)) → rank_cmp x s ≡ Equal → ⊥
+      differ s e x h tie =
+          let (q, k, f) = Has_flat_from (λ (q : Ref). option_to_list (snapshot_at all q)) (take i list) x h in
+          let its : snapshot_ref x ≡ q = its_ref all q x (Has_some_from (snapshot_at all q) x f) in
+          let names : x.name ≡ s.name = names_exact x.name s.name (then_equal (nat_cmp x.rank s.rank) (name_cmp x.name s.name) tie).1 in
+          earlier_differs list i r names_up lt here q k (sym (ap (λ (y : Ref). y.name) its) ∙ names ∙ ap (λ (y : Ref). y.name) (its_ref all r s e))
+
+      go : (o : Option Snapshot) → snapshot_at all r ≡ o → with_one o (by_rank (named all (take i list))) ≡ by_rank (named all (take i list) ++ (option_to_list o ++ []))
+      go None e = ap by_rank (sym (append-nil (named all (take i list))))
+      go (Some s) e = sym (by_rank_last (named all (take i list)) s (differ s e))
 
 -- places
 place_later : (k : ℕ) (name : Name) (ss : List Snapshot) → place_from (k + 1) name ss ≡ option_map suc (place_from k name ss)

@@ -1,11 +1,11 @@
 // The snapshots that a list names, by rank and name.
-ghost use Rattle.std.specs.Prelude.{◌≡◌, Some, if◌then◌else◌, IfOk, OnOk};
+ghost use Rattle.std.specs.Prelude.{◌≡◌, true, Some, if◌then◌else◌, IfOk, OnOk};
 ghost use Rattle.std.specs.BTreeMap.{get};
 ghost use Rattle.std.specs.Option.{option_copied};
 ghost use Rattle.std.specs.Ordering.{is_eq};
 ghost use Rattle.mesh_values.specs.Names.{name_cmp};
 ghost use Rattle.mesh_values.specs.declared.values.Name.{Name};
-ghost use Rattle.mesh_listed.specs.Listed.{entries};
+ghost use Rattle.mesh_listed.specs.Listed.{entries, is_list_fit};
 ghost use Rattle.mesh_versions.specs.versions.Standing.{place_from, rank_of, rank_order, ranks_exact, ranks_total, snapshots_of, with_one};
 
 use mesh_base::{Ref, Snapshot};
@@ -76,19 +76,18 @@ fn put<'a>(all: &mut Sorted<Standing<'a>>, s: Option<&'a Snapshot>) -> Result<()
     }
 }
 
-/// The snapshots that a list names.
+/// The snapshots that a list names. Where ranks ascend with the names each comes to the end.
 pub(crate) fn collected<'a>(
     alloc: Global,
     b: &'a Book,
     list: &[Ref],
 ) -> Result<Sorted<Standing<'a>>, Memory>
+    requires { is_list_fit b.now.snapshots list.now ≡ true }
     ensures { IfOk result (λ made. snapshots_of made ≡ entries b.now.snapshots list.now) }
 {
     let mut made = Sorted::new(alloc);
-    let mut left = list.len();
-    while left > 0 {
-        left -= 1;
-        put(&mut made, b.snapshots.find(&list[left]))?;
+    for r in list {
+        put(&mut made, b.snapshots.find(r))?;
     }
     Ok(made)
 }
