@@ -15,7 +15,7 @@ use mesh_book::Book;
 use mesh_list::{Duplicate, Memory, Seq};
 use mesh_rules::Project;
 use mesh_values::{Name, Names};
-use mesh_versions::category::categorize;
+use mesh_versions::category::categories_beside;
 use mesh_versions::versions::{PlanFault, project_of, versions};
 use std::alloc::Global;
 
@@ -79,7 +79,11 @@ fn named(
     ensures refused { IfErr result (λ fault. RefusesEntries b.now base.now p.now.nodes fault) }
 {
     let compared = project_of(alloc, b, base)?;
-    let categories = categorize(p, Some(&compared))?;
+    // Objects are found by the categories alone, so that no names that are gone are looked for.
+    let categories = Categories {
+        of: categories_beside(p, &compared)?,
+        removed: Seq::new(alloc),
+    };
     match versions(alloc, p, &categories, base, b) {
         Ok(names) => Ok((categories, names)),
         Err(fault) => Err(fault),
