@@ -1,11 +1,13 @@
 -- What is read of a house, by name.
-use Rattle.std.proofs.Common.{◌≡◌, Bool, true, false, cond, not, List, [], ◌∷◌, Some, None, IsTrue, refl, sym, ap, ◌∙◌, subst}
+use Rattle.std.proofs.Common.{◌≡◌, ◌≢◌, Bool, true, false, cond, not, List, [], ◌∷◌, Some, None, IsTrue, refl, sym, ap, ◌∙◌, subst}
 use Rattle.std.specs.Prelude.{◌&&◌}
 use Rattle.std.specs.Ordering.{is_eq}
 use Rattle.std.specs.Cmp.{Equal-is}
+use Rattle.std.specs.Option.{option_map}
 use Rattle.std.specs.declared.option.Option.{Option}
 use Rattle.mesh_list.specs.Keyed.{found, placed}
 use Rattle.mesh_list.proofs.Found.{found-placed}
+use Rattle.mesh_values.specs.declared.values.Cell.{Cell}
 use Rattle.mesh_values.specs.declared.values.Column.{Column}
 use Rattle.mesh_values.specs.declared.values.Name.{Name}
 use Rattle.mesh_values.specs.Names.{name_cmp}
@@ -14,13 +16,17 @@ use Rattle.mesh_base.specs.declared.definitions.Decl.{Decl}
 use Rattle.mesh_base.specs.declared.jobs.Input.{Input}
 use Rattle.mesh_base.specs.Keys.{input_name}
 use Rattle.mesh_scratch.specs.Sources.{declared_rows, source_named}
+use Rattle.mesh_house.specs.declared.objects.Body.{Body}
+use Rattle.mesh_house.specs.declared.objects.Body.TheVariants.{Rows, Stored}
 use Rattle.mesh_house.specs.declared.objects.Object.{Object}
 use Rattle.mesh_house.specs.declared.world.World.{World}
 use Rattle.mesh_house.specs.Objects.{is_physical, object_name}
 use Rattle.mesh_house.specs.Sources.{are_plain}
 use Rattle.mesh_house.specs.World.{as_table, body, body_of, columns_of, head, kept_at, object_at, rows_of, source_at}
 use Rattle.mesh_layer.specs.declared.known.Entry.{Entry}
-use Rattle.mesh_layer.specs.Read.{AreKnown, IsFound, entry_name, read_rows}
+use Rattle.mesh_layer.specs.declared.kept.Kept.{Kept}
+use Rattle.mesh_layer.specs.declared.kept.Kept.TheVariants as read
+use Rattle.mesh_layer.specs.Read.{AreKnown, IsFound, entry_name, kept_of, read_rows}
 
 table_rows : (declared : List Column) (s : Option Input) → read_rows declared (columns_of (as_table s)) (rows_of (body_of (as_table s))) ≡ declared_rows declared s
 table_rows declared None = refl
@@ -56,11 +62,37 @@ object_kept w n h =
 no_object : (w : World) (n : Name) → is_physical n ≡ false → object_at w n ≡ None
 no_object w n h = ap (λ (b : Bool). cond b (found name_cmp object_name n w.objects) None) h
 
-pub body_kept : (w : World) (n : Name) → is_physical n ≡ true → body w n ≡ body_of (object_at w n)
-body_kept w n h = ap body_of (object_kept w n h)
+pub body_there : (w : World) (n : Name) → is_physical n ≡ true → body w n ≡ body_of (object_at w n)
+body_there w n h = ap body_of (object_kept w n h)
 
-pub no_body : (w : World) (n : Name) → is_physical n ≡ false → body_of (object_at w n) ≡ None
-no_body w n h = ap body_of (no_object w n h)
+pub body_kept : (w : World) (n : Name) → is_physical n ≡ true → option_map kept_of (body w n) ≡ option_map kept_of (body_of (object_at w n))
+body_kept w n h = ap (λ (o : Option Object). option_map kept_of (body_of o)) (object_kept w n h)
+
+pub no_body : (w : World) (n : Name) → is_physical n ≡ false → option_map kept_of (body_of (object_at w n)) ≡ None
+no_body w n h = ap (λ (o : Option Object). option_map kept_of (body_of o)) (no_object w n h)
+
+-- a table is kept where its rows are read
+pub rows_kept : (o : Option Body) (rows : List (List Cell)) → Some (read.Rows rows) ≡ option_map kept_of o → rows_of o ≡ Some rows
+rows_kept None rows h = absurd (let no : Some (read.Rows rows) ≡ None = h in cc)
+rows_kept (Some (Rows r)) rows h = let both : Some (read.Rows rows) ≡ Some (read.Rows r) = h in let same : r ≡ rows = cc in ap Some same
+rows_kept (Some (Stored own targets)) rows h = absurd (let no : Some (read.Rows rows) ≡ Some (read.Query (Stored own targets)) = h in cc)
+
+-- and a stored query where its body is
+pub query_kept : (o : Option Body) (b : Body) → Some (read.Query b) ≡ option_map kept_of o → o ≡ Some b
+query_kept None b h = absurd (let no : Some (read.Query b) ≡ None = h in cc)
+query_kept (Some (Rows r)) b h = absurd (let no : Some (read.Query b) ≡ Some (read.Rows r) = h in cc)
+query_kept (Some (Stored own targets)) b h = let both : Some (read.Query b) ≡ Some (read.Query (Stored own targets)) = h in let same : Stored own targets ≡ b = cc in ap Some same
+
+-- a table isn't read as a query
+pub no_query : (o : Option Body) (rows : List (List Cell)) → Some (read.Query (Rows rows)) ≢ option_map kept_of o
+no_query None rows h = absurd (let no : Some (read.Query (Rows rows)) ≡ None = h in cc)
+no_query (Some (Rows r)) rows h = absurd (let no : Some (read.Query (Rows rows)) ≡ Some (read.Rows r) = h in cc)
+no_query (Some (Stored own targets)) rows h = absurd (let no : Some (read.Query (Rows rows)) ≡ Some (read.Query (Stored own targets)) = h in cc)
+
+-- where nothing is read, nothing is kept
+pub none_kept : (o : Option Body) (k : Option Kept) → ((x : Kept) → k ≢ Some x) → k ≡ option_map kept_of o → (b : Body) → o ≢ Some b
+none_kept None k other is b h = absurd (let no : None ≡ Some b = h in cc)
+none_kept (Some x) k other is b h = other (kept_of x) is
 
 pub columns_kept : (w : World) (n : Name) → is_physical n ≡ true → head w n ≡ columns_of (object_at w n)
 columns_kept w n h = ap columns_of (object_kept w n h)

@@ -13,12 +13,20 @@ use Rattle.mesh_values.specs.Picked.{picked_rows}
 use Rattle.mesh_rules.specs.Seen.{or_no_columns}
 use Rattle.mesh_scratch.specs.Sources.{has_shape}
 use Rattle.mesh_house.specs.declared.objects.Body.{Body}
+use Rattle.mesh_house.specs.declared.objects.Body.TheVariants as body
 use Rattle.mesh_house.specs.declared.world.World.{World}
 use Rattle.mesh_house.specs.Sources.{are_plain}
 use Rattle.mesh_house.specs.World.{object_at, columns_of, rows_of}
 use Rattle.mesh_shown.specs.Shown.{body_rows, rows_through}
+use Rattle.mesh_layer.specs.declared.kept.Kept.{Kept}
+use Rattle.mesh_layer.specs.declared.kept.Kept.TheVariants as kept
 use Rattle.mesh_layer.specs.declared.known.Entry.{Entry}
 use Rattle.mesh_layer.specs.declared.known.Found.{Found}
+
+-- a body as it is read: the rows of a table, or that of a stored query
+abbrev pub kept_of : Body → Kept
+kept_of (body.Rows rows) = kept.Rows rows
+kept_of (body.Stored own targets) = kept.Query (body.Stored own targets)
 
 -- a source's rows with the declared columns alone, by the columns and rows that are there
 abbrev pub read_rows : List Column → Option (List Column) → Option (List (List Cell)) → List (List Cell)

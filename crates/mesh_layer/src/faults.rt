@@ -36,6 +36,7 @@ impl From<WhFail> for ShowFault {
 }
 
 /// That an object dangles, or want of memory to say which.
+#[inline(never)]
 pub(crate) fn dangling(name: &Name) -> ShowFault
     ensures { (result ≡ fault.Dangling name.now) ⊎ (result ≡ fault.Memory) }
 {

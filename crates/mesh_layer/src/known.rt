@@ -64,6 +64,7 @@ impl Duplicate for Found {
 }
 
 /// What is known of an object, where no more stored queries than that stand behind one another in it.
+#[inline(never)]
 pub(crate) fn known_at(known: &Known, depth: u64, name: &Name) -> Result<Option<Found>, Memory>
     ensures height { IfOk result (λ there. IfSome there (λ f. f.height ≤ depth)) }
     ensures found { IfOk result (λ there. IfSome there (λ f. (w : World) → AreKnown w known.now → IsFound w name.now f)) }

@@ -4,6 +4,7 @@
 #![tactic(auto)]
 
 mod faults;
+mod kept;
 mod known;
 mod names;
 mod seen;

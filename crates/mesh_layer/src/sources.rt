@@ -6,14 +6,14 @@ ghost use Rattle.mesh_values.specs.Picked.{same_text, picked_rows};
 ghost use Rattle.mesh_values.specs.declared.values.Column.{Column};
 ghost use Rattle.mesh_scratch.specs.Sources.{is_of_type, has_shape, declared_rows, declared, source_named};
 ghost use Rattle.mesh_house.specs.Sources.{are_plain};
-ghost use Rattle.mesh_house.specs.World.{rows_of};
 ghost use Rattle.mesh_layer.specs.Places.{place_of, places_of, cell_at, row_at, rows_at};
 ghost use Rattle.mesh_layer.specs.Read.{read_rows};
 ghost use Rattle.mesh_layer.specs.Shows.{Finds};
 
 use crate::faults::ShowFault;
+use crate::kept::{kept_at, table_rows};
 use mesh_base::{Decl, Input, Inputs};
-use mesh_house::{Body, Warehouse};
+use mesh_house::Warehouse;
 use mesh_list::{Duplicate, Memory, Seq, both, push_made};
 use mesh_values::{Cell, ColType, Column, Columns, Row, Rows, Str, has_two_underscores, same_text};
 use std::alloc::Global;
@@ -100,16 +100,6 @@ pub fn has_shape(declared: &[Column], columns: &[Column]) -> bool
     each
 }
 
-/// The rows of a table.
-fn rows_of(body: Option<Body>) -> Option<Rows>
-    ensures { result ≡ rows_of body }
-{
-    match body {
-        Some(body) => body.into_rows(),
-        None => None,
-    }
-}
-
 /// The rows with the declared columns alone, in declared order.
 pub fn picked_rows(
     alloc: Global,
@@ -124,7 +114,7 @@ pub fn picked_rows(
 }
 
 /// A source's rows with the declared columns alone, and none where it has another shape.
-fn read_rows(
+pub(crate) fn read_rows(
     alloc: Global,
     declared: &[Column],
     columns: &Option<Columns>,
@@ -153,11 +143,8 @@ fn source_rows<W: Warehouse>(alloc: Global, house: &mut W, decl: &Decl) -> Resul
     if has_two_underscores(decl.name.schema.as_slice()) {
         return Ok(Seq::new(alloc));
     }
-    let columns = house.head(alloc, &decl.name)?;
-    let body = house.body(alloc, &decl.name)?;
-    let rows = rows_of(body);
-    let read = read_rows(alloc, decl.columns.as_slice(), &columns, &rows)?;
-    Ok(read)
+    let kept = kept_at(alloc, house, &decl.name, Some(decl.columns.as_slice()))?;
+    Ok(table_rows(alloc, kept))
 }
 
 /// A declared source as a table.

@@ -1,5 +1,7 @@
-// The rows behind an object: each stored query is computed once.
+// The rows behind an object: each stored query is computed once. A level of the walk takes little of the stack: what is done
+// before it goes deeper, and once it is back, stands in functions that are not inlined.
 ghost use Rattle.std.specs.Prelude.{◌≡◌, ◌≤◌, ◌<◌, ◌+◌, ◌^◌, ℕ, List, ◌++◌, ◌∷◌, [], IfOk, OnOk, IsTrue, map, Some, None};
+ghost use Rattle.std.specs.Option.{option_map};
 ghost use Rattle.mesh_values.specs.declared.values.Cell.{Cell};
 ghost use Rattle.mesh_values.specs.declared.values.Pair.{Pair};
 ghost use Rattle.mesh_meaning.specs.Sel.{Sel};
@@ -11,56 +13,22 @@ ghost use Rattle.mesh_house.specs.House.{Reads};
 ghost use Rattle.mesh_house.specs.Sources.{are_plain};
 ghost use Rattle.mesh_house.specs.World.{object_at, body_of, columns_of};
 ghost use Rattle.mesh_shown.specs.Shown.{each_there, rows_through, target_table};
+ghost use Rattle.mesh_layer.specs.declared.kept.Kept.TheVariants as kept;
 ghost use Rattle.mesh_layer.specs.Lost.{first_of, lost_in, lost_through};
-ghost use Rattle.mesh_layer.specs.Read.{AreKnown, Given, IsFound, body_through};
+ghost use Rattle.mesh_layer.specs.Read.{AreKnown, Given, IsFound, body_through, kept_of};
 ghost use Rattle.mesh_layer.specs.Shows.{Finds};
 
 use crate::faults::{ShowFault, dangling};
+use crate::kept::{Kept, kept_at};
 use crate::known::{Found, Known, keep, known_at};
 use crate::seen::stored_query;
 use crate::sources::source_tables;
 use mesh_base::{Input, Inputs, Own, Query};
 use mesh_eval::exact_rows;
 use mesh_house::{Body, Warehouse, WhFail};
-use mesh_list::{Boxed, Duplicate, Memory, Seq};
+use mesh_list::{Duplicate, Memory, Seq};
 use mesh_values::{Bounds, Columns, Name, Pair, Rows, has_two_underscores};
 use std::alloc::Global;
-
-/// What was read, in a box, so that a walk through many objects keeps little of each on the stack.
-fn boxed(alloc: Global, body: Option<Body>) -> Result<Option<Boxed<Body>>, Memory>
-    ensures { IfOk result (λ kept. kept ≡ body) }
-{
-    match body {
-        None => Ok(None),
-        Some(body) => Ok(Some(Boxed::new(alloc, body)?)),
-    }
-}
-
-/// What the object of that name keeps.
-fn body_at<W: Warehouse>(
-    alloc: Global,
-    house: &mut W,
-    name: &Name,
-) -> Result<Option<Boxed<Body>>, WhFail>
-    ensures { Reads (λ w. body_of (object_at w name.now)) (W.told house.old) (W.told house.new) result }
-{
-    if has_two_underscores(name.schema.as_slice()) {
-        let body = house.body(alloc, name)?;
-        Ok(boxed(alloc, body)?)
-    } else {
-        Ok(None)
-    }
-}
-
-/// The rows of a table.
-fn table_rows(alloc: Global, kept: Boxed<Body>) -> Rows
-    ensures { (rows : List (List Cell)) → kept ≡ body.Rows rows → result ≡ rows }
-{
-    match kept.into_inner().into_rows() {
-        Some(rows) => rows,
-        None => Seq::new(alloc),
-    }
-}
 
 fn or_no_columns(alloc: Global, columns: Option<Columns>) -> Columns
     ensures { result ≡ or_no_columns columns }
@@ -83,7 +51,8 @@ fn columns_at<W: Warehouse>(alloc: Global, house: &mut W, name: &Name) -> Result
     }
 }
 
-/// The rows of a stored query over the sources that it declares and these tables.
+/// The rows of a stored query over the sources that it declares and these tables. As `kept_at`, it is called from two places.
+#[inline(never)]
 fn query_rows<W: Warehouse>(
     alloc: Global,
     house: &mut W,
@@ -124,6 +93,7 @@ pub(crate) fn table_of(name: &Name, found: Found) -> Result<Input, Memory>
 }
 
 /// Puts it behind other tables.
+#[inline(never)]
 fn push_table(tables: &mut Inputs, name: &Name, found: Found) -> Result<(), Memory>
     ensures { OnOk result (tables.new ≡ tables.old ++ record { name = name.now; columns = found.columns; rows = found.rows } ∷ []) }
 {
@@ -132,6 +102,7 @@ fn push_table(tables: &mut Inputs, name: &Name, found: Found) -> Result<(), Memo
 }
 
 /// An object's columns beside its rows, which are kept as they are found.
+#[inline(never)]
 fn found_with<W: Warehouse>(
     alloc: Global,
     house: &mut W,
@@ -169,25 +140,40 @@ pub(crate) fn rows_behind<W: Warehouse>(
         (λ w r. AreKnown w known.new × (rows_through r.0 w name.now ≡ Some r.1))
         (λ w. lost_through depth w name.now) (W.told house.old) (W.told house.new) result }
 {
-    let Some(kept) = body_at(alloc, house, name)? else {
+    let Some(kept) = kept_at(alloc, house, name, None)? else {
         return Err(dangling(name));
     };
-    match kept.get() {
+    match kept {
+        Kept::Rows(rows) => Ok((0, rows)),
+        Kept::Query(stored) => query_behind(alloc, house, depth, name, stored.get(), known),
+    }
+}
+
+/// The same of an object that keeps this stored query, which no table does. The query is let go by the caller alone, at one
+/// place, since each such place takes some of the stack.
+#[cycle(walk)]
+fn query_behind<W: Warehouse>(
+    alloc: Global,
+    house: &mut W,
+    depth: u64,
+    name: &Name,
+    stored: &Body,
+    known: &mut Known,
+) -> Result<(u64, Rows), ShowFault>
+    ensures height { IfOk result (λ r. r.0 ≤ depth) }
+    ensures finds { Finds (λ w. Given w known.old × (option_map kept_of (body_of (object_at w name.now)) ≡ Some (kept.Query stored.now)))
+        (λ w r. AreKnown w known.new × (rows_through r.0 w name.now ≡ Some r.1))
+        (λ w. lost_through depth w name.now) (W.told house.old) (W.told house.new) result }
+{
+    match stored {
         Body::Stored { own, targets } => {
             if depth == 0 {
                 return Err(dangling(name));
             }
-            stored_behind(
-                alloc,
-                house,
-                depth - 1,
-                name,
-                own,
-                targets.as_slice(),
-                known,
-            )
+            let targets = targets.as_slice();
+            stored_behind(alloc, house, depth - 1, name, own, targets, known)
         }
-        Body::Rows(_) => Ok((0, table_rows(alloc, kept))),
+        Body::Rows(_) => Err(dangling(name)),
     }
 }
 
@@ -211,6 +197,10 @@ fn stored_behind<W: Warehouse>(
     match stored_query(own, targets) {
         None => Err(dangling(name)),
         Some(query) => {
+            if targets.is_empty() {
+                let rows = query_rows(alloc, house, query, own, Seq::new(alloc))?;
+                return Ok((1, rows));
+            }
             let (height, tables) = tables_behind(alloc, house, depth, targets, known)?;
             let rows = query_rows(alloc, house, query, own, tables)?;
             Ok((height + 1, rows))
