@@ -2,6 +2,7 @@
 use crate::changes::change;
 use crate::line::{Line, Named, Owns};
 use crate::owns::add_own;
+use crate::shown::{make_chain, put_question};
 use crate::written::{
     put_body, put_book, put_columns, put_counts, put_fingerprints, put_name, put_world,
 };
@@ -255,7 +256,10 @@ impl Stage {
 
     /// A step that prints a line.
     fn shown(&mut self, pen: &mut Pen, line: &Line, owns: &[Named]) -> Result<(), Trouble> {
-        if !self.together(pen, line)? && !asks(&mut self.house, pen, line)? {
+        if !self.together(pen, line)?
+            && !put_question(&mut self.house, pen, line, owns)?
+            && !asks(&mut self.house, pen, line)?
+        {
             make_line(&mut self.house, pen, line, owns)?;
         }
         pen.put(b"\n");
@@ -302,6 +306,8 @@ impl Stage {
     fn told(&mut self, pen: &mut Pen, line: &Line, owns: &[Named]) -> Result<(), Trouble> {
         if line.is(0, b"fail") {
             self.fail(line)
+        } else if line.is(0, b"chain") {
+            make_chain(&mut self.house, line, owns)
         } else if line.is(0, b"version") {
             Ok(self.set_version(line.alloc(), line.rank(1)?)?)
         } else {

@@ -1,4 +1,5 @@
-//! Each kind of change in a house in memory, what that house answers, and each breach of a well-formed book.
+//! Each kind of change in a house in memory, what that house answers, what stored queries over stored queries show, and
+//! each breach of a well-formed book.
 //! What comes of each step is reported, and is compared with the `stdout` of `mesh_answers`, whose values were
 //! worked out by hand. The files lie in its `data/house`.
 //!
@@ -33,7 +34,11 @@
 //!   snapshots, of their parents and in the lists of its environments;
 //! - `fail change N before`, `fail change N after` and `fail read N` have one call of the next ones fail, counted from 0;
 //! - `head NAME`, `body NAME`, `view NAME` and `book` print what the house answers, and `counts` how many changes it was
-//!   given and how many calls failed.
+//!   given and how many calls failed;
+//! - `chain N OWN MODEL OBJECT` makes N stored queries of one definition, `q0000`, `q0001` and so on in the object's schema,
+//!   and prints nothing: the first has the object as that model's, and each other one the query before it;
+//! - `rows OBJECT`, `show VIEW` and `ask ENV OWN`, with a definition whose query it is, print what is shown there: the
+//!   numbers of the rows, what dangles, or that a read failed.
 //!
 //! The steps of `books.txt`:
 //! - `line LINE` adds a line to the good book: `moment T VERSION`, where the new version may be left out, `snapshot ..`
@@ -52,6 +57,7 @@ mod changes;
 mod house;
 mod line;
 mod owns;
+mod shown;
 mod written;
 
 use mesh_cases::{Pen, Trouble, file_of};

@@ -35,7 +35,7 @@ fn put_row(pen: &mut Pen, row: &Row) {
     }
 }
 
-fn put_rows(pen: &mut Pen, rows: &Rows) {
+pub fn put_rows(pen: &mut Pen, rows: &Rows) {
     for row in rows.as_slice() {
         put_row(pen, row);
     }
