@@ -32,3 +32,9 @@ pub mod Keys
 pub mod EachDue
 -- OneMoment: a moment decides what is due.
 pub mod OneMoment
+-- Places: none of the models by name has the place of another.
+pub mod Places
+-- LowestBit: the lowest bit of a word, and the word without it.
+pub mod LowestBit
+-- Numbered: the marks of a model by the bits of a row by numbers.
+pub mod Numbered

@@ -8,6 +8,8 @@ pub mod Stands
 pub mod Lineages
 -- Marked: the models of a project by name, and the marks of one of them.
 pub mod Marked
+-- Numbered: the numbers of models among those by name, kept by their places.
+pub mod Numbered
 -- Sets: parts of tables as the keys of a set.
 pub mod Sets
 -- Whole: what is due of a model, from what is known of it.

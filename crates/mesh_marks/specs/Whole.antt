@@ -24,6 +24,7 @@ use Rattle.mesh_due.specs.Plans.{are_marks, marks_of, ranges_of}
 use Rattle.mesh_marks.specs.declared.due.Sight.{Sight}
 use Rattle.mesh_marks.specs.Lineages.{HaveLineages}
 use Rattle.mesh_marks.specs.Marked.{AreSpots, row_marks}
+use Rattle.mesh_marks.specs.Numbered.{IsNumbering}
 use Rattle.mesh_marks.specs.Sets.{part_cmp}
 
 abbrev pub unit_due : ℕ → Bounds → Due
@@ -49,6 +50,7 @@ dues_by place own h v units table ms other = whole_due place ms (is_whole_due ta
 -- what the dues of each model are found in
 pub record IsSight (nodes : List Node) (hs : List ℤ) (parts : List Forget) (s : Sight) : Type 0 where
   pub spots : AreSpots nodes hs s.spots.items
+  pub numbers : IsNumbering s.spots.items s.numbers.items
   pub rows : HaveLineages nodes (closures nodes) s.rows.items
   pub long : length s.rows.items ≡ length nodes
   pub units : (object : Name) (u : Bounds) → contains part_cmp s.units (u.start, u.end, object) ≡ is_among parts (unit_of object u)

@@ -12,6 +12,7 @@ ghost use Rattle.mesh_due.specs.Marks.{same_marks};
 ghost use Rattle.mesh_due.specs.Plans.{are_marks, marks_of, planned};
 ghost use Rattle.mesh_marks.specs.Least.{IsHorizon};
 ghost use Rattle.mesh_marks.specs.Long.{IsStart};
+ghost use Rattle.mesh_marks.specs.Numbered.{IsNumbering};
 ghost use Rattle.mesh_marks.specs.Sets.{part_cmp};
 ghost use Rattle.mesh_marks.specs.Whole.{IsSight, is_due, sight_dues, sight_marks, unit_due};
 
@@ -19,6 +20,7 @@ use crate::gone::{tables_among, units_among};
 use crate::horizons::Horizons;
 use crate::lineages::lineages;
 use crate::marks::{Spot, marks_at, spots_of};
+use crate::numbers::numbers_of;
 use crate::schedules::{schedule_of, unit_at, unit_count};
 use crate::stands::{front_covers, has_marks, open_after, ranges_of};
 use mesh_base::{Due, Dues, Entry, Forget, Marks, Node, Own};
@@ -28,9 +30,11 @@ use mesh_values::{Bounds, Kind, Name, Schedule};
 use std::alloc::Global;
 use std::collections::BTreeSet;
 
-/// What the dues of each model are found in: the models by name, which of them each stands on, and what is computed again.
+/// What the dues of each model are found in: the models by name and their numbers, which of them each stands on, and what
+/// is computed again.
 pub(crate) struct Sight {
     pub spots: Vec<Spot>,
+    pub numbers: Vec<usize>,
     pub rows: Vec<Seq<u64>>,
     pub units: BTreeSet<(i64, i64, Name)>,
     pub tables: BTreeSet<Name>,
@@ -40,6 +44,7 @@ impl Drop for Sight {
     fn drop(self) {
         let Sight {
             spots: _,
+            numbers: _,
             rows: _,
             units: _,
             tables: _,
@@ -58,11 +63,13 @@ fn sight_of(
     ensures { IfOk result (λ sight. IsSight nodes.now seconds.now parts.now sight) }
 {
     let spots = spots_of(alloc, nodes, seconds)?;
+    let numbers = numbers_of(alloc, &spots, nodes.len())?;
     let rows = lineages(alloc, nodes)?;
     let units = units_among(alloc, parts)?;
     let tables = tables_among(alloc, parts)?;
     Ok(Sight {
         spots,
+        numbers,
         rows,
         units,
         tables,
@@ -150,10 +157,12 @@ fn add_unit_dues(
 }
 
 fn marks_of(alloc: Global, sight: &Sight, place: usize) -> Result<Marks, Memory>
-    requires { place < length sight.now.rows.items }
+    requires place { place < length sight.now.rows.items }
+    requires numbers { IsNumbering sight.now.spots.items sight.now.numbers.items }
     ensures { IfOk result (λ made. made ≡ sight_marks sight.now place) }
 {
-    marks_at(alloc, &sight.spots, sight.rows[place].as_slice(), place)
+    let row = sight.rows[place].as_slice();
+    marks_at(alloc, &sight.spots, &sight.numbers, row, place)
 }
 
 fn push_whole(dues: &mut Dues, place: u32, marks: Marks) -> Result<(), Memory>
@@ -173,6 +182,7 @@ fn add_dues(
     version: Option<&Version>,
 ) -> Result<(), Memory>
     requires place { place < length sight.now.rows.items }
+    requires numbers { IsNumbering sight.now.spots.items sight.now.numbers.items }
     requires few { length sight.now.rows.items < 2 ^ 32 }
     requires horizon { IsHorizon horizon }
     ensures { OnOk result (dues.new ≡ dues.old ++ sight_dues sight.now place own.now object.now horizon (option_copied version.entry)) }

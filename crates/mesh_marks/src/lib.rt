@@ -14,6 +14,7 @@ mod lineages;
 mod long;
 mod marks;
 mod named;
+mod numbers;
 mod schedules;
 mod stands;
 

@@ -20,18 +20,20 @@ pub(crate) fn has_bit(row: &[u64], place: usize) -> bool
     }
 }
 
-fn no_bits(alloc: Global, words: usize) -> Result<Vec<u64>, Memory>
+/// A row with no bits.
+pub(crate) fn no_bits(alloc: Global, words: usize) -> Result<Vec<u64>, Memory>
     ensures length { IfOk result (λ row. length row.items ≡ words) }
     ensures none { IfOk result (λ row. (p : ℕ) → has_bit row.items p ≡ false) }
 {
-    let mut row = Vec::new(alloc);
+    let mut row = Vec::with_capacity(alloc, words)?;
     for at in 0..words {
         row.push(0)?;
     }
     Ok(row)
 }
 
-fn set_bit(row: &mut Vec<u64>, place: usize)
+/// Sets the bit of a place.
+pub(crate) fn set_bit(row: &mut Vec<u64>, place: usize)
     requires { place / 64 < length row.old.items }
     ensures length { length row.new.items ≡ length row.old.items }
     ensures bits { (p : ℕ) → has_bit row.new.items p ≡ (nat_eq p place || has_bit row.old.items p) }

@@ -1,9 +1,11 @@
 // The marks of a model: how far it and the tables that it stands on go, by name.
-ghost use Rattle.std.specs.Prelude.{◌≡◌, length, IfOk};
+ghost use Rattle.std.specs.Prelude.{◌≡◌, ◌≤◌, ◌+◌, length, take, IfOk, OnOk};
 ghost use Rattle.mesh_due.specs.Marks.{is_computed};
 ghost use Rattle.mesh_marks.specs.Marked.{AreSpots, HaveSpots, counts, row_marks, spots_in};
+ghost use Rattle.mesh_marks.specs.Numbered.{HasCounted, IsNumbering};
 
 use crate::lineages::has_bit;
+use crate::numbers::{renumbered, take_bit};
 use mesh_base::{Marks, Node};
 use mesh_list::{Duplicate, Memory, Seq};
 use mesh_values::{Kind, Name};
@@ -73,20 +75,64 @@ fn counts(row: &[u64], place: usize, spot: &Spot) -> bool
     has_bit(row, spot.place) && (spot.place == place || spot.computed)
 }
 
-/// The marks of the model at a place, which has this row.
-pub(crate) fn marks_at(
-    alloc: Global,
+/// Adds the mark of the model of a number, if it counts.
+fn add_mark(
+    made: &mut Marks,
     spots: &[Spot],
     row: &[u64],
     place: usize,
-) -> Result<Marks, Memory>
-    ensures { IfOk result (λ made. made ≡ row_marks spots.now row.now place) }
+    number: usize,
+) -> Result<(), Memory>
+    requires { made.old ≡ row_marks (take number spots.now) row.now place }
+    ensures { OnOk result (made.new ≡ row_marks (take (number + 1) spots.now) row.now place) }
 {
-    let mut made = Seq::new(alloc);
-    for spot in spots {
+    if let Some(spot) = spots.get(number) {
         if counts(row, place, spot) {
             made.push(spot.horizon)?;
         }
+    }
+    Ok(())
+}
+
+/// Adds the marks of those of the 64 models from the first whose bits a word has.
+fn add_marks(
+    made: &mut Marks,
+    spots: &[Spot],
+    row: &[u64],
+    place: usize,
+    word: u64,
+    first: usize,
+) -> Result<(), Memory>
+    requires first { first ≤ length spots.now }
+    requires word { HasCounted spots.now row.now place word first }
+    requires made { made.old ≡ row_marks (take first spots.now) row.now place }
+    ensures { OnOk result (made.new ≡ row_marks (take (first + 64) spots.now) row.now place) }
+{
+    let mut rest = word;
+    while rest != 0 {
+        let bit = take_bit(&mut rest);
+        add_mark(made, spots, row, place, first + bit)?;
+    }
+    Ok(())
+}
+
+/// The marks of the model at a place, which has this row. It goes over the bits that the row has, in the order of the
+/// models' names.
+pub(crate) fn marks_at(
+    alloc: Global,
+    spots: &[Spot],
+    numbers: &[usize],
+    row: &[u64],
+    place: usize,
+) -> Result<Marks, Memory>
+    requires { IsNumbering spots.now numbers.now }
+    ensures { IfOk result (λ made. made ≡ row_marks spots.now row.now place) }
+{
+    let words = spots.len() / 64 + 1;
+    let by_number = renumbered(alloc, numbers, row, words)?;
+    let mut made = Seq::new(alloc);
+    for at in 0..words {
+        add_marks(&mut made, spots, row, place, by_number[at], 64 * at)?;
     }
     Ok(made)
 }
