@@ -118,12 +118,13 @@ fn make_first<R: Threads + Sync, W: Warehouse, G: Gate>(
     Ok(Next { models: 1, changes })
 }
 
-/// How many models are computed side by side: a few for each of so many workers.
+/// How many models are computed side by side: so many for each worker that the last of a wave are a small part of it.
 fn most_of(workers: u32) -> usize
     requires { workers ≤ 64 }
     ensures { result ≤ 256 }
 {
-    workers as usize * 4
+    let most = workers as usize * 16;
+    if most < 256 { most } else { 256 }
 }
 
 /// Makes and fills the objects of the first of some models: of those whose tables are all there before, side by side.
