@@ -1,5 +1,6 @@
 -- Where the columns of a table stand, so that a row is read by place.
-use Rattle.std.specs.Prelude.{ℕ, suc, List, [], ◌∷◌, map, if◌then◌else◌, Some, None, slice_get}
+use Rattle.std.specs.Prelude.{ℕ, suc, nat_eq, Bool, true, false, ◌&&◌, List, [], ◌∷◌, length, map, if◌then◌else◌, Some, None, slice_get}
+use Rattle.std.specs.List.{list_all}
 use Rattle.std.specs.declared.option.Option.{Option}
 use Rattle.std.specs.Option.{option_map}
 use Rattle.mesh_values.specs.declared.values.Cell.{Cell}
@@ -29,3 +30,17 @@ row_at row places = map (cell_at row) places
 
 abbrev pub rows_at : List (List Cell) → List (Option ℕ) → List (List Cell)
 rows_at rows places = map (λ row. row_at row places) rows
+
+-- the place is this one
+abbrev pub is_at : ℕ → Option ℕ → Bool
+is_at n None = false
+is_at n (Some place) = nat_eq place n
+
+-- the places are this one, the next one and so on
+abbrev pub are_in_order : ℕ → List (Option ℕ) → Bool
+are_in_order n [] = true
+are_in_order n (place ∷ places) = is_at n place && are_in_order (suc n) places
+
+-- each row has so many cells
+abbrev pub are_wide : ℕ → List (List Cell) → Bool
+are_wide width rows = list_all (λ row. nat_eq (length row) width) rows

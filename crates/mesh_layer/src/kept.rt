@@ -96,7 +96,7 @@ fn source_kept<W: Warehouse>(
 {
     let columns = house.head(alloc, name)?;
     let body = house.body(alloc, name)?;
-    let rows = read_rows(alloc, declared, &columns, &rows_of(body))?;
+    let rows = read_rows(alloc, declared, &columns, rows_of(body))?;
     Ok(Some(Kept::Rows(rows)))
 }
 

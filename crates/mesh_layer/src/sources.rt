@@ -6,7 +6,7 @@ ghost use Rattle.mesh_values.specs.Picked.{same_text, picked_rows};
 ghost use Rattle.mesh_values.specs.declared.values.Column.{Column};
 ghost use Rattle.mesh_scratch.specs.Sources.{is_of_type, has_shape, declared_rows, declared, source_named};
 ghost use Rattle.mesh_house.specs.Sources.{are_plain};
-ghost use Rattle.mesh_layer.specs.Places.{place_of, places_of, cell_at, row_at, rows_at};
+ghost use Rattle.mesh_layer.specs.Places.{place_of, places_of, cell_at, row_at, rows_at, is_at, are_in_order, are_wide};
 ghost use Rattle.mesh_layer.specs.Read.{read_rows};
 ghost use Rattle.mesh_layer.specs.Shows.{Finds};
 
@@ -77,6 +77,35 @@ fn rows_at(alloc: Global, rows: &[Row], places: &[Option<usize>]) -> Result<Rows
     Ok(made)
 }
 
+/// Whether that is the place.
+fn is_at(place: Option<usize>, at: usize) -> bool
+    ensures { result ≡ is_at at place }
+{
+    match place {
+        None => false,
+        Some(i) => i == at,
+    }
+}
+
+/// Whether the places are the first, the second and so on.
+fn are_in_order(places: &[Option<usize>]) -> bool
+    ensures { result ≡ are_in_order 0 places.now }
+{
+    for (i, place) in places.iter().enumerate() {
+        if !is_at(*place, i) {
+            return false;
+        }
+    }
+    true
+}
+
+/// Whether each row has so many cells.
+fn are_wide(rows: &[Row], width: usize) -> bool
+    ensures { result ≡ are_wide width rows.now }
+{
+    rows.iter().all(|row| row.len() == width)
+}
+
 /// Whether a column of that name is there, and the first of them has this type.
 fn is_of_type(columns: &[Column], name: &Str, kind: ColType) -> bool
     ensures { result ≡ is_of_type kind (find (λ (c : Column). same_text c.name name.now) columns.now) }
@@ -100,17 +129,20 @@ pub fn has_shape(declared: &[Column], columns: &[Column]) -> bool
     each
 }
 
-/// The rows with the declared columns alone, in declared order.
+/// The rows with the declared columns alone, in declared order: the rows themselves where those are all columns in theirs.
 pub fn picked_rows(
     alloc: Global,
     declared: &[Column],
     columns: &[Column],
-    rows: &[Row],
+    rows: Rows,
 ) -> Result<Rows, Memory>
-    ensures { IfOk result (λ made. made ≡ picked_rows (map (λ (d : Column). d.name) declared.now) columns.now rows.now) }
+    ensures { IfOk result (λ made. made ≡ picked_rows (map (λ (d : Column). d.name) declared.now) columns.now rows) }
 {
     let places = places_of(alloc, columns, declared)?;
-    rows_at(alloc, rows, places.as_slice())
+    if are_in_order(places.as_slice()) && are_wide(rows.as_slice(), places.len()) {
+        return Ok(rows);
+    }
+    rows_at(alloc, rows.as_slice(), places.as_slice())
 }
 
 /// A source's rows with the declared columns alone, and none where it has another shape.
@@ -118,14 +150,14 @@ pub(crate) fn read_rows(
     alloc: Global,
     declared: &[Column],
     columns: &Option<Columns>,
-    rows: &Option<Rows>,
+    rows: Option<Rows>,
 ) -> Result<Rows, Memory>
-    ensures { IfOk result (λ made. made ≡ read_rows declared.now columns.now rows.now) }
+    ensures { IfOk result (λ made. made ≡ read_rows declared.now columns.now rows) }
 {
     match (columns, rows) {
         (Some(columns), Some(rows)) => {
             if has_shape(declared, columns.as_slice()) {
-                picked_rows(alloc, declared, columns.as_slice(), rows.as_slice())
+                picked_rows(alloc, declared, columns.as_slice(), rows)
             } else {
                 Ok(Seq::new(alloc))
             }

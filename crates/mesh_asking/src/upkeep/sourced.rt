@@ -67,15 +67,11 @@ fn seed_in(file: &Str, columns: &Columns, bytes: Option<Str>) -> Result<Seed, Lo
 }
 
 // The rows of a file whose columns may stand in any order, in the order of the declared ones.
-fn in_order(alloc: Global, columns: Columns, seed: &Seed) -> Result<Seed, Memory>
-    ensures { IfOk result (λ made. made ≡ in_order columns seed.now) }
+fn in_order(alloc: Global, columns: Columns, seed: Seed) -> Result<Seed, Memory>
+    ensures { IfOk result (λ made. made ≡ in_order columns seed) }
 {
-    let rows = picked_rows(
-        alloc,
-        columns.as_slice(),
-        seed.columns.as_slice(),
-        seed.rows.as_slice(),
-    )?;
+    let found = seed.rows;
+    let rows = picked_rows(alloc, columns.as_slice(), seed.columns.as_slice(), found)?;
     Ok(Seed { columns, rows })
 }
 
@@ -89,7 +85,7 @@ fn source_in(
     ensures alone { IsErrOf result fault.Folder → ⊥ }
 {
     let seed = seed_in(file, &columns, bytes)?;
-    let source = in_order(alloc, columns, &seed)?;
+    let source = in_order(alloc, columns, seed)?;
     Ok(source)
 }
 
