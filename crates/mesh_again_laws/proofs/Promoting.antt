@@ -280,7 +280,7 @@ module _ (sources : List Input) (objects : List Object) (views others : List Vie
   abbrev other : World
   other = record { sources = sources; objects = objects; views = others; book = another }
 
-  behind : (depth : ℕ) (n : Name) → rows_through depth one n ≡ rows_through depth other n
+  pub behind : (depth : ℕ) (n : Name) → rows_through depth one n ≡ rows_through depth other n
   behind zero n = refl
   behind (suc d) n = go (λ m. behind d m) (body_of (object_at one n))
     where

@@ -7,6 +7,7 @@ use Rattle.mesh_values.specs.declared.values.Name.{Name}
 use Rattle.mesh_base.specs.declared.forgets.Restate.{Restate}
 use Rattle.mesh_base.specs.declared.snapshots.Node.{Node}
 use Rattle.mesh_tokens.specs.declared.faults.FaultKind.TheVariants.{UnknownRelation}
+use Rattle.mesh_rules.specs.Proper.{is_proper}
 use Rattle.mesh_rules.specs.declared.plans.Plan.{Plan}
 use Rattle.mesh_book.specs.declared.book.Book.{Book}
 use Rattle.mesh_due.specs.Parts.{same_name}
@@ -46,9 +47,10 @@ pub record IsStray (nodes : List Node) (again : Option Restate) (r : Refusal) : 
   pub unnamed : has_named nodes again ≡ false
   pub told : r ≡ no_model restate.name
 
--- the plan of a project for an environment, by a book that is as it has to be
+-- the plan of a proper project for an environment, by a book that is as it has to be
 pub record IsPlanned (b : Book) (nodes : List Node) (env : List ℕ) (t : ℤ) (again : Option Restate) (p : Plan) : Type 0 where
   pub present : is_present b ≡ true
+  pub proper : is_proper nodes ≡ true
   pub plan : IsPlanOf b nodes env t again p
   pub named : has_named nodes again ≡ true
 

@@ -149,16 +149,6 @@ it_is_planned clock = record {
   forgets = refl;
 }
 
--- the project's fingerprints have 32 bytes
-pub they_are_long : (n : Node) → Contains nodes n → length n.fingerprint ≡ 32
-they_are_long n h = go (Has_from nodes n h)
-  where
-    go : Has n nodes → length n.fingerprint ≡ 32
-    go (inl e) = ap (λ (m : Node). length m.fingerprint) (sym e)
-    go (inr (inl e)) = ap (λ (m : Node). length m.fingerprint) (sym e)
-    go (inr (inr (inl e))) = ap (λ (m : Node). length m.fingerprint) (sym e)
-    go (inr (inr (inr h))) = absurd h
-
 -- the book once the snapshots of the plan are put
 abbrev pub after : Book
 after = fold put_snapshot before (map (snapshot_of (pos 0) plan.models) plan.models)
@@ -202,7 +192,7 @@ module _ (clock : Clock) where
 
   -- no two models are given one table, by the law
   pub each_has_its_table : (p q : Planned) → Contains plan.models p → Contains plan.models q → p.object ≡ q.object → p ≡ q
-  each_has_its_table = single clock before nodes None plan before_is_well it_is_proper (it_is_planned clock) before_shares_with_twins they_are_long
+  each_has_its_table = single clock before nodes None plan before_is_well it_is_proper (it_is_planned clock) before_shares_with_twins
 
   -- putting the snapshot of the wider model alone puts those of the plan's models, by the law
   pub one_is_put : HasPut (pos 0) plan.models before (put_snapshot before (snapshot_of (pos 0) plan.models wide_model))
@@ -214,7 +204,7 @@ module _ (clock : Clock) where
 
   -- in the book after the plan tables are shared with twins again, by the law
   pub after_shares_with_twins : SharesWithTwins after
-  after_shares_with_twins = shares_after clock before after nodes None plan (pos 0) before_is_well it_is_proper (it_is_planned clock) before_shares_with_twins they_are_long after_is_well it_puts
+  after_shares_with_twins = shares_after clock before after nodes None plan (pos 0) before_is_well it_is_proper (it_is_planned clock) before_shares_with_twins after_is_well it_puts
 
 -- the plan of a run of production: its three models as they are
 abbrev kept : Closure → Snapshot → List ℕ → Planned

@@ -25,7 +25,7 @@ use Rattle.mesh_reuse_laws.proofs.Single.{single}
 
 module _ (clock : Clock) (before after : Book) (nodes : List Node) (restate : Option Restate) (plan : Plan) (t : ℤ)
     (well : is_well_formed_book before ≡ true) (proper : is_proper nodes ≡ true) (is : IsPlan clock before nodes restate plan) (shared : SharesWithTwins before)
-    (long : (n : Node) → Contains nodes n → length n.fingerprint ≡ 32) (well_after : is_well_formed_book after ≡ true) (put : HasPut t plan.models before after) where
+    (well_after : is_well_formed_book after ≡ true) (put : HasPut t plan.models before after) where
   abbrev models : List Planned
   models = plan.models
 
@@ -72,7 +72,7 @@ module _ (clock : Clock) (before after : Book) (nodes : List Node) (restate : Op
   both s s' known known' share (inl old) (inr (p, h, is_p)) = mixed s s' old known' p h is_p share
   both s s' known known' share (inr (p, h, is_p)) (inl old') = swapped s' s (mixed s' s old' known p h is_p (sym share))
   both s s' known known' share (inr (p, h, is_p)) (inr (q, k, is_q)) =
-      let same : p ≡ q = single clock before nodes restate plan well proper is shared long p q h k (sym (ap (λ (u : Snapshot). u.object) is_p) ∙ share ∙ ap (λ (u : Snapshot). u.object) is_q) in
+      let same : p ≡ q = single clock before nodes restate plan well proper is shared p q h k (sym (ap (λ (u : Snapshot). u.object) is_p) ∙ share ∙ ap (λ (u : Snapshot). u.object) is_q) in
       let one : s ≡ s' = is_p ∙ ap (snapshot_of t models) same ∙ sym is_q in
       (ap (λ (u : Snapshot). u.name) one, ap (λ u. core (closing after.snapshots u)) one)
 

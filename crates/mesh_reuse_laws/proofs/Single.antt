@@ -1,17 +1,15 @@
 -- No two models of a plan are given one table.
-use Rattle.std.proofs.Common.{◌≡◌, ℕ, zero, suc, ◌+◌, ◌-◌, ◌*◌, ◌≤◌, ◌||◌, ◌&&◌, not, nat_le, Bool, true, false, cond, ◌⊎◌, inl, inr, List, [], ◌∷◌, ◌++◌, map, length, drop, refl, ap, sym, ◌∙◌, arith, length-append}
+use Rattle.std.proofs.Common.{◌≡◌, ℕ, zero, suc, ◌*◌, ◌/◌, ◌%◌, ◌||◌, ◌&&◌, not, nat_eq, nat_le, Bool, true, false, cond, ◌⊎◌, inl, inr, List, [], ◌∷◌, ◌++◌, map, length, take, drop, slice_index, refl, ap, sym, ◌∙◌, subst}
 use Rattle.std.specs.Prelude.{codes}
-use Rattle.std.specs.List.{Contains, find, slice_get}
+use Rattle.std.specs.List.{Contains, find, list_any, slice_get}
 use Rattle.std.specs.Option.{option_map, option_or}
 use Rattle.std.specs.Ordering.{is_eq}
 use Rattle.std.specs.declared.option.Option.{Option}
 use Rattle.std.specs.declared.option.Option.TheVariants.{None, Some}
 use Rattle.std.proofs.lemmas.Bool.{and_parts}
 use Rattle.std.proofs.lemmas.Cmp.{tied_itself}
-use Rattle.std.proofs.lemmas.List.{append_cancel_left, length-drop, length-take-le}
-use Rattle.std.proofs.lemmas.Option.{get_or_from_slice_get, slice_get_within}
-use Rattle.hex.specs.Hex.{encode_lower, lower_digits}
-use Rattle.hex.proofs.HexLemmas.{length-encode_with}
+use Rattle.std.proofs.lemmas.List.{append_cancel_left}
+use Rattle.hex.specs.Hex.{encode_lower, encode_with, lower_digits}
 use Rattle.mesh_list.specs.Keyed.{ascends}
 use Rattle.mesh_values.specs.NameOrder.{names_total}
 use Rattle.mesh_values.specs.Names.{name_cmp}
@@ -23,7 +21,7 @@ use Rattle.mesh_rules.specs.Proper.{are_fit, has_node, have_distinct_names, is_p
 use Rattle.mesh_book.specs.declared.book.Book.{Book}
 use Rattle.mesh_book.specs.WellFormed.{is_well_formed_book, snapshot_at}
 use Rattle.mesh_scratch.specs.Horizons.{Clock}
-use Rattle.mesh_laws.proofs.Has.{Has, Has_from, Has_map_from}
+use Rattle.mesh_laws.proofs.Has.{Has, Has_from, Has_map_from, Has_right}
 use Rattle.mesh_listed.specs.Closing.{IsSnapshot}
 use Rattle.mesh_listed.proofs.Books.{is_its_own}
 use Rattle.mesh_due.specs.Plans.{Planned}
@@ -34,38 +32,68 @@ use Rattle.mesh_reuse_laws.specs.Shared.{SharesWithTwins}
 use Rattle.mesh_reuse_laws.proofs.Given.{compared_is, given}
 use Rattle.mesh_reuse_laws.proofs.Known.{each_at, node_at, place_there}
 
--- lists that end in as many elements
-ends_alike : (xs ys us vs : List ℕ) → xs ++ us ≡ ys ++ vs → length us ≡ length vs → xs ≡ ys
-ends_alike [] [] us vs e l = refl
-ends_alike [] (y ∷ ys) us vs e l =
-    let m : length us ≡ suc (length ys + length vs) = ap length e ∙ ap suc (length-append ys vs) in
-    absurd (omega (arith, l, m))
-ends_alike (x ∷ xs) [] us vs e l =
-    let m : suc (length xs + length us) ≡ length vs = sym (ap suc (length-append xs us)) ∙ ap length e in
-    absurd (omega (arith, l, m))
-ends_alike (x ∷ xs) (y ∷ ys) us vs e l =
+-- hexadecimal digits have no underscore among them
+index_has : (xs : List ℕ) (k : ℕ) → slice_index xs k ≡ 95 → Has 95 xs
+index_has [] k e = absurd (cc)
+index_has (x ∷ xs) zero e = inl e
+index_has (x ∷ xs) (suc k) e = inr (index_has xs k e)
+
+none_has : (xs : List ℕ) → list_any (λ x. nat_eq x 95) xs ≡ false → ¬ Has 95 xs
+none_has [] h k = k
+none_has (x ∷ xs) h (inl e) =
+    let clash : true ≡ false = sym (ap (λ n. nat_eq n 95 || list_any (λ y. nat_eq y 95) xs) e) ∙ h in absurd (cc)
+none_has (x ∷ xs) h (inr k) = none_has xs (second (nat_eq x 95) (list_any (λ y. nat_eq y 95) xs) h) k
+  where
+    second : (b c : Bool) → (b || c) ≡ false → c ≡ false
+    second true c e = absurd (cc)
+    second false c e = e
+
+no_digit : (k : ℕ) → ¬ (slice_index lower_digits k ≡ 95)
+no_digit k e = none_has lower_digits refl (index_has lower_digits k e)
+
+no_underscore : (bytes : List ℕ) → ¬ Has 95 (encode_lower bytes)
+unfolding encode_with
+no_underscore [] h = h
+no_underscore (b ∷ bytes) (inl e) = no_digit (b / 16) e
+no_underscore (b ∷ bytes) (inr (inl e)) = no_digit (b % 16) e
+no_underscore (b ∷ bytes) (inr (inr h)) = no_underscore bytes h
+
+of_taken : (n : ℕ) (xs : List ℕ) (x : ℕ) → Has x (take n xs) → Has x xs
+of_taken zero xs x h = absurd h
+of_taken (suc n) [] x h = h
+of_taken (suc n) (y ∷ xs) x (inl e) = inl e
+of_taken (suc n) (y ∷ xs) x (inr h) = inr (of_taken n xs x h)
+
+of_dropped : (n : ℕ) (xs : List ℕ) (x : ℕ) → Has x (drop n xs) → Has x xs
+of_dropped zero xs x h = h
+of_dropped (suc n) [] x h = h
+of_dropped (suc n) (y ∷ xs) x h = inr (of_dropped n xs x h)
+
+group_plain : (fingerprint : List ℕ) (k : ℕ) → ¬ Has 95 (group fingerprint k)
+group_plain fingerprint k h = no_underscore fingerprint (of_dropped (16 * k) (encode_lower fingerprint) 95 (of_taken 16 (drop (16 * k) (encode_lower fingerprint)) 95 h))
+
+-- so a text is told by what stands before the last underscores
+behind_last : (xs ys us vs : List ℕ) → ¬ Has 95 us → ¬ Has 95 vs → xs ++ 95 ∷ 95 ∷ us ≡ ys ++ 95 ∷ 95 ∷ vs → xs ≡ ys
+behind_last [] [] us vs p q e = refl
+behind_last [] (y ∷ []) us vs p q e = absurd (p (subst (Has 95) (let rest : 95 ∷ vs ≡ us = cc in rest) (inl refl)))
+behind_last [] (y ∷ z ∷ ys) us vs p q e = absurd (p (subst (Has 95) (let rest : ys ++ 95 ∷ 95 ∷ vs ≡ us = cc in rest) (Has_right 95 ys (95 ∷ 95 ∷ vs) (inl refl))))
+behind_last (x ∷ []) [] us vs p q e = absurd (q (subst (Has 95) (let rest : 95 ∷ us ≡ vs = cc in rest) (inl refl)))
+behind_last (x ∷ z ∷ xs) [] us vs p q e = absurd (q (subst (Has 95) (let rest : xs ++ 95 ∷ 95 ∷ us ≡ vs = cc in rest) (Has_right 95 xs (95 ∷ 95 ∷ us) (inl refl))))
+behind_last (x ∷ xs) (y ∷ ys) us vs p q e =
     let first : x ≡ y = cc in
-    let rest : xs ++ us ≡ ys ++ vs = cc in
-    λ i. first i ∷ ends_alike xs ys us vs rest l i
+    let rest : xs ++ 95 ∷ 95 ∷ us ≡ ys ++ 95 ∷ 95 ∷ vs = cc in
+    λ i. first i ∷ behind_last xs ys us vs p q rest i
 
 -- the names of tables tell models apart
-group_size : (fingerprint : List ℕ) (k : ℕ) → length fingerprint ≡ 32 → k ≤ 3 → length (group fingerprint k) ≡ 16
-group_size fingerprint k size small =
-    let digits : length (encode_lower fingerprint) ≡ 2 * length fingerprint = length-encode_with lower_digits fingerprint in
-    let rest : length (drop (16 * k) (encode_lower fingerprint)) ≡ length (encode_lower fingerprint) - 16 * k = length-drop (16 * k) (encode_lower fingerprint) in
-    length-take-le 16 (drop (16 * k) (encode_lower fingerprint)) (omega (arith, digits, rest, size, small))
-
-of_one_model : (m n : Name) (f g : List ℕ) (j k : ℕ) → length f ≡ 32 → length g ≡ 32 → j ≤ 3 → k ≤ 3 → table_name m f j ≡ table_name n g k → m ≡ n
-of_one_model m n f g j k a b small few e =
+of_one_model : (m n : Name) (f g : List ℕ) (j k : ℕ) → table_name m f j ≡ table_name n g k → m ≡ n
+of_one_model m n f g j k e =
     let schemas : m.schema ≡ n.schema = append_cancel_left (codes "sqlmesh__") m.schema n.schema (ap (λ (t : Name). t.schema) e) in
     let tail : List ℕ → List ℕ → List ℕ = λ model last. codes "__" ++ (model ++ (codes "__" ++ last)) in
     let whole : m.schema ++ tail m.model (group f j) ≡ m.schema ++ tail n.model (group g k) = ap (λ (t : Name). t.model) e ∙ ap (λ s. s ++ tail n.model (group g k)) (sym schemas) in
     let later : tail m.model (group f j) ≡ tail n.model (group g k) = append_cancel_left m.schema (tail m.model (group f j)) (tail n.model (group g k)) whole in
     let behind : m.model ++ (codes "__" ++ group f j) ≡ n.model ++ (codes "__" ++ group g k) =
     append_cancel_left (codes "__") (m.model ++ (codes "__" ++ group f j)) (n.model ++ (codes "__" ++ group g k)) later in
-    let sizes : length (codes "__" ++ group f j) ≡ length (codes "__" ++ group g k) =
-    length-append (codes "__") (group f j) ∙ ap (λ l. 2 + l) (group_size f j a small ∙ sym (group_size g k b few)) ∙ sym (length-append (codes "__") (group g k)) in
-    let models : m.model ≡ n.model = ends_alike m.model n.model (codes "__" ++ group f j) (codes "__" ++ group g k) behind sizes in
+    let models : m.model ≡ n.model = behind_last m.model n.model (group f j) (group g k) (group_plain f j) (group_plain g k) behind in
     λ i. record { schema = schemas i; model = models i }
 
 find_has : {A : Type 0} (p : A → Bool) (xs : List A) (x : A) → find p xs ≡ Some x → Has x xs
@@ -76,17 +104,10 @@ find_has p (y ∷ xs) x e = go (p y) e (find_has p xs x)
     go true e rest = inl (let same : y ≡ x = cc in same)
     go false e rest = inr (rest e)
 
-small_place : (k : ℕ) → Has k (0 ∷ 1 ∷ 2 ∷ 3 ∷ []) → k ≤ 3
-small_place k (inl e) = omega (arith, e)
-small_place k (inr (inl e)) = omega (arith, e)
-small_place k (inr (inr (inl e))) = omega (arith, e)
-small_place k (inr (inr (inr (inl e)))) = omega (arith, e)
-small_place k (inr (inr (inr (inr h)))) = absurd h
-
-fresh_is : (all : List Snapshot) (m : Name) (f : List ℕ) (object : Name) → fresh all m f ≡ Some object → (k : ℕ) × ((k ≤ 3) × (table_name m f k ≡ object))
+fresh_is : (all : List Snapshot) (m : Name) (f : List ℕ) (object : Name) → fresh all m f ≡ Some object → (k : ℕ) × (table_name m f k ≡ object)
 fresh_is all m f object e =
     let (k, h, same) = Has_map_from (table_name m f) (0 ∷ 1 ∷ 2 ∷ 3 ∷ []) object (find_has (is_free all f) (map (table_name m f) (0 ∷ 1 ∷ 2 ∷ 3 ∷ [])) object e) in
-    (k, (small_place k h, same))
+    (k, same)
 
 -- the models of a project have distinct names
 no_other : (nodes : List Node) (name : Name) → has_node nodes name ≡ false → (i : ℕ) (n : Node) → slice_get nodes i ≡ Some n → ¬ (n.own.name ≡ name)
@@ -118,8 +139,7 @@ one_place (x ∷ nodes) d (suc i) zero m n e f same =
 one_place (x ∷ nodes) d (suc i) (suc j) m n e f same = ap suc (one_place nodes (parts (has_node nodes x.own.name) (have_distinct_names nodes) d).1 i j m n e f same)
 
 module _ (clock : Clock) (b : Book) (nodes : List Node) (restate : Option Restate) (plan : Plan)
-    (well : is_well_formed_book b ≡ true) (proper : is_proper nodes ≡ true) (is : IsPlan clock b nodes restate plan) (shared : SharesWithTwins b)
-    (long : (n : Node) → Contains nodes n → length n.fingerprint ≡ 32) where
+    (well : is_well_formed_book b ≡ true) (proper : is_proper nodes ≡ true) (is : IsPlan clock b nodes restate plan) (shared : SharesWithTwins b) where
   abbrev all : List Snapshot
   all = b.snapshots
 
@@ -154,17 +174,11 @@ module _ (clock : Clock) (b : Book) (nodes : List Node) (restate : Option Restat
         sym (given clock b nodes restate plan well proper is shared i p e s known at).0
         ∙ (given clock b nodes restate plan well proper is shared j q f s known (at ∙ share)).0
 
-    its_size : (k : ℕ) (r : Planned) → slice_get plan.models k ≡ Some r → length r.node.fingerprint ≡ 32
-    its_size k r g = long r.node (there nodes k r.node (node_at b well nodes proper plan.models is.models is.closed (λ j q f. (each_at (HasNoClash b plan.models) plan.models is.clashes j q f).stored) k r g))
-      where
-        there : (ns : List Node) (k : ℕ) (n : Node) → slice_get ns k ≡ Some n → Contains ns n
-        there ns k n g = (k, slice_get_within ns k n g, get_or_from_slice_get ns k n n g)
-
     of_fresh : Fresh p → Fresh q → p.node.own.name ≡ q.node.own.name
     of_fresh x y =
-        let (k, (small, is_p)) = fresh_is all p.node.own.name p.node.fingerprint p.object x in
-        let (l, (few, is_q)) = fresh_is all q.node.own.name q.node.fingerprint q.object y in
-        of_one_model p.node.own.name q.node.own.name p.node.fingerprint q.node.fingerprint k l (its_size i p e) (its_size j q f) small few (is_p ∙ share ∙ sym is_q)
+        let (k, is_p) = fresh_is all p.node.own.name p.node.fingerprint p.object x in
+        let (l, is_q) = fresh_is all q.node.own.name q.node.fingerprint q.object y in
+        of_one_model p.node.own.name q.node.own.name p.node.fingerprint q.node.fingerprint k l (is_p ∙ share ∙ sym is_q)
 
     one_name : Stored p ⊎ Fresh p → Stored q ⊎ Fresh q → p.node.own.name ≡ q.node.own.name
     one_name (inl (s, (known, at))) o = of_stored s known at

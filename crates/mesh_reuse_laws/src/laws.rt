@@ -88,10 +88,10 @@ pub fn given_tables_are_of_twins()
         (s.name ≡ p.node.own.name) × IsTwin (closing b.snapshots s) p.closure }
 {}
 
-/// No two models of such a plan are given one table, where the fingerprints of the project have 32 bytes.
+/// No two models of such a plan are given one table.
 pub fn no_table_is_given_twice()
     ensures { (clock : Clock) (b : Book) (nodes : List Node) (restate : Option Restate) (plan : Plan) → is_well_formed_book b ≡ true → is_proper nodes ≡ true → IsPlan clock b nodes restate plan →
-        SharesWithTwins b → ((n : Node) → Contains nodes n → length n.fingerprint ≡ 32) →
+        SharesWithTwins b →
         (p q : Planned) → Contains plan.models p → Contains plan.models q → p.object ≡ q.object → p ≡ q }
 {}
 
@@ -102,5 +102,5 @@ pub fn plans_keep_tables_for_twins()
     ensures put { (clock : Clock) (before : Book) (nodes : List Node) (restate : Option Restate) (plan : Plan) (t : ℤ) → is_well_formed_book before ≡ true → is_proper nodes ≡ true → IsPlan clock before nodes restate plan →
         (some : List Planned) → ((p : Planned) → Contains some p → Contains plan.models p) → HasPut t plan.models before (fold put_snapshot before (map (snapshot_of t plan.models) some)) }
     ensures shared { (clock : Clock) (before after : Book) (nodes : List Node) (restate : Option Restate) (plan : Plan) (t : ℤ) → is_well_formed_book before ≡ true → is_proper nodes ≡ true → IsPlan clock before nodes restate plan →
-        SharesWithTwins before → ((n : Node) → Contains nodes n → length n.fingerprint ≡ 32) → is_well_formed_book after ≡ true → HasPut t plan.models before after → SharesWithTwins after }
+        SharesWithTwins before → is_well_formed_book after ≡ true → HasPut t plan.models before after → SharesWithTwins after }
 {}

@@ -21,7 +21,6 @@ use Rattle.mesh_due.specs.Parts.{Parts, either, is_among, no_parts, object_of, s
 use Rattle.mesh_due.specs.Plans.{Planned, is_planned}
 use Rattle.mesh_changes.specs.Changes.{Plan}
 use Rattle.mesh_changes.specs.Commands.{Command, Apply, RunAll, Janitor, Ingest, Invalidate, MigrateAll, Nothing, allows, changes}
-use Rattle.mesh_changes.specs.Environments.{is_env_name, prod}
 use Rattle.mesh_changes.specs.Planning.{IsPlan, IsRunPlan}
 use Rattle.mesh_sound.specs.Final.{Final}
 use Rattle.mesh_sound.specs.Moved.{moved}
@@ -80,7 +79,6 @@ pub record IsApplied (clock : Clock) (w : World) (plan : Plan) : Type 0 where
   pub nodes : List Node
   pub restate : Option Restate
   pub proper : IsTrue (is_proper nodes)
-  pub name : IsTrue (is_env_name plan.env)
   pub moment : IsTrue (is_moment plan.moment)
   pub planned : IsPlan clock w.book nodes restate plan
 
@@ -89,7 +87,6 @@ abbrev pub IsAsked : Clock → World → Command → Type 0
 IsAsked clock w (Apply plan) = IsApplied clock w plan
 IsAsked clock w (RunAll plan) = IsTrue (is_moment plan.moment) × IsRunPlan clock w.book plan
 IsAsked clock w (Janitor t) = IsTrue (is_moment t)
-IsAsked clock w (Invalidate env) = ¬ (env ≡ prod)
 IsAsked clock w other = Unit {0}
 
 -- a command is asked for in a world whose moment the first clock shows; the second shows the moment that it is judged at
@@ -141,3 +138,9 @@ abbrev pub ShowsRowsFromScratch : Type 0
 ShowsRowsFromScratch =
     (w : World) (x : Parts) → History w x → (plan : Plan) (before after : Clock) → IsMet before after w (Apply plan) → IsTrue (allows w (Apply plan)) → Settles after (Apply plan) w (met before after (Apply plan) w x) →
     Final (run w (changes after (Apply plan) w)) after plan.env plan.models
+
+-- and so does a run
+abbrev pub RunsShowRowsFromScratch : Type 0
+RunsShowRowsFromScratch =
+    (w : World) (x : Parts) → History w x → (plan : Plan) (before after : Clock) → IsMet before after w (RunAll plan) → IsTrue (allows w (RunAll plan)) → Settles after (RunAll plan) w (met before after (RunAll plan) w x) →
+    Final (run w (changes after (RunAll plan) w)) after plan.env plan.models

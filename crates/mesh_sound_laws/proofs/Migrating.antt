@@ -129,12 +129,12 @@ module _ (x : Parts) (w : World) (sound : Sound x w) (renames : List Rename) (fi
   refs_move : (s : Snapshot) → snapshot_ref (fs s) ≡ rn (snapshot_ref s)
   refs_move s = ref_by (found ref_cmp rename_old (snapshot_ref s) renames) s
 
-  there : (r : Ref) (s : Snapshot) → snapshot_at all r ≡ Some s → snapshot_at new (rn r) ≡ Some (fs s)
+  pub there : (r : Ref) (s : Snapshot) → snapshot_at all r ≡ Some s → snapshot_at new (rn r) ≡ Some (fs s)
   there r s e =
       found_ordered ref_cmp refs_total refs_exact snapshot_ref (rn r) (renamed_all renames all)
       ∙ found_anew ref_cmp refs_total refs_exact snapshot_ref (renamed_snapshot renames) (renamed renames) refs_move r all s fine e
 
-  still : (s : Snapshot) → IsSnapshot all s → IsSnapshot new (fs s)
+  pub still : (s : Snapshot) → IsSnapshot all s → IsSnapshot new (fs s)
   still s known = ap (snapshot_at new) (refs_move s) ∙ there (snapshot_ref s) s known
 
   snapshots_fit : all_fit (is_snapshot_fit w.book.version all) None all ≡ true
@@ -253,7 +253,7 @@ module _ (x : Parts) (w : World) (sound : Sound x w) (renames : List Rename) (fi
   envs_up [] = refl
   envs_up (e ∷ es) = λ i. below_envs e.name es i && envs_up es i
 
-  env_found : (n : List ℕ) (es : List Env) → found text_cmp env_name n (map fe es) ≡ option_map fe (found text_cmp env_name n es)
+  pub env_found : (n : List ℕ) (es : List Env) → found text_cmp env_name n (map fe es) ≡ option_map fe (found text_cmp env_name n es)
   env_found n [] = refl
   env_found n (e ∷ es) = go (is_eq (text_cmp e.name n)) (env_found n es)
     where
@@ -270,7 +270,7 @@ module _ (x : Parts) (w : World) (sound : Sound x w) (renames : List Rename) (fi
           let same : fe old ≡ e = cc in
           (old, ap (λ (f : Env). env_at w.book f.name) same ∙ is, same)
 
-  well : is_well_formed_book after.book ≡ true
+  pub well : is_well_formed_book after.book ≡ true
   well =
       let front = and_left (is_moment w.book.moment && is_version w.book.version) _ sound.book.well_formed in
       let one = and_right (is_moment w.book.moment && is_version w.book.version) _ sound.book.well_formed in
@@ -280,7 +280,7 @@ module _ (x : Parts) (w : World) (sound : Sound x w) (renames : List Rename) (fi
       (and_both _ _ (and_left (all_fit (is_above name_cmp version_object) None w.book.versions) _ two)
       (all_keep text_cmp env_name (env_own new) (is_env_fit new) (λ b e. refl) (map fe w.book.environments) (envs_up w.book.environments ∙ envs_rise x w sound) (envs_own w.book.environments (envs_keep x w sound)))))
 
-  closing_same : (p : Snapshot) → IsSnapshot all p → closing new (fs p) ≡ closing all p
+  pub closing_same : (p : Snapshot) → IsSnapshot all p → closing new (fs p) ≡ closing all p
   closing_same p known =
       let moved : (step w (Migrate renames)).book.snapshots ≡ new = ap (λ (t : Bool). (cond t w.book (record w.book { version = 2; snapshots = new; environments = map fe w.book.environments })).snapshots) fine in
       let h : closure_at new (rn (snapshot_ref p)) ≡ closure_at all (snapshot_ref p) =

@@ -4,14 +4,15 @@ use Rattle.std.specs.declared.option.Option.{Option}
 use Rattle.mesh_base.specs.declared.forgets.Restate.{Restate}
 use Rattle.mesh_io.specs.Told.{ClockTold, FolderTold}
 use Rattle.mesh_list.specs.Counts.{Rose}
+use Rattle.mesh_days.specs.Moments.{IsMoment}
 use Rattle.mesh_house.specs.declared.world.Change.{Change}
 use Rattle.mesh_house.specs.declared.world.World.{World}
 use Rattle.mesh_house.specs.House.{Told}
 use Rattle.mesh_printed.specs.declared.printed.refusals.Refusal.{Refusal}
 use Rattle.mesh_printed.specs.declared.printed.refusals.Refusal.TheVariants.{Memory}
 use Rattle.mesh_cli.specs.demo.Demos.{IsDemo}
-use Rattle.mesh_line.specs.declared.line.Command.TheVariants.{Plan, Apply, Janitor, Demo}
-use Rattle.mesh_applying.specs.Applying.{ApplyGives, ApplyMakes}
+use Rattle.mesh_line.specs.declared.line.Command.TheVariants.{Plan, Apply, Run, Janitor, Demo}
+use Rattle.mesh_applying.specs.Applying.{ApplyGives, ApplyMakes, RunGives, RunMakes}
 use Rattle.mesh_applying.specs.Loaded.{IsProject, OfProject}
 use Rattle.mesh_asking.specs.upkeep.Upkeep.{JanitorGives, JanitorMakes}
 use Rattle.mesh_commands.specs.Answers.{Answers, IsAsked}
@@ -38,7 +39,7 @@ module _ (dir env : List ℕ) (workers : ℕ) (moment : Option ℤ) (again : Opt
   -- an apply at its moment
   pub applied_at : Commanded dir (Apply env workers moment again) (sides f k h) (sides f' k' h') answer
   applied_at = record {
-    house = answers_so _ _ _ _ h h' (λ w told list makes. (given, subst (IsAt moment k.moment) (sym same) timed.is_at, makes)) (λ w told r gives. (given, subst (IsAt moment k.moment) (sym same) timed.is_at, gives)) answer (reaching _ _ h h' answer (λ rose. inl rose) by);
+    house = answers_so _ _ _ _ h h' (λ w told list makes. (given, subst (IsAt moment k.moment) (sym same) timed.is_at, subst IsMoment (sym same) timed.within, makes)) (λ w told r gives. (given, subst (IsAt moment k.moment) (sym same) timed.is_at, subst IsMoment (sym same) timed.within, gives)) answer (reaching _ _ h h' answer (λ rose. inl rose) by);
     files = asked.files;
     moment = timed.moment;
     folder = asked.faults;
@@ -51,7 +52,7 @@ module _ (dir env : List ℕ) (workers : ℕ) (moment : Option ℤ) (again : Opt
   -- a plan that is applied at once
   pub planned_at : Commanded dir (Plan env true workers moment again) (sides f k h) (sides f' k' h') answer
   planned_at = record {
-    house = answers_so _ _ _ _ h h' (λ w told list makes. (given, subst (IsAt moment k.moment) (sym same) timed.is_at, makes)) (λ w told r gives. (given, subst (IsAt moment k.moment) (sym same) timed.is_at, gives)) answer (reaching _ _ h h' answer (λ rose. inl rose) by);
+    house = answers_so _ _ _ _ h h' (λ w told list makes. (given, subst (IsAt moment k.moment) (sym same) timed.is_at, subst IsMoment (sym same) timed.within, makes)) (λ w told r gives. (given, subst (IsAt moment k.moment) (sym same) timed.is_at, subst IsMoment (sym same) timed.within, gives)) answer (reaching _ _ h h' answer (λ rose. inl rose) by);
     files = asked.files;
     moment = timed.moment;
     folder = asked.faults;
@@ -61,11 +62,25 @@ module _ (dir env : List ℕ) (workers : ℕ) (moment : Option ℤ) (again : Opt
     unused = λ e. absurd (let clash : true ≡ false = e in cc);
   }
 
+-- a run at its moment
+pub ran_at : (dir env : List ℕ) (workers : ℕ) (moment : Option ℤ) (f : FolderTold) (k k' : ClockTold) (h h' : Told) (t given : ℤ) (answer : Result (List ℕ) Refusal)
+    → given ≡ t → Timed moment k k' (Ok t) → Answers ⊥ (RunMakes env given) (RunGives env given) h h' answer → Commanded dir (Run env workers moment) (sides f k h) (sides f k' h') answer
+ran_at dir env workers moment f k k' h h' t given answer same timed by = record {
+  house = answers_so _ _ _ _ h h' (λ w told list makes. (given, subst (IsAt moment k.moment) (sym same) timed.is_at, subst IsMoment (sym same) timed.within, makes)) (λ w told r gives. (given, subst (IsAt moment k.moment) (sym same) timed.is_at, subst IsMoment (sym same) timed.within, gives)) answer (reaching _ _ h h' answer (λ e. absurd e) by);
+  files = refl;
+  moment = timed.moment;
+  folder = omega arith;
+  clock = timed.faults;
+  unread = λ e. refl;
+  unasked = timed.unasked;
+  unused = λ e. absurd (let clash : true ≡ false = e in cc);
+}
+
 -- a sweep at its moment
 pub swept_at : (dir : List ℕ) (moment : Option ℤ) (f : FolderTold) (k k' : ClockTold) (h h' : Told) (t given : ℤ) (answer : Result (List ℕ) Refusal)
     → given ≡ t → Timed moment k k' (Ok t) → Answers ⊥ (JanitorMakes given) (JanitorGives given) h h' answer → Commanded dir (Janitor moment) (sides f k h) (sides f k' h') answer
 swept_at dir moment f k k' h h' t given answer same timed by = record {
-  house = answers_so _ _ _ _ h h' (λ w told list makes. (given, subst (IsAt moment k.moment) (sym same) timed.is_at, makes)) (λ w told r gives. (given, subst (IsAt moment k.moment) (sym same) timed.is_at, gives)) answer (reaching _ _ h h' answer (λ e. absurd e) by);
+  house = answers_so _ _ _ _ h h' (λ w told list makes. (given, subst (IsAt moment k.moment) (sym same) timed.is_at, subst IsMoment (sym same) timed.within, makes)) (λ w told r gives. (given, subst (IsAt moment k.moment) (sym same) timed.is_at, subst IsMoment (sym same) timed.within, gives)) answer (reaching _ _ h h' answer (λ e. absurd e) by);
   files = refl;
   moment = timed.moment;
   folder = omega arith;

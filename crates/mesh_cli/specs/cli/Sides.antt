@@ -54,6 +54,6 @@ pub record Timed (given : Option ℤ) (old new : ClockTold) (result : Result ℤ
   pub fault : IfErr result (λ r. (r ≡ Input) ⊎ (r ≡ Memory))
   pub unasked : is_open given ≡ false → new ≡ old
 
--- this holds of the moment
+-- this holds of the moment, which is one of the calendar
 abbrev pub AtMoment : Option ℤ → Option ℤ → (ℤ → Type 0) → Type 0
-AtMoment given now of = (t : ℤ) × IsAt given now t × of t
+AtMoment given now of = (t : ℤ) × IsAt given now t × IsMoment t × of t
