@@ -1,0 +1,2 @@
+-- Along: what is known along a list of changes.
+pub mod Along

@@ -1,0 +1,121 @@
+-- The models of a plan are made and filled one after another, whatever the rows of any are, and then some last changes come.
+use Rattle.std.proofs.Common.{◌≡◌, true, ◌⊎◌, inl, inr, List, [], ◌∷◌, ◌++◌, refl, sym, ◌∙◌, subst}
+use Rattle.std.specs.List.{AllByRecursion}
+use Rattle.std.proofs.lemmas.List.{append-nil, append_assoc}
+use Rattle.mesh_base.specs.declared.forgets.Forget.{Forget}
+use Rattle.mesh_base.specs.declared.snapshots.Snapshot.{Snapshot}
+use Rattle.mesh_book.specs.declared.book.Book.{Book}
+use Rattle.mesh_scratch.specs.Horizons.{Clock, Shows}
+use Rattle.mesh_laws.proofs.Has.{Has, Has_cases, Has_from, Has_left, Has_right, Has_to}
+use Rattle.mesh_house.specs.declared.world.Change.{Change}
+use Rattle.mesh_house.specs.declared.world.World.{World}
+use Rattle.mesh_due.specs.Parts.{Parts, object_of}
+use Rattle.mesh_due.specs.Plans.{Planned}
+use Rattle.mesh_changes.specs.Changes.{executes, parents_in}
+use Rattle.mesh_sound.specs.Sound.{Sound}
+use Rattle.mesh_along.specs.Filled.{IsOfObject}
+use Rattle.mesh_along.specs.Ready.{AreApart, AreRanked, IsOpened, IsPlaced}
+use Rattle.mesh_promise_laws.proofs.InTurn.{all_of, each_of}
+use Rattle.mesh_promise_laws.proofs.Promoting.{IsModelMade}
+use Rattle.mesh_formed_laws.proofs.Formed.{FormedAlong}
+use Rattle.mesh_formed_laws.proofs.Making.{IsThere}
+use Rattle.mesh_formed_laws.proofs.One.{model_formed}
+
+-- All models of a plan are made: the book has the snapshots and the environments that it had.
+pub record AreFormed (all : List Planned) (base : World) (z : Parts) (w : World) : Type 0 where
+  pub sound : Sound z w
+  pub snapshots : w.book.snapshots ≡ base.book.snapshots
+  pub environments : w.book.environments ≡ base.book.environments
+  pub made : (p : Planned) → Has p all → IsModelMade w.book p
+
+module _ (clock : Clock) (b : Book) (forgets : List Forget) (all : List Planned) (z : Parts) (base : World) (now : Shows clock base.book.moment) (placed : (p : Planned) → Has p all → IsPlaced all base.book.snapshots p)
+    (doubtful : (p : Planned) → Has p all → (q : Forget) → object_of q ≡ p.object → z q ≡ true) (last : List Change) (ends : (v : World) → AreFormed all base z v → FormedAlong z v last) where
+  -- the models so far are made, and the others wait
+  record IsMidway (before ps : List Planned) (w : World) : Type 0 where
+    sound : Sound z w
+    moment : w.book.moment ≡ base.book.moment
+    snapshots : w.book.snapshots ≡ base.book.snapshots
+    environments : w.book.environments ≡ base.book.environments
+    whole : before ++ ps ≡ all
+    made : (q : Planned) → Has q before → IsModelMade w.book q
+    opened : (q : Planned) → Has q ps → IsOpened clock b forgets w.book q
+    ranked : AreRanked all before ps
+    others : (q : Planned) → Has q before → (p : Planned) → Has p ps → ¬ (q.object ≡ p.object)
+    apart : AreApart ps
+
+  -- a model's turn
+  module _ (before : List Planned) (p : Planned) (ps : List Planned) (w : World) (m : IsMidway before (p ∷ ps) w) where
+    its : Has p all
+    its = subst (Has p) m.whole (Has_right p before (p ∷ ps) (inl refl))
+
+    there : (q : Planned) → Has q all → IsPlaced all w.book.snapshots q
+    there q h = subst (λ (ss : List Snapshot). IsPlaced all ss q) (sym m.snapshots) (placed q h)
+
+    parents : AllByRecursion (IsThere all w.book) (parents_in all p)
+    parents =
+        all_of (IsThere all w.book) (parents_in all p)
+        (λ q i. let h : Has q before = Has_from before q (m.ranked.0 q (Has_to (parents_in all p) q i)) in
+        (there q (subst (Has q) m.whole (Has_left q before (p ∷ ps) h)), m.made q h))
+
+    -- another model's version stays
+    module _ (v : World) (sound : Sound z v) (made : IsModelMade v.book p) (only : IsOfObject p.object w v) where
+      made_on : (q : Planned) → ¬ (q.object ≡ p.object) → IsModelMade w.book q → IsModelMade v.book q
+      made_on q other h = (h.0, only.versions q.object other ∙ h.1, h.2)
+
+      opened_on : (q : Planned) → ¬ (q.object ≡ p.object) → IsOpened clock b forgets w.book q → IsOpened clock b forgets v.book q
+      opened_on q other h = record { version = h.version; known = only.versions q.object other ∙ h.known; made = h.made; rest = h.rest }
+
+      its_own : (q : Planned) → Has q ps → ¬ (p.object ≡ q.object)
+      its_own q i = each_of (λ (r : Planned). ¬ (p.object ≡ r.object)) ps m.apart.0 q i
+
+      made_then : (q : Planned) → Has q before ⊎ Has q (p ∷ []) → IsModelMade v.book q
+      made_then q (inl i) = made_on q (m.others q i p (inl refl)) (m.made q i)
+      made_then q (inr (inl e)) = subst (IsModelMade v.book) e made
+      made_then q (inr (inr i)) = absurd i
+
+      others_then : (q : Planned) → Has q before ⊎ Has q (p ∷ []) → (r : Planned) → Has r ps → ¬ (q.object ≡ r.object)
+      others_then q (inl i) r j = m.others q i r (inr j)
+      others_then q (inr (inl e)) r j = subst (λ (s : Planned). ¬ (s.object ≡ r.object)) e (its_own r j)
+      others_then q (inr (inr i)) r j = absurd i
+
+      next : IsMidway (before ++ p ∷ []) ps v
+      next = record {
+        sound = sound;
+        moment = only.moment ∙ m.moment;
+        snapshots = only.snapshots ∙ m.snapshots;
+        environments = only.environments ∙ m.environments;
+        whole = append_assoc before (p ∷ []) ps ∙ m.whole;
+        made = λ q i. made_then q (Has_cases q before (p ∷ []) i);
+        opened = λ q i. opened_on q (λ e. its_own q i (sym e)) (m.opened q (inr i));
+        ranked = m.ranked.1;
+        others = λ q i. others_then q (Has_cases q before (p ∷ []) i);
+        apart = m.apart.1;
+      }
+
+  turn : (before ps : List Planned) (w : World) → IsMidway before ps w → FormedAlong z w (executes clock b forgets all last ps w)
+  turn before [] w m = ends w (record {
+    sound = m.sound;
+    snapshots = m.snapshots;
+    environments = m.environments;
+    made = λ q i. m.made q (subst (Has q) (sym m.whole ∙ append-nil before) i);
+  })
+  turn before (p ∷ ps) w m =
+      model_formed clock b forgets all p z w m.sound (subst (Shows clock) (sym m.moment) now) (there before p ps w m p (its before p ps w m)) (m.opened p (inl refl)) (parents before p ps w m) (doubtful p (its before p ps w m))
+      (executes clock b forgets all last ps) (λ v sound made only. turn (before ++ p ∷ []) ps v (next before p ps w m v sound made only))
+
+  -- all models of a plan, and then the last changes
+  pub models_formed : Sound z base → ((p : Planned) → Has p all → IsOpened clock b forgets base.book p) → AreApart all → AreRanked all [] all → FormedAlong z base (executes clock b forgets all last all base)
+  models_formed sound opened apart ranked =
+      turn [] all base
+      (record {
+        sound = sound;
+        moment = refl;
+        snapshots = refl;
+        environments = refl;
+        whole = refl;
+        made = λ q i. absurd i;
+        opened = opened;
+        ranked = ranked;
+        others = λ q i. absurd i;
+        apart = apart;
+      })

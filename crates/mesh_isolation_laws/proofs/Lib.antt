@@ -1,0 +1,20 @@
+-- Elsewhere: what a change leaves of the environments, the views and the objects that it isn't about.
+pub mod Elsewhere
+-- Fills: what makes and fills a plan's models is about their objects alone.
+pub mod Fills
+-- Others: the environments that a command doesn't switch.
+pub mod Others
+-- Holds: what holds at each exit of a list of changes.
+pub mod Holds
+-- Rows: a table that keeps the rows of a part of it.
+pub mod Rows
+-- Units: an incremental table keeps the rows of a unit.
+pub mod Units
+-- Turns: what holds while the models of a plan are made and filled one after another.
+pub mod Turns
+-- Models: a recorded model is filled in its turn with the rows that it has.
+pub mod Models
+-- Plans: what holds of a table at each exit of an apply and of a run.
+pub mod Plans
+-- Recorded: what is recorded of a table and isn't in doubt keeps its rows.
+pub mod Recorded

@@ -1,0 +1,193 @@
+-- A model whose table is recorded is filled in its turn with the rows that it has: those from scratch.
+use Rattle.std.proofs.Common.{◌≡◌, ℕ, Bool, true, false, cond, not, ◌&&◌, List, [], ◌∷◌, ◌++◌, map, Some, refl, sym, ◌∙◌, ap, subst, IsSome}
+use Rattle.std.specs.List.{AllByRecursion, Contains, filter, flat_map}
+use Rattle.std.specs.Option.{is_some, option_map}
+use Rattle.std.specs.declared.option.Option.{Option}
+use Rattle.mesh_values.specs.Bag.{IsSameBag}
+use Rattle.mesh_values.specs.declared.kinds.Kind.{Kind}
+use Rattle.mesh_values.specs.declared.kinds.Kind.TheVariants.{Full, View, Seed, Incremental}
+use Rattle.mesh_values.specs.declared.times.Bounds.{Bounds}
+use Rattle.mesh_values.specs.declared.values.Cell.{Cell}
+use Rattle.mesh_values.specs.declared.values.Name.{Name}
+use Rattle.mesh_base.specs.declared.definitions.Own.{Own}
+use Rattle.mesh_base.specs.declared.forgets.Forget.{Forget}
+use Rattle.mesh_base.specs.declared.forgets.Forget.TheVariants.{Marks}
+use Rattle.mesh_base.specs.declared.jobs.Input.{Input}
+use Rattle.mesh_base.specs.declared.snapshots.Snapshot.{Snapshot}
+use Rattle.mesh_book.specs.declared.book.Book.{Book}
+use Rattle.mesh_book.specs.declared.versions.Version.{Version}
+use Rattle.mesh_scratch.specs.Closures.{Closure, own_of}
+use Rattle.mesh_scratch.specs.Horizons.{Clock, Shows, schedule}
+use Rattle.mesh_scratch.specs.Scratch.{defn_rows, from_scratch, is_of_unit, no_bounds, piece, piece_over}
+use Rattle.mesh_laws.proofs.Has.{Has, Has_to}
+use Rattle.mesh_house.specs.Step.{step}
+use Rattle.mesh_house.specs.World.{version_of}
+use Rattle.mesh_house.specs.declared.world.Change.{Change}
+use Rattle.mesh_house.specs.declared.world.Change.TheVariants.{RecordMarks, ReplaceRows}
+use Rattle.mesh_house.specs.declared.world.World.{World}
+use Rattle.mesh_listed.specs.Closing.{closing}
+use Rattle.mesh_reuse.specs.Cores.{IsTwin}
+use Rattle.mesh_reuse_laws.proofs.Sharing.{same_pieces, same_rows, same_schedules}
+use Rattle.mesh_due.specs.Dues.{due, due_of, due_units}
+use Rattle.mesh_due.specs.Marks.{marks}
+use Rattle.mesh_due.specs.Parts.{Parts, is_among, unit_of}
+use Rattle.mesh_due.specs.Plans.{Planned, are_marks, is_made, marks_of}
+use Rattle.mesh_due.proofs.Ordered.{due_iff}
+use Rattle.mesh_changes.specs.Changes.{ascending, fill, fills, is_any, makes, parents_in, tables_for, tables_read}
+use Rattle.mesh_sound.specs.Current.{IsReadable}
+use Rattle.mesh_sound.specs.Sound.{Sound}
+use Rattle.mesh_sound.proofs.Filled.{model_filled}
+use Rattle.mesh_sound.proofs.Tables.{closed_own}
+use Rattle.mesh_along.specs.Filled.{making_of}
+use Rattle.mesh_along.specs.Ready.{IsPlaced}
+use Rattle.mesh_put_laws.proofs.Tables.{twin_own}
+use Rattle.mesh_fill_laws.proofs.Twins.{planned_known}
+use Rattle.mesh_fill_laws.proofs.Unit.{unit_changes}
+use Rattle.mesh_isolation_laws.proofs.Holds.{HoldsAlong}
+use Rattle.mesh_isolation_laws.proofs.Rows.{Keeps, keeps_elsewhere, keeps_replaced}
+use Rattle.mesh_isolation_laws.proofs.Turns.{FillsAgain}
+use Rattle.mesh_isolation_laws.proofs.Units.{units_hold}
+
+own_closing : (all : List Snapshot) (s : Snapshot) → own_of (closing all s) ≡ s.own
+own_closing all s = ap own_of (closed_own all s.rank s).1
+
+some_list : (xs ys : List Change) → Some xs ≡ Some ys → xs ≡ ys
+some_list xs ys e = cc
+
+module _ (clock : Clock) (b : Book) (forgets : List Forget) (all : List Planned) (snapshots : List Snapshot) (s : Snapshot) (v : Version) (at : version_of b s.object ≡ Some v)
+    (made : v.made ≡ true) (sources : List Input)
+    (p : Planned) (its : p.object ≡ s.object) (twin : IsTwin (closing snapshots s) p.closure) (x : Parts) (u : World) (sound : Sound x u) (now : Shows clock u.book.moment)
+    (placed : IsPlaced all u.book.snapshots p)
+    (readable : AllByRecursion (IsReadable clock x u.book) (parents_in all p)) (same : u.sources ≡ sources) where
+  abbrev c : Closure
+  c = closing snapshots s
+
+  -- the model has the snapshot's definition
+  own_is : p.node.own ≡ s.own
+  own_is = sym placed.own ∙ sym (own_closing u.book.snapshots placed.snapshot) ∙ ap own_of placed.closure ∙ sym (twin_own c p.closure twin) ∙ own_closing snapshots s
+
+  kind_is : (kind : Kind) → s.own.kind ≡ kind → p.node.own.kind ≡ kind
+  kind_is kind is = ap (λ (o : Own). o.kind) own_is ∙ is
+
+  version_is : version_of b p.object ≡ Some v
+  version_is = ap (version_of b) its ∙ at
+
+  -- its table is made already
+  none_made : (kind : Kind) → s.own.kind ≡ kind → (kind ≡ View → ⊥) → making_of clock b forgets all p ≡ []
+  none_made kind is table = ap (λ (m : Bool). makes m all p p.node.own.kind (is_any (due clock b forgets p))) (ap is_made version_is ∙ made) ∙ go kind (kind_is kind is) table
+    where
+      go : (k : Kind) → p.node.own.kind ≡ k → (k ≡ View → ⊥) → makes true all p p.node.own.kind (is_any (due clock b forgets p)) ≡ []
+      go (Incremental time lookback) e other = ap (λ (k : Kind). makes true all p k (is_any (due clock b forgets p))) e
+      go Full e other = ap (λ (k : Kind). makes true all p k (is_any (due clock b forgets p))) e
+      go Seed e other = ap (λ (k : Kind). makes true all p k (is_any (due clock b forgets p))) e
+      go View e other = absurd (other refl)
+
+  -- nothing fills it where nothing is due
+  due_none : (K : World → Type 0) → K u → due clock b forgets p ≡ [] → (filled : List Change) → fills clock u all p (due clock b forgets p) ≡ Some filled → HoldsAlong K u filled
+  due_none K k none filled e = subst (HoldsAlong K u) (some_list [] filled (sym (ap (fills clock u all p) none) ∙ e)) k
+
+  -- what holds of the model's object holds of the snapshot's
+  module _ (part : Own → List (List Cell) → List (List Cell)) (fixed : List (List Cell)) where
+    abbrev K : World → Type 0
+    K = Keeps part fixed s.object s.own
+
+    of_snapshot : (w : World) (list : List Change) → HoldsAlong (Keeps part fixed p.object p.node.own) w list → HoldsAlong K w list
+    of_snapshot w list h = subst (λ (n : Name). HoldsAlong (Keeps part fixed n s.own) w list) its (subst (λ (o : Own). HoldsAlong (Keeps part fixed p.object o) w list) own_is h)
+
+    of_model : (w : World) → K w → Keeps part fixed p.object p.node.own w
+    of_model w k = subst (λ (o : Own). Keeps part fixed p.object o w) (sym own_is) (subst (λ (n : Name). Keeps part fixed n s.own w) (sym its) k)
+
+  -- an incremental model, with a unit of its schedule
+  module _ (time : List ℕ) (lookback : ℕ) (is : s.own.kind ≡ Incremental time lookback) (d : Bounds) (listed : Contains (schedule clock c) d) where
+    abbrev unit_rows : Own → List (List Cell) → List (List Cell)
+    unit_rows o = filter (is_of_unit o d)
+
+    abbrev fixed : List (List Cell)
+    fixed = piece sources clock c d
+
+    timed : p.node.own.kind ≡ Incremental time lookback
+    timed = kind_is (Incremental time lookback) is
+
+    there : Contains (schedule clock p.closure) d
+    there = subst (λ (us : List Bounds). Contains us d) (same_schedules c p.closure twin clock) listed
+
+    due_there : (e : Bounds) → Has e (due_units clock b forgets p) → Contains (schedule clock p.closure) e
+    due_there e h = ((due_iff clock b forgets p e).0 (Has_to (due_units clock b forgets p) e h)).0
+
+    module _ (tables : List Input) (read : tables_read u all p ≡ Some tables) where
+      flat_same : (us : List Bounds) → flat_map (fill clock p (Incremental time lookback) tables) (map (unit_of p.object) us) ≡ flat_map (unit_changes p time tables) us
+      flat_same [] = refl
+      flat_same (e ∷ es) = ap (λ (l : List Change). unit_changes p time tables e ++ l) (flat_same es)
+
+      fills_are : (us : List Bounds) → fills clock u all p (map (unit_of p.object) us) ≡ Some (flat_map (unit_changes p time tables) us)
+      fills_are [] = refl
+      fills_are (e ∷ es) =
+          ap (λ (k : Kind). option_map (λ ts. flat_map (fill clock p k ts) (map (unit_of p.object) (e ∷ es))) (tables_for u all p k)) timed
+          ∙ ap (option_map (λ (ts : List Input). flat_map (fill clock p (Incremental time lookback) ts) (map (unit_of p.object) (e ∷ es)))) read
+          ∙ ap Some (flat_same (e ∷ es))
+
+      filled_is : fills clock u all p (due clock b forgets p) ≡ Some (flat_map (unit_changes p time tables) (due_units clock b forgets p))
+      filled_is = ap (fills clock u all p) (ap (due_of clock b forgets p) timed) ∙ fills_are (due_units clock b forgets p)
+
+    pub unit_again : Keeps unit_rows fixed s.object s.own u → FillsAgain clock b forgets all (Keeps unit_rows fixed s.object s.own) s.object sources p u
+    unit_again k = record {
+      makes_none = none_made (Incremental time lookback) is (λ f. cc);
+      holds = λ filled e.
+          let read = model_filled x u clock sound now all p placed.snapshot (planned_known x u sound all p placed) placed.own placed.parents readable in
+          let rows_are : piece u.sources clock (closing u.book.snapshots placed.snapshot) d ≡ fixed =
+          (λ i. piece (same i) clock (placed.closure i) d) ∙ sym (same_pieces c p.closure twin sources clock d) in
+          let changes : List Change = flat_map (unit_changes p time read.0) (due_units clock b forgets p) in
+          let held : HoldsAlong (Keeps unit_rows fixed p.object p.node.own) u changes =
+          units_hold clock p time lookback timed read.0 d there fixed (subst (IsSameBag (ascending (piece_over p.node.own read.0 d))) rows_are (read.2 d))
+          (due_units clock b forgets p) due_there u (of_model unit_rows fixed u k) in
+          subst (HoldsAlong (Keeps unit_rows fixed s.object s.own) u) (some_list changes filled (sym (filled_is read.0 read.1) ∙ e)) (of_snapshot unit_rows fixed u changes held);
+    }
+
+  abbrev all_rows : Own → List (List Cell) → List (List Cell)
+  all_rows o rows = rows
+
+  -- a FULL model
+  module _ (is : s.own.kind ≡ Full) where
+    abbrev scratch : List (List Cell)
+    scratch = from_scratch sources clock c
+
+    full : p.node.own.kind ≡ Full
+    full = kind_is Full is
+
+    pub whole_again : Keeps all_rows scratch s.object s.own u → FillsAgain clock b forgets all (Keeps all_rows scratch s.object s.own) s.object sources p u
+    whole_again k = record {
+      makes_none = none_made Full is (λ f. cc);
+      holds = go (are_marks (marks_of (version_of b p.object)) (marks clock p.closure) && not (is_among forgets (Marks p.object))) (ap (due_of clock b forgets p) full);
+    }
+      where
+        go : (m : Bool) → due clock b forgets p ≡ cond m [] (Marks p.object ∷ []) → (filled : List Change) → fills clock u all p (due clock b forgets p) ≡ Some filled
+            → HoldsAlong (Keeps all_rows scratch s.object s.own) u filled
+        go true none filled e = due_none (Keeps all_rows scratch s.object s.own) k none filled e
+        go false some filled e =
+            let read = model_filled x u clock sound now all p placed.snapshot (planned_known x u sound all p placed) placed.own placed.parents readable in
+            let rows : List (List Cell) = ascending (defn_rows p.node.own.defn read.0 no_bounds) in
+            let changes : List Change = ReplaceRows p.object rows ∷ RecordMarks p.object (marks clock p.closure) ∷ [] in
+            let are : fills clock u all p (due clock b forgets p) ≡ Some changes =
+            ap (fills clock u all p) some
+            ∙ ap (λ (k : Kind). option_map (λ tables. flat_map (fill clock p k tables) (Marks p.object ∷ [])) (tables_for u all p k)) full
+            ∙ ap (option_map (λ (tables : List Input). flat_map (fill clock p Full tables) (Marks p.object ∷ []))) read.1 in
+            let rows_are : from_scratch u.sources clock (closing u.book.snapshots placed.snapshot) ≡ scratch =
+            (λ i. from_scratch (same i) clock (placed.closure i)) ∙ sym (same_rows c p.closure twin sources clock) in
+            let first : Keeps all_rows scratch p.object p.node.own u = of_model all_rows scratch u k in
+            let second : Keeps all_rows scratch p.object p.node.own (step u (ReplaceRows p.object rows)) =
+            keeps_replaced all_rows scratch p.object p.node.own u rows first (subst (IsSameBag rows) rows_are (read.3 full)) in
+            let third = keeps_elsewhere all_rows scratch p.object p.node.own (step u (ReplaceRows p.object rows)) (RecordMarks p.object (marks clock p.closure)) tt second in
+            subst (HoldsAlong (Keeps all_rows scratch s.object s.own) u) (some_list changes filled (sym are ∙ e)) (of_snapshot all_rows scratch u changes (first, (second, third)))
+
+  -- a seed that has marks
+  module _ (is : s.own.kind ≡ Seed) (marked : IsSome v.marks) (fixed : List (List Cell)) where
+    seeded : due clock b forgets p ≡ []
+    seeded =
+        ap (due_of clock b forgets p) (kind_is Seed is)
+        ∙ ap (λ (m : Bool). cond m [] (Marks p.object ∷ [])) (ap (λ (o : Option Version). is_some (marks_of o)) version_is ∙ marked)
+
+    pub seed_again : Keeps all_rows fixed s.object s.own u → FillsAgain clock b forgets all (Keeps all_rows fixed s.object s.own) s.object sources p u
+    seed_again k = record {
+      makes_none = none_made Seed is (λ f. cc);
+      holds = λ filled e. due_none (Keeps all_rows fixed s.object s.own) k seeded filled e;
+    }

@@ -1,0 +1,117 @@
+-- What holds of a table at each exit of an apply and of a run, where it holds whenever a model of the table is filled again.
+use Rattle.std.proofs.Common.{◌≡◌, true, List, [], ◌∷◌, map, None, refl, sym, ◌∙◌, ap, subst}
+use Rattle.std.specs.List.{AllByRecursion}
+use Rattle.std.specs.declared.option.Option.{Option}
+use Rattle.mesh_values.specs.declared.values.Name.{Name}
+use Rattle.mesh_base.specs.declared.forgets.Forget.{Forget}
+use Rattle.mesh_base.specs.declared.forgets.Restate.{Restate}
+use Rattle.mesh_base.specs.declared.snapshots.Snapshot.{Snapshot}
+use Rattle.mesh_book.specs.WellFormed.{is_moment}
+use Rattle.mesh_scratch.specs.Horizons.{Clock, Shows}
+use Rattle.mesh_laws.proofs.Has.{Has, Has_to}
+use Rattle.mesh_laws.proofs.Lists.{Each}
+use Rattle.mesh_house.specs.Step.{run, step}
+use Rattle.mesh_house.specs.declared.world.Change.{Change}
+use Rattle.mesh_house.specs.declared.world.Change.TheVariants.{Finalize, Moment, PutSnapshot}
+use Rattle.mesh_house.specs.declared.world.World.{World}
+use Rattle.mesh_house.proofs.Runs.{run-append}
+use Rattle.mesh_listed.specs.Closing.{IsSnapshot, closing}
+use Rattle.mesh_reuse.specs.Cores.{IsTwin}
+use Rattle.mesh_reuse_laws.proofs.Given.{given_twins, run_twins}
+use Rattle.mesh_due.specs.Dues.{again}
+use Rattle.mesh_due.specs.Parts.{Parts, either}
+use Rattle.mesh_due.specs.Plans.{Planned}
+use Rattle.mesh_due.proofs.Later.{Each_both}
+use Rattle.mesh_changes.specs.Changes.{Plan, applies, drops, executes, forgetting, gone, objects_by_name, opens, parents_in, points, promotes, puts, run_opens, runs, snapshot_of}
+use Rattle.mesh_changes.specs.Commands.{is_not_behind, is_present}
+use Rattle.mesh_changes.specs.Planning.{IsRunPlan}
+use Rattle.mesh_sound.specs.Current.{IsReadable}
+use Rattle.mesh_sound.specs.Histories.{IsApplied, IsCovered, left}
+use Rattle.mesh_sound.specs.Moved.{moved}
+use Rattle.mesh_sound.specs.Sound.{Sound}
+use Rattle.mesh_along.specs.Ready.{AreApart, AreRanked, ArePut, IsPlaced, IsReady}
+use Rattle.mesh_open_laws.proofs.Ready.{opened_ready}
+use Rattle.mesh_promise_laws.proofs.Applying.{apart_ranked, put_sound, put_there, puts_made, raised_now, raised_sound}
+use Rattle.mesh_isolation_laws.proofs.Elsewhere.{IsElsewhere}
+use Rattle.mesh_isolation_laws.proofs.Holds.{HoldsAlong, holds_append, holds_each, holds_end}
+use Rattle.mesh_isolation_laws.proofs.Turns.{FillsAgain, ready_holds}
+
+-- what opens a plan, and what switches its environment, is of no object
+mapped_elsewhere : {A : Type 0} (object : Name) (f : A → Change) → ((a : A) → IsElsewhere object (f a)) → (items : List A) → Each (IsElsewhere object) (map f items)
+mapped_elsewhere object f h [] = tt
+mapped_elsewhere object f h (a ∷ as_) = (h a, mapped_elsewhere object f h as_)
+
+forgetting_elsewhere : (object : Name) (list : List Forget) → Each (IsElsewhere object) (forgetting list)
+forgetting_elsewhere object [] = tt
+forgetting_elsewhere object (q ∷ qs) = (tt, tt)
+
+module _ (w : World) (object : Name) (plan : Plan) where
+  puts_elsewhere : Each (IsElsewhere object) (puts plan.moment plan.models)
+  puts_elsewhere = mapped_elsewhere object (λ (p : Planned). PutSnapshot (snapshot_of plan.moment plan.models p)) (λ p. tt) plan.models
+
+  opens_elsewhere : Each (IsElsewhere object) (opens plan)
+  opens_elsewhere = (tt, Each_both (IsElsewhere object) (puts plan.moment plan.models) (forgetting plan.forgets) puts_elsewhere (forgetting_elsewhere object plan.forgets))
+
+  promotes_elsewhere : Each (IsElsewhere object) (promotes w.book plan)
+  promotes_elsewhere = (
+    tt,
+    Each_both (IsElsewhere object) (map (points plan.env) (objects_by_name plan.models)) _ (mapped_elsewhere object (points plan.env) (λ o. tt) (objects_by_name plan.models))
+        (Each_both (IsElsewhere object) (map (drops plan.env) (gone w.book plan.env plan.models)) (Finalize plan.env ∷ [])
+        (mapped_elsewhere object (drops plan.env) (λ n. tt) (gone w.book plan.env plan.models)) (tt, tt)),
+  )
+
+-- a snapshot of the book, and what holds of its table
+module _ (x : Parts) (w : World) (sound : Sound x w) (before after : Clock) (s : Snapshot) (known : IsSnapshot w.book.snapshots s) (K : World → Type 0)
+    (elsewhere : (u : World) (c : Change) → IsElsewhere s.object c → K u → K (step u c))
+    (refilled : (forgets : List Forget) (all : List Planned) (p : Planned) → p.object ≡ s.object → IsTwin (closing w.book.snapshots s) p.closure
+    → (z : Parts) (u : World) → Sound z u → Shows after u.book.moment → IsPlaced all u.book.snapshots p
+    → AllByRecursion (IsReadable after z u.book) (parents_in all p) → u.sources ≡ w.sources → K u → FillsAgain after w.book forgets all K s.object w.sources p u) where
+  along : (u : World) (list : List Change) → Each (IsElsewhere s.object) list → K u → HoldsAlong K u list
+  along u list each k = holds_each K (IsElsewhere s.object) elsewhere u list each k
+
+  module _ (plan : Plan) (ahead : is_not_behind plan.moment w.book ≡ true) (real : is_moment plan.moment ≡ true) (was : Shows before w.book.moment) (is : Shows after plan.moment) where
+    abbrev doubts : Parts
+    doubts = either x (moved w before after w.sources)
+
+    abbrev raised : World
+    raised = step w (Moment plan.moment)
+
+    -- a plan whose models are put is opened, made and filled
+    module _ (restate : Option Restate) (again_is : plan.forgets ≡ again after w.book restate plan.models)
+        (twins : (p : Planned) → Has p plan.models → p.object ≡ s.object → IsTwin (closing w.book.snapshots s) p.closure)
+        (covered : IsCovered after w.book plan doubts) (apart : AreApart plan.models) (ranked : AreRanked plan.models [] plan.models) where
+      filled_holds : (u : World) → Sound doubts u → Shows after u.book.moment → ArePut w.book plan.models u → u.sources ≡ w.sources → (last : List Change) → Each (IsElsewhere s.object) last
+          → (v : World) → v ≡ run u (forgetting plan.forgets) → K v → HoldsAlong K v (executes after w.book plan.forgets plan.models last plan.models v)
+      filled_holds u u_sound now put same last ends v there k =
+          let opened = opened_ready after w.book plan.forgets plan.models restate doubts u sound.book u_sound now put again_is apart ranked covered in
+          let z : Parts = left (forgetting plan.forgets) doubts in
+          ready_holds after w.book plan.forgets plan.models K s.object w.sources elsewhere
+          (λ p h its y t t_sound shows placed readable sources held. refilled plan.forgets plan.models p its (twins p h its) y t t_sound shows placed readable sources held)
+          last (λ t held. along t last ends held) z v
+          (subst (IsReady after w.book plan.forgets plan.models z) (sym there) opened.1) (ap (λ (t : World). t.sources) there ∙ opened.4 ∙ same) k
+
+    module _ (covered : IsCovered after w.book plan doubts) where
+      pub apply_holds : is_present w.book ≡ true → IsApplied after w plan → K w → HoldsAlong K w (applies after plan w)
+      apply_holds present asked k =
+          let put = puts_made x w plan before after sound ahead real was is covered present asked in
+          let apart = apart_ranked x w plan before after sound ahead real was is covered present asked in
+          let put_list = puts plan.moment plan.models in
+          let opened : HoldsAlong K w (opens plan) = along w (opens plan) (opens_elsewhere w s.object plan) k in
+          let well = sound.book.well_formed in
+          holds_append K w (opens plan) (executes after w.book plan.forgets plan.models (promotes w.book plan) plan.models (run w (opens plan))) opened
+          (filled_holds asked.restate asked.planned.forgets
+          (λ p h its. (given_twins after w.book asked.nodes asked.restate plan well asked.proper asked.planned sound.book.shared p (Has_to plan.models p h) s known (sym its)).1)
+          covered apart.0 apart.1 (run raised put_list) (put_sound x w plan before after sound ahead real was is covered present asked)
+          (subst (Shows after) (sym put.2) (raised_now x w plan before after sound ahead real was is)) put.1 put.3
+          (promotes w.book plan) (promotes_elsewhere w s.object plan) (run w (opens plan)) (run-append raised put_list (forgetting plan.forgets)) (holds_end K w (opens plan) opened))
+
+      pub run_holds : IsRunPlan after w.book plan → K w → HoldsAlong K w (runs after plan w)
+      run_holds asked k =
+          let put = put_there x w plan before after sound ahead real was is covered asked in
+          let opened : HoldsAlong K w (run_opens plan) = along w (run_opens plan) (tt, forgetting_elsewhere s.object plan.forgets) k in
+          holds_append K w (run_opens plan) (executes after w.book plan.forgets plan.models [] plan.models (run w (run_opens plan))) opened
+          (filled_holds None asked.forgets
+          (λ p h its. (run_twins after w.book plan asked sound.book.shared p (Has_to plan.models p h) s known (sym its)).1)
+          covered put.0 put.1 raised (raised_sound x w plan before after sound ahead real was is)
+          (raised_now x w plan before after sound ahead real was is) (put.2 raised refl refl refl) refl
+          [] tt (run w (run_opens plan)) refl (holds_end K w (run_opens plan) opened))

@@ -1,0 +1,16 @@
+-- Asked: what a command line makes is what a command of the promise makes.
+pub mod Asked
+-- Keeping: a command keeps a world sound, and leaves an environment final.
+pub mod Keeping
+-- Calls: so do calls, and the lines of scripts.
+pub mod Calls
+-- Reached: so after any calls from the empty world.
+pub mod Reached
+-- Calling: so do the calls that a command is made of, by themselves.
+pub mod Calling
+-- Forming: every call leaves a world formed that was.
+pub mod Forming
+-- Still: nothing moves within one moment.
+pub mod Still
+-- Steady: what steady projects ask for settles.
+pub mod Steady

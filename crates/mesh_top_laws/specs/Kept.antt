@@ -1,0 +1,88 @@
+-- When what a command line asks for settles, and when no recorded rows would come out otherwise through it; what is kept then.
+use Rattle.std.specs.Prelude.{◌≡◌, ℕ, false, List, ◌++◌, Some}
+use mathlib.Core.Logic.{inl, inr}
+use Rattle.mesh_base.specs.declared.forgets.Forget.{Forget}
+use Rattle.mesh_scratch.specs.Horizons.{Clock, Shows}
+use Rattle.mesh_house.specs.House.{Told}
+use Rattle.mesh_house.specs.Step.{run}
+use Rattle.mesh_house.specs.declared.world.Change.{Change}
+use Rattle.mesh_house.specs.declared.world.World.{World}
+use Rattle.mesh_changes.specs.Commands as promise
+use Rattle.mesh_due.specs.Parts.{Parts}
+use Rattle.mesh_io.specs.Told.{SourceTold}
+use Rattle.mesh_layer.specs.Shows.{Tells}
+use Rattle.mesh_sound.specs.Histories.{Settles, judged_at, left, met, sources_after}
+use Rattle.mesh_sound.specs.Moved.{moved}
+use Rattle.mesh_sound.specs.Sound.{Sound}
+use Rattle.mesh_line.specs.Lines.{IsLine}
+use Rattle.mesh_line.specs.declared.line.Command.{Command}
+use Rattle.mesh_line.specs.declared.line.Line.{Line}
+use Rattle.mesh_printed.specs.printed.Printing.{Sinks}
+use Rattle.mesh_cli.specs.cli.Scripts.{BatchEnds, IsTextLine, ScriptEnds, TextsEnd, WordsEnd, ended, lines_run, stopped, unread, went, asked, batch}
+use Rattle.mesh_cli.specs.cli.Sides.{Sides, here, place_or}
+use Rattle.mesh_top_laws.specs.Promised.{AsksFor}
+
+-- A command of the promise settles in a world that is sound but for some parts. One clock shows the moment before the command,
+-- the other one that which it is judged at.
+pub record IsSettled (x : Parts) (w : World) (k : promise.Command) : Type 0 where
+  pub before : Clock
+  pub after : Clock
+  pub was : Shows before w.book.moment
+  pub is : Shows after (judged_at w k)
+  pub settles : Settles after k w (met before after k w x)
+
+-- whatever a command line asks for in a world settles there
+abbrev pub LineSettles : List ℕ → Sides → Command → Parts → World → Type 0
+LineSettles dir s c x w = (k : promise.Command) → AsksFor dir s c w k → IsSettled x w k
+
+-- What a command leaves of a world, and what is in doubt then: all is as it was, or some first changes of what it asks for were
+-- made, and what is in doubt is what they leave of it.
+pub data Leaves (dir : List ℕ) (s : Sides) (c : Command) (x : Parts) (w : World) (settled : LineSettles dir s c x w) : Parts → World → Type 0 where
+  untouched : Leaves dir s c x w settled x w
+  changed : (k : promise.Command) (asks : AsksFor dir s c w k) (made rest : List Change) → promise.changes (settled k asks).after k w ≡ made ++ rest →
+      Leaves dir s c x w settled (left made (met (settled k asks).before (settled k asks).after k w x)) (run w made)
+
+-- a house tells a world that is sound but for these parts, and that the command leaves so
+pub record TellsLeft (dir : List ℕ) (s : Sides) (c : Command) (x : Parts) (w : World) (settled : LineSettles dir s c x w) (told : Told) : Type 0 where
+  pub doubts : Parts
+  pub world : World
+  pub told_is : told.world ≡ Some world
+  pub sound : Sound doubts world
+  pub left_so : Leaves dir s c x w settled doubts world
+
+-- a house tells a world that is sound but for these parts
+pub record TellsSound (x : Parts) (told : Told) : Type 0 where
+  pub world : World
+  pub told_is : told.world ≡ Some world
+  pub sound : Sound x world
+
+-- No recorded rows would come out otherwise through a command of the promise: where nothing was in doubt, it settles.
+pub record IsStill (w : World) (k : promise.Command) : Type 0 where
+  pub before : Clock
+  pub after : Clock
+  pub was : Shows before w.book.moment
+  pub is : Shows after (judged_at w k)
+  pub still : (q : Forget) → moved w before after (sources_after w k) q ≡ false
+
+-- so through whatever a line asks for, in the world that the house tells
+abbrev pub LineIsStill : List ℕ → Line → Sides → Type 0
+LineIsStill dir line old = (w : World) → Tells old.house w → (k : promise.Command) → AsksFor (place_or line.paths dir) old line.command w k → IsStill w k
+
+-- through the lines of a script, each in the world that those before it leave
+abbrev pub TextsAreStill : (dir : List ℕ) {texts : List (List ℕ)} {old new : Sides} {sinks printed : Sinks} {s : ℕ} → TextsEnd dir texts old new sinks printed s → Type 0
+TextsAreStill dir (ended old sinks) = Unit {0}
+TextsAreStill dir (went text texts old mid new sinks between printed s step more) = ((line : Line) → IsTextLine text line → LineIsStill dir line old) × TextsAreStill dir more
+TextsAreStill dir (stopped text texts old new sinks printed s short step) = (line : Line) → IsTextLine text line → LineIsStill dir line old
+
+abbrev pub ScriptIsStill : (dir script : List ℕ) {old new : Sides} {sinks printed : Sinks} {s : ℕ} → ScriptEnds dir script old new sinks printed s → Type 0
+ScriptIsStill dir script (inl texts) = TextsAreStill dir texts
+ScriptIsStill dir script (inr said) = Unit {0}
+
+abbrev pub BatchIsStill : (dir : List ℕ) {input rest : SourceTold} {old new : Sides} {sinks printed : Sinks} {s : ℕ} → BatchEnds dir input rest old new sinks printed s → Type 0
+BatchIsStill dir (unread r read said) = Unit {0}
+BatchIsStill dir (lines_run script read ends) = ScriptIsStill dir script ends
+
+-- through all that a call's words ask for
+abbrev pub CallIsStill : {words : List (List ℕ)} {input rest : SourceTold} {old new : Sides} {sinks printed : Sinks} {s : ℕ} → WordsEnd words input rest old new sinks printed s → Type 0
+CallIsStill {words = words} {old = old} (asked same ends) = (line : Line) → IsLine words line → LineIsStill here line old
+CallIsStill (batch line read is ends) = BatchIsStill (place_or line.paths here) ends

@@ -1,0 +1,58 @@
+// What the calls that a command is made of keep, by themselves.
+ghost use Rattle.std.specs.Prelude.{◌≡◌, ℕ, ℤ, List, [], ◌∷◌, Ok, Result, true};
+ghost use Rattle.std.specs.declared.option.Option.{Option};
+ghost use Rattle.mesh_values.specs.declared.values.Name.{Name};
+ghost use Rattle.mesh_base.specs.declared.forgets.Restate.{Restate};
+ghost use Rattle.mesh_base.specs.declared.jobs.Done.{Done};
+ghost use Rattle.mesh_base.specs.declared.snapshots.Node.{Node};
+ghost use Rattle.mesh_base.specs.declared.snapshots.Ref.{Ref};
+ghost use Rattle.mesh_rules.specs.declared.plans.Plan.{Plan};
+ghost use Rattle.mesh_days.specs.Moments.{IsMoment};
+ghost use Rattle.mesh_book.specs.declared.book.Book.{Book};
+ghost use Rattle.mesh_scratch.specs.Horizons.{Clock, Shows};
+ghost use Rattle.mesh_house.specs.House.{Told};
+ghost use Rattle.mesh_house.specs.Runs.{Makes};
+ghost use Rattle.mesh_house.specs.declared.house.WhFail.{WhFail};
+ghost use Rattle.mesh_house.specs.declared.world.Change.TheVariants.{Expire};
+ghost use Rattle.mesh_house.specs.declared.world.World.{World};
+ghost use Rattle.mesh_changes.specs.Changes.{objects_by_name, refs_by_name};
+ghost use Rattle.mesh_changes.specs.Commands.{Apply, Invalidate, Janitor, RunAll, allows};
+ghost use Rattle.mesh_changes.specs.Environments.{env_at};
+ghost use Rattle.mesh_changes.specs.Kept.{sweeps};
+ghost use Rattle.mesh_due.specs.Parts.{Parts};
+ghost use Rattle.mesh_layer.specs.Shows.{Tells};
+ghost use Rattle.mesh_plan.specs.Plans.{promised};
+ghost use Rattle.mesh_state_sync.specs.declared.janitor.faults.Swept.{Swept};
+ghost use Rattle.mesh_state_sync.specs.declared.janitor.faults.SweepFault.{SweepFault};
+ghost use Rattle.mesh_state_sync.specs.janitor.Sweeping.{Sweeps};
+ghost use Rattle.mesh_state_sync.specs.promote.Promotion.{paired, promotion};
+ghost use Rattle.mesh_exec.specs.Answers.{Executes};
+ghost use Rattle.mesh_exec.specs.Planned.{planned_models};
+ghost use Rattle.mesh_exec.specs.declared.faults.ExecFault.{ExecFault};
+ghost use Rattle.mesh_applying.specs.Planning.{IsPlanned, IsRunPlanned};
+ghost use Rattle.mesh_top_laws.specs.Stages.{IsBegun, IsUnderWay};
+
+/// The call that makes a plan keeps a sound world sound at each of its exits by itself, in an apply and in a run that settle.
+pub fn executions_keep_worlds_sound()
+    ensures applies { (before after : Clock) (x : Parts) (w : World) → Shows before w.book.moment → (t : ℤ) → IsMoment t → Shows after t → (nodes : List Node) (env : List ℕ) (again : Option Restate) (p : Plan) → IsPlanned w.book nodes env t again p →
+        IsBegun before after (Apply (promised p)) x w → (old new : Told) (result : Result Done ExecFault) → Tells old w → Executes p old new result → IsUnderWay before after (Apply (promised p)) x w new }
+    ensures runs { (before after : Clock) (x : Parts) (w : World) → Shows before w.book.moment → (t : ℤ) → IsMoment t → Shows after t → (env : List ℕ) (p : Plan) → IsRunPlanned w.book env t p →
+        IsBegun before after (RunAll (promised p)) x w → (old new : Told) (result : Result Done ExecFault) → Tells old w → Executes p old new result → IsUnderWay before after (RunAll (promised p)) x w new }
+{}
+
+/// So does the call that switches an environment to the list and the objects of a plan that was made whole just before, where the
+/// book that it is given has the record of that environment.
+pub fn promotions_keep_worlds_sound()
+    ensures { (before after : Clock) (x : Parts) (w : World) → Shows before w.book.moment → (t : ℤ) → IsMoment t → Shows after t → (nodes : List Node) (env : List ℕ) (again : Option Restate) (p : Plan) → IsPlanned w.book nodes env t again p →
+        IsBegun before after (Apply (promised p)) x w → (old mid new : Told) (done : Done) → Tells old w → Executes p old mid (Ok done) → (b : Book) (list : List Ref) (objects : List Name) → env_at b p.env ≡ env_at w.book p.env →
+        list ≡ refs_by_name (planned_models p) → paired list objects ≡ objects_by_name (planned_models p) → (result : Result ℕ WhFail) → Makes (λ v. promotion b p.env list objects p.moment) mid new result →
+        IsUnderWay before after (Apply (promised p)) x w new }
+{}
+
+/// So do the calls of the janitor, and of an environment that is to go.
+pub fn sweeps_keep_worlds_sound()
+    ensures sweeps { (before after : Clock) (x : Parts) (w : World) → Shows before w.book.moment → (t : ℤ) → IsMoment t → Shows after t → allows w (Janitor t) ≡ true →
+        IsBegun before after (Janitor t) x w → (old new : Told) → Tells old w → (result : Result Swept SweepFault) → Sweeps (sweeps w.book t) old new result → IsUnderWay before after (Janitor t) x w new }
+    ensures invalidates { (before after : Clock) (x : Parts) (w : World) → Shows before w.book.moment → (env : List ℕ) → Shows after w.book.moment → allows w (Invalidate env) ≡ true →
+        IsBegun before after (Invalidate env) x w → (old new : Told) → Tells old w → (result : Result (Unit {0}) SweepFault) → Sweeps (Expire env ∷ []) old new result → IsUnderWay before after (Invalidate env) x w new }
+{}
