@@ -21,7 +21,7 @@ use Rattle.mesh_house.proofs.Runs.{run-append}
 use Rattle.mesh_due.specs.Dues.{again}
 use Rattle.mesh_due.specs.Parts.{Parts, either, object_of, same_name}
 use Rattle.mesh_due.specs.Plans.{Planned, is_planned}
-use Rattle.mesh_changes.specs.Changes.{Plan, applies, executes, forgetting, promotes, puts, runs}
+use Rattle.mesh_changes.specs.Changes.{Plan, applies, executes, forgetting, opens, promotes, puts, run_opens, runs}
 use Rattle.mesh_changes.specs.Commands.{is_not_behind, is_present}
 use Rattle.mesh_changes.specs.Planning.{IsRunPlan}
 use Rattle.mesh_sound.specs.Histories.{IsApplied}
@@ -42,7 +42,7 @@ use Rattle.mesh_promise_laws.proofs.InTurn.{each_of}
 use Rattle.mesh_promise_laws.proofs.Names.{HaveNames, proper_few, proper_names}
 use Rattle.mesh_promise_laws.proofs.Promoting.{IsModelMade, promoting_along}
 use Rattle.mesh_formed_laws.proofs.Formed.{FormedAlong, formed_append, formed_end, formed_more}
-use Rattle.mesh_formed_laws.proofs.InTurn.{AreFormed, models_formed}
+use Rattle.mesh_formed_laws.proofs.InTurn.{AreFormed, models_formed, models_whole}
 
 -- what is in doubt, what moves, and all parts of the objects of a plan
 module _ (x : Parts) (w : World) (plan : Plan) (before after : Clock) where
@@ -111,6 +111,13 @@ module _ (x : Parts) (w : World) (plan : Plan) (before after : Clock) where
           (formed_end open_parts v (forgetting plan.forgets) forgets_along)
           (each_opened after w.book plan.forgets plan.models restate open_parts v v_sound v_now put again_is apart) apart ranked)
 
+      -- whatever comes last does come
+      plan_whole : (made : List Change) × ((end : List Change) → executes after w.book plan.forgets plan.models end plan.models base ≡ made ++ end)
+      plan_whole =
+          models_whole after w.book plan.forgets plan.models open_parts base base_now (each_of (IsPlaced plan.models base.book.snapshots) plan.models base_placed) doubtful last ended
+          (formed_end open_parts v (forgetting plan.forgets) forgets_along)
+          (each_opened after w.book plan.forgets plan.models restate open_parts v v_sound v_now put again_is apart) apart ranked
+
     -- an apply
     module _ (present : is_present w.book ≡ true) (asked : IsApplied after w plan) where
       apart_ranked : AreApart plan.models × AreRanked plan.models [] plan.models
@@ -143,11 +150,16 @@ module _ (x : Parts) (w : World) (plan : Plan) (before after : Clock) where
       abbrev rest_of : List Change
       rest_of = forgetting plan.forgets ++ executes after w.book plan.forgets plan.models last_of plan.models (run put_world (forgetting plan.forgets))
 
-      list_is : applies after plan w ≡ Moment plan.moment ∷ (put_list ++ rest_of)
-      list_is =
+      -- with any changes behind them
+      list_with : (end : List Change) → opens plan ++ executes after w.book plan.forgets plan.models end plan.models (run w (opens plan))
+          ≡ Moment plan.moment ∷ (put_list ++ (forgetting plan.forgets ++ executes after w.book plan.forgets plan.models end plan.models (run put_world (forgetting plan.forgets))))
+      list_with end =
           ap (λ (l : List Change). Moment plan.moment ∷ l)
           (append_assoc put_list (forgetting plan.forgets) _
-          ∙ ap (λ (v : World). put_list ++ (forgetting plan.forgets ++ executes after w.book plan.forgets plan.models last_of plan.models v)) (run-append raised put_list (forgetting plan.forgets)))
+          ∙ ap (λ (v : World). put_list ++ (forgetting plan.forgets ++ executes after w.book plan.forgets plan.models end plan.models v)) (run-append raised put_list (forgetting plan.forgets)))
+
+      list_is : applies after plan w ≡ Moment plan.moment ∷ (put_list ++ rest_of)
+      list_is = list_with last_of
 
       pub apply_formed : FormedAlong open_parts w (applies after plan w)
       apply_formed =
@@ -155,6 +167,18 @@ module _ (x : Parts) (w : World) (plan : Plan) (before after : Clock) where
             begun_sound,
             formed_append open_parts raised put_list rest_of puts_along
                 (plan_formed asked.restate put_world (formed_end open_parts raised put_list puts_along) (subst (Shows after) (sym puts_made.2) raised_now) puts_made.1 asked.planned.forgets apart_ranked.0 apart_ranked.1 last_of promoted),
+          )
+
+      -- it is made whole: whatever changes came last would come
+      pub apply_whole : (made : List Change) × ((end : List Change) → opens plan ++ executes after w.book plan.forgets plan.models end plan.models (run w (opens plan)) ≡ made ++ end)
+      apply_whole =
+          let (more, ends) =
+          plan_whole asked.restate put_world (formed_end open_parts raised put_list puts_along) (subst (Shows after) (sym puts_made.2) raised_now) puts_made.1 asked.planned.forgets apart_ranked.0 apart_ranked.1 last_of promoted in (
+            Moment plan.moment ∷ (put_list ++ (forgetting plan.forgets ++ more)),
+            λ end. list_with end
+                ∙ ap (λ (l : List Change). Moment plan.moment ∷ (put_list ++ (forgetting plan.forgets ++ l))) (ends end)
+                ∙ ap (λ (l : List Change). Moment plan.moment ∷ (put_list ++ l)) (sym (append_assoc (forgetting plan.forgets) more end))
+                ∙ ap (λ (l : List Change). Moment plan.moment ∷ l) (sym (append_assoc put_list (forgetting plan.forgets ++ more) end)),
           )
 
     -- a run
@@ -165,3 +189,11 @@ module _ (x : Parts) (w : World) (plan : Plan) (before after : Clock) where
 
       pub run_formed : FormedAlong open_parts w (runs after plan w)
       run_formed = (begun_sound, plan_formed None raised raised_sound raised_now (put_there.2 raised refl refl refl) asked.forgets put_there.0 put_there.1 [] (λ u so environments placed made. so))
+
+      -- it is made whole: whatever changes came last would come
+      pub run_whole : (made : List Change) × ((end : List Change) → run_opens plan ++ executes after w.book plan.forgets plan.models end plan.models (run w (run_opens plan)) ≡ made ++ end)
+      run_whole =
+          let (more, ends) = plan_whole None raised raised_sound raised_now (put_there.2 raised refl refl refl) asked.forgets put_there.0 put_there.1 [] (λ u so environments placed made. so) in (
+            Moment plan.moment ∷ (forgetting plan.forgets ++ more),
+            λ end. ap (λ (l : List Change). Moment plan.moment ∷ (forgetting plan.forgets ++ l)) (ends end) ∙ ap (λ (l : List Change). Moment plan.moment ∷ l) (sym (append_assoc (forgetting plan.forgets) more end)),
+          )

@@ -7,7 +7,7 @@ use Rattle.mesh_house.specs.Step.{run}
 use Rattle.mesh_house.specs.declared.world.Change.{Change}
 use Rattle.mesh_house.specs.declared.world.World.{World}
 use Rattle.mesh_due.specs.Parts.{Parts, either}
-use Rattle.mesh_changes.specs.Changes.{Plan}
+use Rattle.mesh_changes.specs.Changes.{Plan, executes, opens, run_opens}
 use Rattle.mesh_changes.specs.Commands.{Apply, Command, Ingest, Invalidate, Janitor, MigrateAll, Nothing, RunAll, allows, asked, changes, is_not_behind, is_present}
 use Rattle.mesh_sound.specs.Histories.{IsMet, Settles, StaysFormed, left, met, planned_parts, sources_after}
 use Rattle.mesh_sound.specs.Moved.{moved}
@@ -16,7 +16,7 @@ use Rattle.mesh_sound.proofs.Doubts.{doubted}
 use Rattle.mesh_along.proofs.Along.{left_fewer}
 use Rattle.mesh_promise_laws.proofs.Applying.{first_of}
 use Rattle.mesh_promise_laws.proofs.Promise.{front_of_none, shows_raised, stays_sound}
-use Rattle.mesh_formed_laws.proofs.Applying.{apply_formed, run_formed}
+use Rattle.mesh_formed_laws.proofs.Applying.{apply_formed, apply_whole, run_formed, run_whole}
 use Rattle.mesh_formed_laws.proofs.Formed.{FormedAlong, formed_front}
 
 module _ (x : Parts) (w : World) (before after : Clock) (sound : Sound x w) (made rest : List Change) where
@@ -63,3 +63,14 @@ module _ (x : Parts) (w : World) (before after : Clock) (sound : Sound x w) (mad
 
 pub stays_formed : StaysFormed
 stays_formed x w c before after m sound made rest is = by_command x w before after sound made rest c m is
+
+-- plans are made whole
+pub applies_whole : (x : Parts) (w : World) (plan : Plan) (before after : Clock) → IsMet before after w (Apply plan) → allows w (Apply plan) ≡ true → Sound x w
+    → (made : List Change) × ((last : List Change) → opens plan ++ executes after w.book plan.forgets plan.models last plan.models (run w (opens plan)) ≡ made ++ last)
+applies_whole x w plan before after m allowed sound =
+    apply_whole x w plan before after sound (and_right (is_present w.book) _ allowed) m.asked.moment m.was (shows_raised before after w (Apply plan) m allowed) (and_left (is_present w.book) _ allowed) m.asked
+
+pub runs_whole : (x : Parts) (w : World) (plan : Plan) (before after : Clock) → IsMet before after w (RunAll plan) → allows w (RunAll plan) ≡ true → Sound x w
+    → (made : List Change) × ((last : List Change) → run_opens plan ++ executes after w.book plan.forgets plan.models last plan.models (run w (run_opens plan)) ≡ made ++ last)
+runs_whole x w plan before after m allowed sound =
+    run_whole x w plan before after sound (and_left (is_not_behind plan.moment w.book) _ (and_right (is_present w.book) _ allowed)) m.asked.0 m.was (shows_raised before after w (RunAll plan) m allowed) m.asked.1

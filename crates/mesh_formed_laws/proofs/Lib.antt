@@ -8,6 +8,8 @@ pub mod Filling
 pub mod Units
 -- One: a model is made and filled.
 pub mod One
+-- Whole: what fills a model is there, and nothing dangles.
+pub mod Whole
 -- InTurn: the models of a plan are made and filled one after another.
 pub mod InTurn
 -- Applying: an apply, and a run.

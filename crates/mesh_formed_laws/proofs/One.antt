@@ -57,6 +57,17 @@ module _ (clock : Clock) (b : Book) (forgets : List Forget) (all : List Planned)
   by_kind View is = view_formed clock b forgets all p w z u begun moment there doubtful is
   by_kind Seed is = seed_formed clock b forgets all p w z u begun moment there doubtful is
 
+  -- once it is made
+  pub made_sound : Sound z u
+  made_sound = begun.sound
+
+  pub made_only : IsOfObject p.object w u
+  made_only = begun.only
+
+  -- and once it is filled
+  pub filled_sound : (list : List Change) → filling ≡ Some list → Sound z (run u list) × IsModelMade (run u list).book p × IsOfObject p.object w (run u list)
+  filled_sound list e = let f = by_kind p.node.own.kind refl list e in (formed_end z u list f.along, f.made, of_object_then p.object w u (run u list) begun.only f.only)
+
   -- The changes of the model, and what comes after them. Nothing does where it isn't filled.
   pub model_formed : (next : World → List Change) → ((v : World) → Sound z v → IsModelMade v.book p → IsOfObject p.object w v → FormedAlong z v (next v)) → FormedAlong z w (making ++ followed u filling next)
   model_formed next more = formed_append z w making (followed u filling next) along (go filling refl)

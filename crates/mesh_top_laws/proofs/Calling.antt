@@ -69,7 +69,7 @@ module _ (before after : Clock) (k : promise.Command) (x : Parts) (w : World) (b
       go (inr (ready, cut)) = front_made (executed p w ++ behind) are cut.made (cut.rest ++ behind) (ap (λ (l : List Change). l ++ behind) cut.parts ∙ append_assoc cut.made cut.rest behind) new cut.world
 
 module _ (before after : Clock) (x : Parts) (w : World) (was : Shows before w.book.moment) (t : ℤ) (real : IsMoment t) (is : Shows after t) where
-  apply_met : (nodes : List Node) (env : List ℕ) (again : Option Restate) (p : Made) → IsPlanned w.book nodes env t again p → IsMet before after w (promise.Apply (promised p))
+  pub apply_met : (nodes : List Node) (env : List ℕ) (again : Option Restate) (p : Made) → IsPlanned w.book nodes env t again p → IsMet before after w (promise.Apply (promised p))
   apply_met nodes env again p planned =
       record {
         was = was;
@@ -89,17 +89,20 @@ module _ (before after : Clock) (x : Parts) (w : World) (was : Shows before w.bo
       executed_so before after (promise.Apply (promised p)) x w begun (apply_met nodes env again p planned) p (rest w.book p w)
       (of_apply w.book planned.present p nodes env t again planned.plan w refl after (subst (Shows after) (sym planned.plan.moment_is) is)) old new result told made
 
-  pub run_executed : (env : List ℕ) (p : Made) → IsRunPlanned w.book env t p → IsBegun before after (promise.RunAll (promised p)) x w
-      → (old new : Told) (result : Result Done ExecFault) → Tells old w → Executes p old new result → IsUnderWay before after (promise.RunAll (promised p)) x w new
-  run_executed env p planned begun old new result told made =
+  pub run_met : (env : List ℕ) (p : Made) → IsRunPlanned w.book env t p → IsMet before after w (promise.RunAll (promised p))
+  run_met env p planned =
       let (e, known, of) = run_of w.book env t p (env_at w.book env) refl planned.plan in
-      let met_so : IsMet before after w (promise.RunAll (promised p)) =
       record {
         was = was;
         is = subst (Shows after) (sym (judged_run w p t of.moment_is (run_allowed w env t p planned))) is;
         asked = (ap is_moment of.moment_is ∙ moment_is t real, of.keeps after is);
-      } in
-      executed_so before after (promise.RunAll (promised p)) x w begun met_so p []
+      }
+
+  pub run_executed : (env : List ℕ) (p : Made) → IsRunPlanned w.book env t p → IsBegun before after (promise.RunAll (promised p)) x w
+      → (old new : Told) (result : Result Done ExecFault) → Tells old w → Executes p old new result → IsUnderWay before after (promise.RunAll (promised p)) x w new
+  run_executed env p planned begun old new result told made =
+      let (e, known, of) = run_of w.book env t p (env_at w.book env) refl planned.plan in
+      executed_so before after (promise.RunAll (promised p)) x w begun (run_met env p planned) p []
       (append-nil (executed p w) ∙ of_run w.book planned.present p env t planned.plan w refl after (subst (Shows after) (sym of.moment_is) is)) old new result told made
 
   -- the environment's views, once the plan is executed whole: the book is said of its record of the environment

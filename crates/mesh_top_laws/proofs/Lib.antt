@@ -8,6 +8,8 @@ pub mod Calls
 pub mod Reached
 -- Calling: so do the calls that a command is made of, by themselves.
 pub mod Calling
+-- Dangling: a plan that is executed over a sound world never meets an object that dangles.
+pub mod Dangling
 -- Forming: every call leaves a world formed that was.
 pub mod Forming
 -- Still: nothing moves within one moment.

@@ -16,5 +16,6 @@ pub use laws::{
     worlds_of_calls_are_sound,
 };
 pub use stages::{
-    executions_keep_worlds_sound, promotions_keep_worlds_sound, sweeps_keep_worlds_sound,
+    executions_keep_worlds_sound, executions_never_dangle, promotions_keep_worlds_sound,
+    sweeps_keep_worlds_sound,
 };

@@ -1,5 +1,5 @@
 // What the calls that a command is made of keep, by themselves.
-ghost use Rattle.std.specs.Prelude.{◌≡◌, ℕ, ℤ, List, [], ◌∷◌, Ok, Result, true};
+ghost use Rattle.std.specs.Prelude.{◌≡◌, ℕ, ℤ, List, [], ◌∷◌, Err, Ok, Result, true};
 ghost use Rattle.std.specs.declared.option.Option.{Option};
 ghost use Rattle.mesh_values.specs.declared.values.Name.{Name};
 ghost use Rattle.mesh_base.specs.declared.forgets.Restate.{Restate};
@@ -29,7 +29,9 @@ ghost use Rattle.mesh_state_sync.specs.promote.Promotion.{paired, promotion};
 ghost use Rattle.mesh_exec.specs.Answers.{Executes};
 ghost use Rattle.mesh_exec.specs.Planned.{planned_models};
 ghost use Rattle.mesh_exec.specs.declared.faults.ExecFault.{ExecFault};
+ghost use Rattle.mesh_exec.specs.declared.faults.ExecFault.TheVariants.{Dangling};
 ghost use Rattle.mesh_applying.specs.Planning.{IsPlanned, IsRunPlanned};
+ghost use Rattle.mesh_sound.specs.Sound.{Sound};
 ghost use Rattle.mesh_top_laws.specs.Stages.{IsBegun, IsUnderWay};
 
 /// The call that makes a plan keeps a sound world sound at each of its exits by itself, in an apply and in a run that settle.
@@ -55,4 +57,12 @@ pub fn sweeps_keep_worlds_sound()
         IsBegun before after (Janitor t) x w → (old new : Told) → Tells old w → (result : Result Swept SweepFault) → Sweeps (sweeps w.book t) old new result → IsUnderWay before after (Janitor t) x w new }
     ensures invalidates { (before after : Clock) (x : Parts) (w : World) → Shows before w.book.moment → (env : List ℕ) → Shows after w.book.moment → allows w (Invalidate env) ≡ true →
         IsBegun before after (Invalidate env) x w → (old new : Told) → Tells old w → (result : Result (Unit {0}) SweepFault) → Sweeps (Expire env ∷ []) old new result → IsUnderWay before after (Invalidate env) x w new }
+{}
+
+/// In a sound world, whatever parts are in doubt, the call that makes a plan never answers that an object dangles.
+pub fn executions_never_dangle()
+    ensures applies { (before after : Clock) (x : Parts) (w : World) → Shows before w.book.moment → (t : ℤ) → IsMoment t → Shows after t → Sound x w → (nodes : List Node) (env : List ℕ) (again : Option Restate) (p : Plan) → IsPlanned w.book nodes env t again p →
+        (old new : Told) (object : Name) → Tells old w → Executes p old new (Err (Dangling object)) → ⊥ }
+    ensures runs { (before after : Clock) (x : Parts) (w : World) → Shows before w.book.moment → (t : ℤ) → IsMoment t → Shows after t → Sound x w → (env : List ℕ) (p : Plan) → IsRunPlanned w.book env t p →
+        (old new : Told) (object : Name) → Tells old w → Executes p old new (Err (Dangling object)) → ⊥ }
 {}
