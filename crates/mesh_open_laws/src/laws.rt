@@ -33,8 +33,7 @@ pub fn opened_plans_are_ready()
         × ((run w (forgetting forgets)).sources ≡ w.sources) }
 {}
 
-/// The models of a project's plan have objects of their own, and stand behind their parents, where the fingerprints of the project
-/// have 32 bytes.
+/// The models of a project's plan have objects of their own, and stand behind their parents.
 pub fn models_of_a_plan_are_apart()
     ensures { (clock : Clock) (b : Book) (nodes : List Node) (restate : Option Restate) (plan : Plan) → IsBookSound b → is_proper nodes ≡ true → IsPlan clock b nodes restate plan →
         AreApart plan.models × AreRanked plan.models [] plan.models }
