@@ -20,7 +20,7 @@ use Rattle.mesh_changes.specs.Environments.{env_at}
 use Rattle.mesh_changes.specs.Kept.{sweeps}
 
 -- What a command asks for, once its words and files are read: `plan --auto-apply` is an apply, and a command that only
--- looks, or whose project, words or sources have a fault, asks for nothing.
+-- looks, or whose project, words or files have a fault, asks for nothing.
 pub data Command : Type 0 where
   Apply : Plan → Command
   RunAll : Plan → Command
