@@ -2,7 +2,8 @@
 """Times `mesh batch` over a warehouse in memory and a source of 100,000 rows, without the seconds that the source takes to be
 loaded: an apply of a model of 2,000 daily units, which are computed in runs, and of half as many, in seconds of processor and by
 the clock; and an apply of 64 FULL models over the one source with a group each, by the clock, with 1, 2, 4 and 64 workers. The
-least of three runs counts. The clock says something on a quiet machine alone.
+least of five rounds counts, in each of which all that is compared runs in turn, so that a machine whose pace changes is the same for
+all. The clock says something on a quiet machine alone.
 
 Usage: bench/exec.py [PROGRAM], where PROGRAM is crates/mesh/out/mesh if left out (`rt run` in its folder makes it)."""
 import datetime
@@ -17,24 +18,27 @@ from measured import TOP
 ROWS = 100_000
 DAYS = 2_000
 FIRST = datetime.date(2020, 1, 1)
+WORKERS = (1, 2, 4, 64)
+ROUNDS = 5
 LOAD = "ingest raw.events events.csv\n"
 
 
-def ran(program, folder, script):
-    """The least seconds of processor, and the least by the clock, of three runs of a script over the project in a folder."""
-    used_least, passed_least = None, None
-    for _ in range(3):
-        begin = time.perf_counter()
-        child = subprocess.Popen([program, "--warehouse", ":memory:", "batch"], stdin=subprocess.PIPE, stdout=subprocess.DEVNULL, cwd=folder)
-        child.stdin.write(script.encode())
-        child.stdin.close()
-        _, status, used = os.wait4(child.pid, 0)
-        passed = time.perf_counter() - begin
-        assert os.waitstatus_to_exitcode(status) == 0, status
-        took = used.ru_utime + used.ru_stime
-        used_least = took if used_least is None else min(used_least, took)
-        passed_least = passed if passed_least is None else min(passed_least, passed)
-    return used_least, passed_least
+def once(program, folder, script):
+    """The seconds of processor and by the clock of one run of a script over the project in a folder."""
+    begin = time.perf_counter()
+    child = subprocess.Popen([program, "--warehouse", ":memory:", "batch"], stdin=subprocess.PIPE, stdout=subprocess.DEVNULL, cwd=folder)
+    child.stdin.write(script.encode())
+    child.stdin.close()
+    _, status, used = os.wait4(child.pid, 0)
+    passed = time.perf_counter() - begin
+    assert os.waitstatus_to_exitcode(status) == 0, status
+    return used.ru_utime + used.ru_stime, passed
+
+
+def ran(program, folder, scripts):
+    """The least seconds of processor, and the least by the clock, of each script, over rounds in which they run in turn."""
+    rounds = [[once(program, folder, script) for script in scripts] for _ in range(ROUNDS)]
+    return [(min(used for used, _ in runs), min(passed for _, passed in runs)) for runs in zip(*rounds)]
 
 
 def source(folder):
@@ -59,9 +63,7 @@ def units(program):
         with open(f"{folder}/models/daily.sql", "w") as model:
             model.write(f"MODEL (name s.daily, kind INCREMENTAL_BY_TIME_RANGE (time_column day), start '{FIRST}');\n")
             model.write("SELECT id, day, kind FROM raw.events WHERE day BETWEEN @start_ds AND @end_ds\n")
-        none = ran(program, folder, LOAD)
-        half = ran(program, folder, LOAD + apply(DAYS // 2))
-        full = ran(program, folder, LOAD + apply(DAYS))
+        none, half, full = ran(program, folder, [LOAD, LOAD + apply(DAYS // 2), LOAD + apply(DAYS)])
     for name, at in (("processor", 0), ("clock", 1)):
         print(f"units by the {name}: {DAYS // 2:,} {half[at] - none[at]:.3f} s, {DAYS:,} {full[at] - none[at]:.3f} s, growth {(full[at] - none[at]) / (half[at] - none[at]):.2f}")
 
@@ -72,12 +74,10 @@ def models(program):
         for number in range(64):
             with open(f"{folder}/models/m{number:02}.sql", "w") as model:
                 model.write(f"MODEL (name s.m{number:02}, kind FULL); SELECT kind + {number} AS kind, COUNT(*) AS n, MAX(id) AS last FROM raw.events GROUP BY kind + {number}\n")
-        _, none = ran(program, folder, LOAD)
-        one = None
-        for workers in (1, 2, 4, 64):
-            _, passed = ran(program, folder, LOAD + apply(1, workers))
-            one = passed - none if one is None else one
-            print(f"64 FULL models, {workers} workers: {passed - none:.3f} s by the clock, {one / (passed - none):.2f} times as fast as 1")
+        (_, none), *each = ran(program, folder, [LOAD, *(LOAD + apply(1, workers) for workers in WORKERS)])
+    one = each[0][1] - none
+    for workers, (_, passed) in zip(WORKERS, each):
+        print(f"64 FULL models, {workers} workers: {passed - none:.3f} s by the clock, {one / (passed - none):.2f} times as fast as 1")
 
 
 def main():

@@ -89,17 +89,17 @@ formed_keeps dir line old new answer commanded any is =
 
 texts_formed : (dir : List ℕ) {texts : List (List ℕ)} {old new : Sides} {sinks printed : Sinks} {s : ℕ} → TextsEnd dir texts old new sinks printed s → TellsSound all_parts old.house → TellsSound all_parts new.house
 texts_formed dir (ended old sinks) is = is
-texts_formed dir (went text texts old mid new sinks between printed s step more) is = texts_formed dir more (step_kept all_parts Any formed_keeps dir text old mid sinks between 0 (is_skipped text) (λ line read. tt) is step)
-texts_formed dir (stopped text texts old new sinks printed s short step) is = step_kept all_parts Any formed_keeps dir text old new sinks printed s (is_skipped text) (λ line read. tt) is step
+texts_formed dir (went text texts old mid new sinks between printed s step more) is = texts_formed dir more (step_kept (TellsSound all_parts) Any formed_keeps dir text old mid sinks between 0 (is_skipped text) (λ line read. tt) is step)
+texts_formed dir (stopped text texts old new sinks printed s short step) is = step_kept (TellsSound all_parts) Any formed_keeps dir text old new sinks printed s (is_skipped text) (λ line read. tt) is step
 
 script_formed : (dir script : List ℕ) {old new : Sides} {sinks printed : Sinks} {s : ℕ} → ScriptEnds dir script old new sinks printed s → TellsSound all_parts old.house → TellsSound all_parts new.house
 script_formed dir script (inl texts) is = texts_formed dir texts is
-script_formed dir script {old = old} {new = new} (inr said) is = as_before all_parts old new said.0 is
+script_formed dir script {old = old} {new = new} (inr said) is = as_before (TellsSound all_parts) old new said.0 is
 
 batch_formed : (dir : List ℕ) {input rest : SourceTold} {old new : Sides} {sinks printed : Sinks} {s : ℕ} → BatchEnds dir input rest old new sinks printed s → TellsSound all_parts old.house → TellsSound all_parts new.house
-batch_formed dir {old = old} {new = new} (unread r read said) is = as_before all_parts old new said.0 is
+batch_formed dir {old = old} {new = new} (unread r read said) is = as_before (TellsSound all_parts) old new said.0 is
 batch_formed dir (lines_run script read ends) is = script_formed dir script ends is
 
 pub call_formed : {words : List (List ℕ)} {input rest : SourceTold} {old new : Sides} {sinks printed : Sinks} {s : ℕ} → WordsEnd words input rest old new sinks printed s → TellsSound all_parts old.house → TellsSound all_parts new.house
-call_formed {words = words} {old = old} {new = new} (asked same ends) is = answers_kept all_parts Any formed_keeps (IsLine words) here old new ends.answer (λ line read. tt) is ends.answered
+call_formed {words = words} {old = old} {new = new} (asked same ends) is = answers_kept (TellsSound all_parts) Any formed_keeps (IsLine words) here old new ends.answer (λ line read. tt) is ends.answered
 call_formed (batch line read is_one ends) is = batch_formed (place_or line.paths here) ends is

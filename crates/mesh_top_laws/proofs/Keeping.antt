@@ -19,7 +19,7 @@ use Rattle.mesh_cli.specs.cli.Asked.{Makes}
 use Rattle.mesh_cli.specs.cli.Ends.{Commanded, Ended}
 use Rattle.mesh_cli.specs.cli.Sides.{Sides}
 use Rattle.mesh_cli.proofs.cli.Ending.{done_made}
-use Rattle.mesh_top_laws.specs.Kept.{IsSettled, LineSettles, TellsLeft, changed, untouched}
+use Rattle.mesh_top_laws.specs.Kept.{IsSettled, Leaves, LineSettles, TellsLeft, changed, untouched}
 use Rattle.mesh_top_laws.specs.Promised.{AsksFor, LeavesIt}
 use Rattle.mesh_top_laws.proofs.Asked.{MayLeave, asked_is_met, made_is_asked, may_leave}
 
@@ -37,6 +37,11 @@ module _ (dir : List ℕ) (c : Command) (old : Sides) (x : Parts) (w : World) (s
     -- at each exit
     front_sound : (made rest : List Change) → changes its.after k w ≡ made ++ rest → Sound (doubts_after made) (run w made)
     front_sound made rest is = stays_sound x w k its.before its.after is_met sound its.settles made rest is
+
+  -- so in whatever the command leaves
+  pub left_sound : (y : Parts) (v : World) → Leaves dir old c x w settled y v → Sound y v
+  left_sound y v untouched = sound
+  left_sound y v (changed k asks made rest is) = front_sound k asks made rest is
 
   -- and where all is made
   leaves : (k : promise.Command) (asks : AsksFor dir old c w k) → MayLeave w k → LeavesIt (settled k asks).after k w (run w (changes (settled k asks).after k w))

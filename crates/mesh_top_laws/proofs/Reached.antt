@@ -1,38 +1,111 @@
--- The worlds that any calls reach from the empty one are sound, and what is done next leaves what it promises.
-use Rattle.std.proofs.Common.{◌≡◌, ℕ, List, Some, sym, ◌∙◌, subst}
-use Rattle.mesh_scratch.specs.Horizons.{Clock, Shows}
-use Rattle.mesh_house.specs.declared.world.World.{World}
-use Rattle.mesh_changes.specs.Commands as promise
-use Rattle.mesh_due.specs.Parts.{no_parts}
-use Rattle.mesh_printed.specs.printed.Printing.{Sinks}
+-- Events keep worlds sound, calls are events, and what is done after any from the empty world leaves what it promises.
+use Rattle.std.proofs.Common.{◌≡◌, inl, inr, ℕ, Bool, true, false, List, Some, Result, sym, subst}
+use Rattle.mesh_house.specs.House.{Told}
 use Rattle.mesh_house.specs.World.{empty_world}
-use Rattle.mesh_sound.specs.Histories.{judged_at}
+use Rattle.mesh_house.specs.declared.world.World.{World}
+use Rattle.mesh_due.specs.Parts.{Parts, no_parts}
+use Rattle.mesh_io.specs.Told.{SourceTold}
+use Rattle.mesh_layer.specs.Shows.{Tells}
+use Rattle.mesh_options.specs.scripts.Scripts.{is_skipped}
+use Rattle.mesh_printed.specs.declared.printed.refusals.Refusal.{Refusal}
+use Rattle.mesh_printed.specs.printed.Printing.{Sinks}
 use Rattle.mesh_sound.specs.Sound.{Sound}
 use Rattle.mesh_line.specs.Lines.{IsLine}
 use Rattle.mesh_line.specs.declared.line.Line.{Line}
-use Rattle.mesh_cli.specs.cli.Scripts.{AskedEnds}
+use Rattle.mesh_cli.specs.cli.Scripts.{AskedAnswers, AskedEnds, BatchEnds, IsTextLine, ScriptEnds, StepBy, TextsEnd, WordsEnd, asked, batch, command, ended, lines_run, stopped, unread, usage, wanting, went}
 use Rattle.mesh_cli.specs.cli.Sides.{Sides, here, place_or}
-use Rattle.mesh_top_laws.specs.Histories.{Reached, begun, called}
-use Rattle.mesh_top_laws.specs.Kept.{LineIsStill}
-use Rattle.mesh_top_laws.specs.Promised.{AsksFor, LeavesIt}
-use Rattle.mesh_top_laws.proofs.Calls.{call_kept, line_leaves, still_settles, telling}
+use Rattle.mesh_top_laws.specs.Histories.{Events, event, no_event}
+use Rattle.mesh_top_laws.specs.Kept.{AllSettle, AskedLeaves, BatchSettles, CallSettles, ScriptSettles, TextsSettle, as_it_was, of_line}
+use Rattle.mesh_top_laws.proofs.Calls.{line_leaves}
+use Rattle.mesh_top_laws.proofs.Keeping.{Left, command_kept, left_sound}
+
+-- events go on from one another
+pub joined : (w u : World) (x y : Parts) → Events w x u y → (v : World) (z : Parts) → Events u y v z → Events w x v z
+joined w u x y first v z no_event = first
+joined w u x y first o q (event t v p z more dir c s settled leaves) = event t v p z (joined w u x y first t p more) dir c s settled leaves
+
+pub events_sound : (w : World) (x : Parts) → Sound x w → (v : World) (y : Parts) → Events w x v y → Sound y v
+events_sound w x sound v y no_event = sound
+events_sound w x sound o q (event u v y z more dir c s settled leaves) = left_sound dir c s y u (events_sound w x sound u y more) settled z v leaves
+
+-- the events of a call, where it leaves what may be left
+record Goes (x : Parts) (w : World) (told : Told) (May : Parts → World → Type 0) : Type 0 where
+  doubts : Parts
+  world : World
+  told_is : told.world ≡ Some world
+  sound : Sound doubts world
+  may : May doubts world
+  events : Events w x world doubts
+
+telling : (x : Parts) (w : World) (told : Told) → told.world ≡ Some w → Sound x w → Tells told w
+telling x w told at sound = record { world = at; plain = sound.typed.plain }
+
+stays : (x : Parts) (w : World) (old new : Sides) (May : Parts → World → Type 0) → May x w → old.house.world ≡ Some w → Sound x w → new ≡ old → Goes x w new.house May
+stays x w old new May may at sound same =
+    record { doubts = x; world = w; told_is = subst (λ (s : Sides). s.house.world ≡ Some w) (sym same) at; sound = sound; may = may; events = no_event }
+
+module _ (asks : Line → Type 0) (dir : List ℕ) (old new : Sides) (x : Parts) (w : World) (at : old.house.world ≡ Some w) (sound : Sound x w) (settled : AllSettle asks dir old x w) where
+  answer_goes : (answer : Result (List ℕ) Refusal) → AskedAnswers asks dir old new answer → Goes x w new.house (AskedLeaves asks dir old x w settled)
+  answer_goes answer (command line as_asked single commanded) =
+      let place = place_or line.paths dir in
+      let so = command_kept place line.command old new answer commanded x w (telling x w old.house at sound) sound (settled line as_asked) in
+      record {
+        doubts = so.doubts;
+        world = so.world;
+        told_is = so.told_is;
+        sound = so.sound;
+        may = of_line line as_asked so.doubts so.world so.left_so;
+        events = event w so.world x so.doubts no_event place line.command old (settled line as_asked) so.left_so;
+      }
+  answer_goes answer (usage none same said) = stays x w old new (AskedLeaves asks dir old x w settled) as_it_was at sound same
+  answer_goes answer (wanting same said) = stays x w old new (AskedLeaves asks dir old x w settled) as_it_was at sound same
+
+step_goes : (dir text : List ℕ) (old new : Sides) (sinks printed : Sinks) (s : ℕ) (b : Bool) (x : Parts) (w : World) → old.house.world ≡ Some w → Sound x w → (settled : AllSettle (IsTextLine text) dir old x w)
+    → StepBy b dir text old new sinks printed s → Goes x w new.house (AskedLeaves (IsTextLine text) dir old x w settled)
+step_goes dir text old new sinks printed s true x w at sound settled (same, said, zero_is) = stays x w old new (AskedLeaves (IsTextLine text) dir old x w settled) as_it_was at sound same
+step_goes dir text old new sinks printed s false x w at sound settled ends = answer_goes (IsTextLine text) dir old new x w at sound settled ends.answer ends.answered
+
+-- the events of a call, whatever it leaves
+abbrev Went : Parts → World → Told → Type 0
+Went x w told = Goes x w told (λ y v. Unit {0})
+
+any : (x : Parts) (w : World) (told : Told) (May : Parts → World → Type 0) → Goes x w told May → Went x w told
+any x w told May is = record { doubts = is.doubts; world = is.world; told_is = is.told_is; sound = is.sound; may = tt; events = is.events }
+
+after : (x y : Parts) (w u : World) (told : Told) → Events w x u y → Went y u told → Went x w told
+after x y w u told first is =
+    record { doubts = is.doubts; world = is.world; told_is = is.told_is; sound = is.sound; may = tt; events = joined w u x y first is.world is.doubts is.events }
+
+texts_go : (dir : List ℕ) {texts : List (List ℕ)} {old new : Sides} {sinks printed : Sinks} {s : ℕ} (ends : TextsEnd dir texts old new sinks printed s) (x : Parts) (w : World) → old.house.world ≡ Some w → Sound x w → TextsSettle dir ends x w → Went x w new.house
+texts_go dir (ended old sinks) x w at sound settled = record { doubts = x; world = w; told_is = at; sound = sound; may = tt; events = no_event }
+texts_go dir (went text texts old mid new sinks between printed s step more) x w at sound settled =
+    let is = step_goes dir text old mid sinks between 0 (is_skipped text) x w at sound settled.0 step in
+    after x is.doubts w is.world new.house is.events (texts_go dir more is.doubts is.world is.told_is is.sound (settled.1 is.doubts is.world is.told_is is.may))
+texts_go dir (stopped text texts old new sinks printed s short step) x w at sound settled =
+    any x w new.house (AskedLeaves (IsTextLine text) dir old x w settled) (step_goes dir text old new sinks printed s (is_skipped text) x w at sound settled step)
+
+script_goes : (dir script : List ℕ) {old new : Sides} {sinks printed : Sinks} {s : ℕ} (ends : ScriptEnds dir script old new sinks printed s) (x : Parts) (w : World) → old.house.world ≡ Some w → Sound x w → ScriptSettles dir script ends x w → Went x w new.house
+script_goes dir script (inl texts) x w at sound settled = texts_go dir texts x w at sound settled
+script_goes dir script {old = old} {new = new} (inr said) x w at sound settled = stays x w old new (λ y v. Unit {0}) tt at sound said.0
+
+batch_goes : (dir : List ℕ) {input rest : SourceTold} {old new : Sides} {sinks printed : Sinks} {s : ℕ} (ends : BatchEnds dir input rest old new sinks printed s) (x : Parts) (w : World) → old.house.world ≡ Some w → Sound x w → BatchSettles dir ends x w → Went x w new.house
+batch_goes dir {old = old} {new = new} (unread r read said) x w at sound settled = stays x w old new (λ y v. Unit {0}) tt at sound said.0
+batch_goes dir (lines_run script read ends) x w at sound settled = script_goes dir script ends x w at sound settled
+
+call_goes : {words : List (List ℕ)} {input rest : SourceTold} {old new : Sides} {sinks printed : Sinks} {s : ℕ} (ends : WordsEnd words input rest old new sinks printed s) (x : Parts) (w : World) → old.house.world ≡ Some w → Sound x w → CallSettles ends x w → Went x w new.house
+call_goes {words = words} {old = old} {new = new} (asked same ends) x w at sound settled =
+    any x w new.house (AskedLeaves (IsLine words) here old x w settled) (answer_goes (IsLine words) here old new x w at sound settled ends.answer ends.answered)
+call_goes (batch line read is_one ends) x w at sound settled = batch_goes (place_or line.paths here) ends x w at sound settled
+
+pub call_events : (words : List (List ℕ)) (input rest : SourceTold) (old new : Sides) (sinks printed : Sinks) (s : ℕ) (ends : WordsEnd words input rest old new sinks printed s) (x : Parts) (w : World) → old.house.world ≡ Some w → Sound x w → CallSettles ends x w
+    → (v : World) × (y : Parts) × (new.house.world ≡ Some v) × Events w x v y
+call_events words input rest old new sinks printed s ends x w at sound settled = let is = call_goes ends x w at sound settled in (is.world, is.doubts, is.told_is, is.events)
 
 module _ (empty : Sound no_parts empty_world) where
-  pub reached_sound : (w : World) → Reached w → Sound no_parts w
-  reached_sound w begun = empty
-  reached_sound u (called w v h words input rest old new sinks printed s at ends still is) =
-      let so = call_kept ends still (record { world = w; told_is = at; sound = reached_sound w h }) in
-      let both : Some so.world ≡ Some v = sym so.told_is ∙ is in
-      let same : so.world ≡ v = cc in
-      subst (Sound no_parts) same so.sound
+  pub reached_sound : (w : World) (x : Parts) → Events empty_world no_parts w x → Sound x w
+  reached_sound w x events = events_sound empty_world no_parts empty w x events
 
-  pub reached_leaves : (w : World) → Reached w → (words : List (List ℕ)) (old new : Sides) (sinks printed : Sinks) → old.house.world ≡ Some w → AskedEnds (IsLine words) here old new sinks printed 0
-      → ((line : Line) → IsLine words line → LineIsStill here line old)
-      → (line : Line) × IsLine words line × (v : World) × (new.house.world ≡ Some v) × (k : promise.Command) × AsksFor (place_or line.paths here) old line.command w k × (clock : Clock) × Shows clock (judged_at w k) × LeavesIt clock k w v
-  reached_leaves w h words old new sinks printed at ends still =
-      let sound = reached_sound w h in
-      let told = telling no_parts old.house (record { world = w; told_is = at; sound = sound }) in
-      let (line, as_asked, left) =
-      line_leaves (IsLine words) here old new sinks printed ends no_parts w told sound (λ line as_asked k asks. still_settles w k (still line as_asked w told k asks)) in
-      let its = still line as_asked w told left.2 left.3 in
-      (line, as_asked, left.0, left.1, left.2, left.3, its.after, its.is, left.4)
+  pub reached_leaves : (asks : Line → Type 0) (w : World) (x : Parts) → Events empty_world no_parts w x → (dir : List ℕ) (old new : Sides) (sinks printed : Sinks) → old.house.world ≡ Some w → AskedEnds asks dir old new sinks printed 0
+      → (settled : AllSettle asks dir old x w) → (line : Line) × (as_asked : asks line) × Left (place_or line.paths dir) line.command old new x w (settled line as_asked)
+  reached_leaves asks w x events dir old new sinks printed at ends settled =
+      let sound = reached_sound w x events in line_leaves asks dir old new sinks printed ends x w (telling x w old.house at sound) sound settled

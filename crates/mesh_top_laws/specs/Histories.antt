@@ -1,16 +1,14 @@
--- The worlds that any calls reach from the empty one.
-use Rattle.std.specs.Prelude.{◌≡◌, ℕ, List, Some}
+-- Events: commands one after another.
+use Rattle.std.specs.Prelude.{ℕ, List}
 use Rattle.mesh_house.specs.declared.world.World.{World}
-use Rattle.mesh_io.specs.Told.{SourceTold}
-use Rattle.mesh_printed.specs.printed.Printing.{Sinks}
-use Rattle.mesh_house.specs.World.{empty_world}
-use Rattle.mesh_cli.specs.cli.Scripts.{WordsEnd}
+use Rattle.mesh_due.specs.Parts.{Parts}
+use Rattle.mesh_line.specs.declared.line.Command.{Command}
 use Rattle.mesh_cli.specs.cli.Sides.{Sides}
-use Rattle.mesh_top_laws.specs.Kept.{CallIsStill}
+use Rattle.mesh_top_laws.specs.Kept.{Leaves, LineSettles}
 
--- Each call ends as the public call says, with whatever status, wherever it stops, and no recorded rows come out otherwise through it.
--- Between two calls the files of the folder and the clock may become any others.
-pub data Reached : World → Type 0 where
-  begun : Reached empty_world
-  called : (w v : World) → Reached w → (words : List (List ℕ)) (input rest : SourceTold) (old new : Sides) (sinks printed : Sinks) (s : ℕ) → old.house.world ≡ Some w →
-      (ends : WordsEnd words input rest old new sinks printed s) → CallIsStill ends → new.house.world ≡ Some v → Reached v
+-- The events that lead from a world in which some parts are in doubt to another. An event is a command over a folder, made up to any of
+-- its changes, wherever it stops and whatever it answers; what it asks for settles in what the events before it leave. Between two
+-- events the files of the folder and the clock may become any others.
+pub data Events (w : World) (x : Parts) : World → Parts → Type 0 where
+  no_event : Events w x w x
+  event : (u v : World) (y z : Parts) → Events w x u y → (dir : List ℕ) (c : Command) (s : Sides) (settled : LineSettles dir s c y u) → Leaves dir s c y u settled z v → Events w x v z

@@ -50,6 +50,35 @@ pub record TellsLeft (dir : List ℕ) (s : Sides) (c : Command) (x : Parts) (w :
   pub sound : Sound doubts world
   pub left_so : Leaves dir s c x w settled doubts world
 
+-- whatever line some words or a text ask for settles
+abbrev pub AllSettle : (Line → Type 0) → List ℕ → Sides → Parts → World → Type 0
+AllSettle asks dir s x w = (line : Line) → asks line → LineSettles (place_or line.paths dir) s line.command x w
+
+-- what is left where some words or a text ask for a line: all as it was, or what the line leaves
+pub data AskedLeaves (asks : Line → Type 0) (dir : List ℕ) (s : Sides) (x : Parts) (w : World) (settled : AllSettle asks dir s x w) : Parts → World → Type 0 where
+  as_it_was : AskedLeaves asks dir s x w settled x w
+  of_line : (line : Line) (as_asked : asks line) (y : Parts) (v : World) → Leaves (place_or line.paths dir) s line.command x w (settled line as_asked) y v → AskedLeaves asks dir s x w settled y v
+
+-- the lines of a script settle, each in what those before it leave
+abbrev pub TextsSettle : (dir : List ℕ) {texts : List (List ℕ)} {old new : Sides} {sinks printed : Sinks} {s : ℕ} → TextsEnd dir texts old new sinks printed s → Parts → World → Type 0
+TextsSettle dir (ended old sinks) x w = Unit {0}
+TextsSettle dir (went text texts old mid new sinks between printed s step more) x w =
+    (settled : AllSettle (IsTextLine text) dir old x w) × ((y : Parts) (v : World) → mid.house.world ≡ Some v → AskedLeaves (IsTextLine text) dir old x w settled y v → TextsSettle dir more y v)
+TextsSettle dir (stopped text texts old new sinks printed s short step) x w = AllSettle (IsTextLine text) dir old x w
+
+abbrev pub ScriptSettles : (dir script : List ℕ) {old new : Sides} {sinks printed : Sinks} {s : ℕ} → ScriptEnds dir script old new sinks printed s → Parts → World → Type 0
+ScriptSettles dir script (inl texts) x w = TextsSettle dir texts x w
+ScriptSettles dir script (inr said) x w = Unit {0}
+
+abbrev pub BatchSettles : (dir : List ℕ) {input rest : SourceTold} {old new : Sides} {sinks printed : Sinks} {s : ℕ} → BatchEnds dir input rest old new sinks printed s → Parts → World → Type 0
+BatchSettles dir (unread r read said) x w = Unit {0}
+BatchSettles dir (lines_run script read ends) x w = ScriptSettles dir script ends x w
+
+-- all that a call's words ask for settles
+abbrev pub CallSettles : {words : List (List ℕ)} {input rest : SourceTold} {old new : Sides} {sinks printed : Sinks} {s : ℕ} → WordsEnd words input rest old new sinks printed s → Parts → World → Type 0
+CallSettles {words = words} {old = old} (asked same ends) x w = AllSettle (IsLine words) here old x w
+CallSettles (batch line read is ends) x w = BatchSettles (place_or line.paths here) ends x w
+
 -- a house tells a world that is sound but for these parts
 pub record TellsSound (x : Parts) (told : Told) : Type 0 where
   pub world : World

@@ -1,7 +1,9 @@
 // What the clauses of the public call give, by the promise.
-ghost use Rattle.std.specs.Prelude.{◌≡◌, ℕ, List, Some, Result};
+ghost use Rattle.std.specs.Prelude.{◌≡◌, ℕ, false, List, Some, Result};
+ghost use Rattle.mesh_base.specs.declared.forgets.Forget.{Forget};
 ghost use Rattle.mesh_scratch.specs.Horizons.{Clock, Shows};
 ghost use Rattle.mesh_house.specs.declared.world.Change.{Change};
+ghost use Rattle.mesh_house.specs.World.{empty_world};
 ghost use Rattle.mesh_house.specs.declared.world.World.{World};
 ghost use Rattle.mesh_changes.specs.Commands.{Command as Promised, changes};
 ghost use Rattle.mesh_due.specs.Parts.{Parts, all_parts, no_parts};
@@ -20,8 +22,8 @@ ghost use Rattle.mesh_cli.specs.cli.Asked.{Makes};
 ghost use Rattle.mesh_cli.specs.cli.Ends.{Commanded, Ended};
 ghost use Rattle.mesh_cli.specs.cli.Scripts.{AskedEnds, IsTextLine, WordsEnd};
 ghost use Rattle.mesh_cli.specs.cli.Sides.{Sides, here, place_or};
-ghost use Rattle.mesh_top_laws.specs.Histories.{Reached};
-ghost use Rattle.mesh_top_laws.specs.Kept.{CallIsStill, IsSettled, IsStill, LineIsStill, LineSettles, TellsLeft, TellsSound};
+ghost use Rattle.mesh_top_laws.specs.Histories.{Events};
+ghost use Rattle.mesh_top_laws.specs.Kept.{AllSettle, CallIsStill, CallSettles, IsSettled, IsStill, LineSettles, TellsLeft, TellsSound};
 ghost use Rattle.mesh_top_laws.specs.Promised.{AsksFor, LeavesIt};
 
 use mesh_sound::the_empty_world_is_sound;
@@ -49,38 +51,53 @@ pub fn commands_at_status_0_leave_what_they_promise()
 /// So does the line that the words of a call ask for, and each line of a script.
 pub fn lines_at_status_0_leave_what_they_promise()
     ensures words { (words : List (List ℕ)) (dir : List ℕ) (old new : Sides) (sinks printed : Sinks) → AskedEnds (IsLine words) dir old new sinks printed 0 → (x : Parts) (w : World) → Tells old.house w → Sound x w →
-        (settled : (line : Line) → IsLine words line → LineSettles (place_or line.paths dir) old line.command x w) →
+        (settled : AllSettle (IsLine words) dir old x w) →
         (line : Line) × (as_asked : IsLine words line) × (v : World) × (new.house.world ≡ Some v) × (k : Promised) × (asked : AsksFor (place_or line.paths dir) old line.command w k) × LeavesIt (settled line as_asked k asked).after k w v }
     ensures script { (text : List ℕ) (dir : List ℕ) (old new : Sides) (sinks printed : Sinks) → AskedEnds (IsTextLine text) dir old new sinks printed 0 → (x : Parts) (w : World) → Tells old.house w → Sound x w →
-        (settled : (line : Line) → IsTextLine text line → LineSettles (place_or line.paths dir) old line.command x w) →
+        (settled : AllSettle (IsTextLine text) dir old x w) →
         (line : Line) × (as_asked : IsTextLine text line) × (v : World) × (new.house.world ≡ Some v) × (k : Promised) × (asked : AsksFor (place_or line.paths dir) old line.command w k) × LeavesIt (settled line as_asked k asked).after k w v }
 {}
 
-/// Where no recorded rows would come out otherwise through a command, it settles in a world where nothing is in doubt.
+/// Where no recorded rows would come out otherwise through a command, and nothing is in doubt, it settles.
 pub fn what_is_still_settles()
-    ensures { (w : World) (k : Promised) → IsStill w k → IsSettled no_parts w k }
+    ensures { (x : Parts) → ((q : Forget) → x q ≡ false) → (w : World) (k : Promised) → IsStill w k → IsSettled x w k }
 {}
 
-/// So a call whose words end as the public call says, a batch too, keeps a sound world sound, where through each of its lines nothing
-/// comes out otherwise, in the world that those before it leave.
-pub fn calls_keep_worlds_sound()
-    ensures { (words : List (List ℕ)) (input rest : SourceTold) (old new : Sides) (sinks printed : Sinks) (s : ℕ) (ends : WordsEnd words input rest old new sinks printed s) → CallIsStill ends → TellsSound no_parts old.house → TellsSound no_parts new.house }
+/// Events that go on from events are events.
+pub fn events_go_on_from_one_another()
+    ensures { (w u : World) (x y : Parts) → Events w x u y → (v : World) (z : Parts) → Events u y v z → Events w x v z }
 {}
 
-/// Whatever calls are made from the empty world on, each with any project, at any moment, and stopped anywhere, the world that they
-/// reach is sound, where no recorded rows come out otherwise through any of them.
-pub fn worlds_of_calls_are_sound()
-    ensures { (w : World) → Reached w → Sound no_parts w }
+/// A call whose words end as the public call says, a batch too, is events, where all that it asks for settles.
+pub fn calls_are_events()
+    ensures { (words : List (List ℕ)) (input rest : SourceTold) (old new : Sides) (sinks printed : Sinks) (s : ℕ) (ends : WordsEnd words input rest old new sinks printed s) → (x : Parts) (w : World) → old.house.world ≡ Some w → Sound x w → CallSettles ends x w →
+        (v : World) × (y : Parts) × (new.house.world ≡ Some v) × Events w x v y }
+{}
+
+/// So is one through each of whose lines nothing comes out otherwise, in the world that those before it leave; where nothing is in
+/// doubt before it, nothing is behind it.
+pub fn still_calls_are_events()
+    ensures { (words : List (List ℕ)) (input rest : SourceTold) (old new : Sides) (sinks printed : Sinks) (s : ℕ) (ends : WordsEnd words input rest old new sinks printed s) → CallIsStill ends → (x : Parts) (w : World) → old.house.world ≡ Some w → Sound x w →
+        ((q : Forget) → x q ≡ false) → (v : World) × (y : Parts) × (new.house.world ≡ Some v) × ((q : Forget) → y q ≡ false) × Events w x v y }
+{}
+
+/// Whatever events there are from the empty world on, each over any project, at any moment, and stopped anywhere, the world that they
+/// lead to is sound, but for what is then in doubt.
+pub fn worlds_of_events_are_sound()
+    ensures { (w : World) (x : Parts) → Events empty_world no_parts w x → Sound x w }
 {
     the_empty_world_is_sound();
 }
 
-/// After them an apply, a run, or a plan that is applied at once, through which nothing comes out otherwise either, and which ends
-/// with status 0, leaves its environment final: each view shows the rows that its model has from scratch.
+/// After them an apply, a run, or a plan that is applied at once, which settles and ends with status 0, leaves its environment final:
+/// each view shows the rows that its model has from scratch. So does a line of a script.
 pub fn calls_show_rows_from_scratch()
-    ensures { (w : World) → Reached w → (words : List (List ℕ)) (old new : Sides) (sinks printed : Sinks) → old.house.world ≡ Some w → AskedEnds (IsLine words) here old new sinks printed 0 →
-        ((line : Line) → IsLine words line → LineIsStill here line old) →
-        (line : Line) × IsLine words line × (v : World) × (new.house.world ≡ Some v) × (k : Promised) × AsksFor (place_or line.paths here) old line.command w k × (clock : Clock) × Shows clock (judged_at w k) × LeavesIt clock k w v }
+    ensures words { (w : World) (x : Parts) → Events empty_world no_parts w x → (words : List (List ℕ)) (old new : Sides) (sinks printed : Sinks) → old.house.world ≡ Some w → AskedEnds (IsLine words) here old new sinks printed 0 →
+        (settled : AllSettle (IsLine words) here old x w) →
+        (line : Line) × (as_asked : IsLine words line) × (v : World) × (new.house.world ≡ Some v) × (k : Promised) × (asked : AsksFor (place_or line.paths here) old line.command w k) × LeavesIt (settled line as_asked k asked).after k w v }
+    ensures script { (w : World) (x : Parts) → Events empty_world no_parts w x → (text dir : List ℕ) (old new : Sides) (sinks printed : Sinks) → old.house.world ≡ Some w → AskedEnds (IsTextLine text) dir old new sinks printed 0 →
+        (settled : AllSettle (IsTextLine text) dir old x w) →
+        (line : Line) × (as_asked : IsTextLine text line) × (v : World) × (new.house.world ≡ Some v) × (k : Promised) × (asked : AsksFor (place_or line.paths dir) old line.command w k) × LeavesIt (settled line as_asked k asked).after k w v }
 {
     the_empty_world_is_sound();
 }

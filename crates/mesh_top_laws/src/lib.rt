@@ -1,19 +1,19 @@
 //! The promise of the public call: where the house tells a world that is sound but for some parts, and what a command line asks for
 //! settles there, it tells one that is sound but for what is then left in doubt, at every exit and whatever the status; at status 0
 //! an apply, a run or a plan that is applied at once leaves its environment final, for every number of workers; so after any calls
-//! from the empty world through which nothing comes out otherwise; and every call leaves a world formed that was. Each law is the contract of a function with an empty body. It stands on `mesh_cli`, `mesh_promise_laws`,
-//! `mesh_formed_laws` and `mesh_steady_laws`.
+//! from the empty world that settle; and every call leaves a world formed that was. Each law is the contract of a function with an
+//! empty body. It stands on `mesh_cli`, `mesh_promise_laws`, `mesh_formed_laws` and `mesh_steady_laws`.
 #![tactic(auto)]
 
 mod laws;
 mod stages;
 
 pub use laws::{
-    calls_keep_worlds_formed, calls_keep_worlds_sound, calls_show_rows_from_scratch,
+    calls_are_events, calls_keep_worlds_formed, calls_show_rows_from_scratch,
     commands_at_status_0_leave_what_they_promise, commands_keep_worlds_sound,
-    commands_within_a_moment_are_still, lines_at_status_0_leave_what_they_promise,
-    steady_projects_are_still, what_is_made_is_asked_of_the_promise, what_is_still_settles,
-    worlds_of_calls_are_sound,
+    commands_within_a_moment_are_still, events_go_on_from_one_another,
+    lines_at_status_0_leave_what_they_promise, steady_projects_are_still, still_calls_are_events,
+    what_is_made_is_asked_of_the_promise, what_is_still_settles, worlds_of_events_are_sound,
 };
 pub use stages::{
     executions_keep_worlds_sound, executions_never_dangle, promotions_keep_worlds_sound,
