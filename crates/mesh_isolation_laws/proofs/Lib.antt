@@ -12,9 +12,13 @@ pub mod Rows
 pub mod Units
 -- Turns: what holds while the models of a plan are made and filled one after another.
 pub mod Turns
--- Models: a recorded model is filled in its turn with the rows that it has.
+-- Models: a recorded model is filled in its turn with the rows that it has, and what of it isn't due isn't filled.
 pub mod Models
 -- Plans: what holds of a table at each exit of an apply and of a run.
 pub mod Plans
--- Recorded: what is recorded of a table and isn't in doubt keeps its rows.
+-- Tables: what is recorded of a table keeps its rows, where a part of them is held along a command.
+pub mod Tables
+-- Recorded: what is recorded of a table and isn't in doubt keeps its rows, where a command settles.
 pub mod Recorded
+-- Spared: what is recorded of a table and isn't computed again keeps its rows, whether it settles or not.
+pub mod Spared

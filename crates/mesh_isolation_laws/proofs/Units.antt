@@ -1,5 +1,5 @@
--- An incremental table keeps the rows of a unit while units of its schedule are written and recorded, this one too, where it gets
--- these rows again.
+-- An incremental table keeps the rows of a unit while units of its schedule are written and recorded: others, and this one too,
+-- where it gets these rows again.
 use Rattle.std.proofs.Common.{◌≡◌, ℕ, ℤ, Bool, true, false, cond, not, List, [], ◌∷◌, ◌++◌, Some, inl, inr, refl, sym, ◌∙◌, ap, subst, arith}
 use Rattle.std.proofs.lemmas.Cmp.{tied_itself, int_cmp_total}
 use Rattle.std.proofs.lemmas.Int.{ints}
@@ -68,7 +68,7 @@ perm_has (trans p q) x h = perm_has p x (perm_has q x h)
 int_is : (a b : ℤ) → is_eq (int_cmp a b) ≡ true → a ≡ b
 int_is a b h = exact_signed a b ((Equal-is (int_cmp a b)).0 h)
 
-int_itself : (a : ℤ) → is_eq (int_cmp a a) ≡ true
+pub int_itself : (a : ℤ) → is_eq (int_cmp a a) ≡ true
 int_itself a = (Equal-is (int_cmp a a)).1 (tied_itself int_cmp_total a)
 
 -- one of two units of a schedule, or one that has no row of it
@@ -96,7 +96,7 @@ module _ (clock : Clock) (c : Closure) (d e : Bounds) (d_there : Contains (sched
 
 module _ (clock : Clock) (p : Planned) (time : List ℕ) (lookback : ℕ) (is : p.node.own.kind ≡ Incremental time lookback) (tables : List Input) (d : Bounds)
     (listed : Contains (schedule clock p.closure) d)
-    (fixed : List (List Cell)) (again : IsSameBag (ascending (piece_over p.node.own tables d)) fixed) where
+    (fixed : List (List Cell)) where
   abbrev own : Own
   own = p.node.own
 
@@ -121,8 +121,8 @@ module _ (clock : Clock) (p : Planned) (time : List ℕ) (lookback : ℕ) (is : 
   split e old = ap (λ (k : Kind). filter (λ row. not (lies_by (time_column k) (columns_of own) e row)) old ++ rows_of e) (sym is)
 
   -- this unit is written
-  here : (old : List (List Cell)) → IsSameBag (filter (is_of_unit own d) (written d old)) fixed
-  here old = subst (λ (l : List (List Cell)). IsSameBag l fixed) (sym same) again
+  here : IsSameBag (rows_of d) fixed → (old : List (List Cell)) → IsSameBag (filter (is_of_unit own d) (written d old)) fixed
+  here again old = subst (λ (l : List (List Cell)). IsSameBag l fixed) (sym same) again
     where
       test : List Cell → Bool
       test = is_of_unit own d
@@ -147,30 +147,31 @@ module _ (clock : Clock) (p : Planned) (time : List ℕ) (lookback : ℕ) (is : 
       back : (row : List Cell) → is_of_unit own e row ≡ true → is_of_unit own d row ≡ false
       back row h = lies_is d row ∙ elsewhere clock p.closure e d there listed (λ f. other (sym f)) (columns_of own) time row (sym (lies_is e row) ∙ h)
 
-  unit_written : (e : Bounds) → Contains (schedule clock p.closure) e → (old : List (List Cell)) → IsSameBag (filter (is_of_unit own d) old) fixed
+  unit_written : (e : Bounds) → Contains (schedule clock p.closure) e → (d ≡ e → IsSameBag (rows_of d) fixed) → (old : List (List Cell)) → IsSameBag (filter (is_of_unit own d) old) fixed
       → IsSameBag (filter (is_of_unit own d) (written e old)) fixed
-  unit_written e there old h = go (is_eq (int_cmp d.start e.start)) refl
+  unit_written e there again old h = go (is_eq (int_cmp d.start e.start)) refl
     where
       go : (b : Bool) → is_eq (int_cmp d.start e.start) ≡ b → IsSameBag (filter (is_of_unit own d) (written e old)) fixed
       go true f =
           let same : d ≡ e = one_start clock p.closure d e listed there (int_is d.start e.start f) in
-          subst (λ (u : Bounds). IsSameBag (filter (is_of_unit own d) (written u old)) fixed) same (here old)
+          subst (λ (u : Bounds). IsSameBag (filter (is_of_unit own d) (written u old)) fixed) same (here (again same) old)
       go false f =
           let other : d ≡ e → ⊥ = λ same. let clash : true ≡ false = sym (int_itself d.start) ∙ ap (λ (u : Bounds). is_eq (int_cmp d.start u.start)) same ∙ f in cc in
           subst (λ (l : List (List Cell)). IsSameBag l fixed) (sym (beside e there other old)) h
 
   -- one unit is written and recorded
-  unit_holds : (e : Bounds) → Contains (schedule clock p.closure) e → (u : World) → KeepsUnit u → HoldsAlong KeepsUnit u (unit_changes p time tables e)
-  unit_holds e there u k =
+  unit_holds : (e : Bounds) → Contains (schedule clock p.closure) e → (d ≡ e → IsSameBag (rows_of d) fixed) → (u : World) → KeepsUnit u → HoldsAlong KeepsUnit u (unit_changes p time tables e)
+  unit_holds e there again u k =
       let part = λ (o : Own). filter (is_of_unit o d) in
       let then_ : KeepsUnit (step u (WriteRange p.object time e.start e.end (rows_of e))) =
-      keeps_written part fixed p.object own u time e.start e.end (rows_of e) k (unit_written e there k.rows k.same) in
+      keeps_written part fixed p.object own u time e.start e.end (rows_of e) k (unit_written e there again k.rows k.same) in
       (k, (then_, keeps_elsewhere part fixed p.object own (step u (WriteRange p.object time e.start e.end (rows_of e))) (RecordRange p.object e.start e.end) tt then_))
 
-  pub units_hold : (us : List Bounds) → ((e : Bounds) → Has e us → Contains (schedule clock p.closure) e) → (u : World) → KeepsUnit u
+  -- several are, this one perhaps among them
+  pub units_hold : (us : List Bounds) → ((e : Bounds) → Has e us → Contains (schedule clock p.closure) e) → (Has d us → IsSameBag (rows_of d) fixed) → (u : World) → KeepsUnit u
       → HoldsAlong KeepsUnit u (flat_map (unit_changes p time tables) us)
-  units_hold [] there u k = k
-  units_hold (e ∷ es) there u k =
-      let first = unit_holds e (there e (inl refl)) u k in
+  units_hold [] there again u k = k
+  units_hold (e ∷ es) there again u k =
+      let first = unit_holds e (there e (inl refl)) (λ same. again (inl (sym same))) u k in
       holds_append KeepsUnit u (unit_changes p time tables e) (flat_map (unit_changes p time tables) es) first
-      (units_hold es (λ f h. there f (inr h)) (run u (unit_changes p time tables e)) (holds_end KeepsUnit u (unit_changes p time tables e) first))
+      (units_hold es (λ f h. there f (inr h)) (λ h. again (inr h)) (run u (unit_changes p time tables e)) (holds_end KeepsUnit u (unit_changes p time tables e) first))

@@ -17,7 +17,7 @@ use Rattle.mesh_scratch.specs.Scratch.{is_of_unit}
 use Rattle.mesh_house.specs.declared.world.World.{World}
 use Rattle.mesh_listed.specs.Closing.{closing}
 use Rattle.mesh_due.specs.Marks.{marks}
-use Rattle.mesh_due.specs.Parts.{Parts, unit_of}
+use Rattle.mesh_due.specs.Parts.{Parts, is_among, unit_of}
 use Rattle.mesh_changes.specs.Commands.{Command, Apply, RunAll, Janitor, Ingest, Invalidate, MigrateAll, Nothing}
 use Rattle.mesh_sound.specs.Sound.{table_rows}
 
@@ -41,14 +41,21 @@ DropsNone other = Unit {0}
 abbrev pub HasStill : Option (List (List Cell)) → (List (List Cell) → List (List Cell)) → List (List Cell) → Type 0
 HasStill table part rows = (now : List (List Cell)) × (table ≡ Some now) × IsSameBag (part now) (part rows)
 
--- What is recorded of a snapshot's table, and isn't in doubt, has in a later world the rows that it has in this one: a recorded
--- unit of an incremental table, a FULL table whose marks are those of its model, and a seed's.
+-- what a command computes again although it is recorded
+abbrev pub again_in : Command → Parts
+again_in (Apply plan) q = is_among plan.forgets q
+again_in (RunAll plan) q = is_among plan.forgets q
+again_in other q = false
+
+-- What is recorded of a snapshot's table, and isn't left out, has in a later world the rows that it has in this one: a recorded
+-- unit of an incremental table, a FULL table whose marks are those of its model, and a seed's. Some parts are left out: those in
+-- doubt in one law, those that are computed again in the other.
 abbrev pub KeepsRows : Clock → Clock → Parts → World → World → Snapshot → Version → Kind → Type 0
-KeepsRows before after x w later s v (Incremental time lookback) =
-    (u : Bounds) → Contains (schedule before (closing w.book.snapshots s)) u → is_held v.ranges u.start u.end ≡ true → x (unit_of s.object u) ≡ false →
+KeepsRows before after out w later s v (Incremental time lookback) =
+    (u : Bounds) → Contains (schedule before (closing w.book.snapshots s)) u → is_held v.ranges u.start u.end ≡ true → out (unit_of s.object u) ≡ false →
     ForSome (table_rows w s.object) (HasStill (table_rows later s.object) (filter (is_of_unit s.own u)))
-KeepsRows before after x w later s v Full =
-    v.marks ≡ Some (marks after (closing w.book.snapshots s)) → x (Marks s.object) ≡ false →
+KeepsRows before after out w later s v Full =
+    v.marks ≡ Some (marks after (closing w.book.snapshots s)) → out (Marks s.object) ≡ false →
     ForSome (table_rows w s.object) (HasStill (table_rows later s.object) (λ rows. rows))
-KeepsRows before after x w later s v Seed = IsSome v.marks → ForSome (table_rows w s.object) (HasStill (table_rows later s.object) (λ rows. rows))
-KeepsRows before after x w later s v View = Unit {0}
+KeepsRows before after out w later s v Seed = IsSome v.marks → ForSome (table_rows w s.object) (HasStill (table_rows later s.object) (λ rows. rows))
+KeepsRows before after out w later s v View = Unit {0}

@@ -15,7 +15,7 @@ ghost use Rattle.mesh_changes.specs.Commands.{Command, changes};
 ghost use Rattle.mesh_changes.specs.Environments.{IsEnv, view_in};
 ghost use Rattle.mesh_sound.specs.Histories.{IsAsked, IsMet, Settles, met};
 ghost use Rattle.mesh_sound.specs.Sound.{IsEntry, Sound};
-ghost use Rattle.mesh_isolation_laws.specs.Isolation.{DropsNone, KeepsRows, LeavesOut};
+ghost use Rattle.mesh_isolation_laws.specs.Isolation.{DropsNone, KeepsRows, LeavesOut, again_in};
 
 /// At every exit of a command, each environment that it doesn't switch has the record that it had, with both of its lists, and
 /// each of its views points where it pointed; one that didn't stand doesn't stand. This asks for no settling.
@@ -32,4 +32,13 @@ pub fn what_is_recorded_keeps_its_rows()
         (made rest : List Change) → changes after c w ≡ made ++ rest →
         (s : Snapshot) → IsSnapshot w.book.snapshots s → (v : Version) → version_of w.book s.object ≡ Some v →
         KeepsRows before after (met before after c w x) w (run w made) s v s.own.kind }
+{}
+
+/// Whether a command settles or not, and whatever is in doubt, at every exit of a command that isn't the janitor's what is recorded
+/// of a table and isn't computed again has the rows that it had, each as often.
+pub fn what_is_not_computed_again_keeps_its_rows()
+    ensures { (x : Parts) (w : World) (c : Command) (before after : Clock) → IsMet before after w c → Sound x w → DropsNone c →
+        (made rest : List Change) → changes after c w ≡ made ++ rest →
+        (s : Snapshot) → IsSnapshot w.book.snapshots s → (v : Version) → version_of w.book s.object ≡ Some v →
+        KeepsRows before after (again_in c) w (run w made) s v s.own.kind }
 {}

@@ -1,8 +1,12 @@
 //! What a command leaves of the others, each the contract of a function with an empty body: at every exit of an apply or a run each
-//! other environment has the record and the views that it had, and each table the rows of what was recorded of it and isn't in
-//! doubt, even where these are computed again. It stands on `mesh_promise_laws`.
+//! other environment has the record and the views that it had, and each table the rows of what was recorded of it: where the
+//! command settles, of what isn't in doubt, even where these are computed again, and in any case of what isn't computed again. It
+//! stands on `mesh_promise_laws`.
 #![tactic(auto)]
 
 mod laws;
 
-pub use laws::{other_environments_stay, what_is_recorded_keeps_its_rows};
+pub use laws::{
+    other_environments_stay, what_is_not_computed_again_keeps_its_rows,
+    what_is_recorded_keeps_its_rows,
+};
