@@ -53,7 +53,7 @@ use Rattle.mesh_top_laws.proofs.Asked.{apply_allowed, judged_apply, judged_run, 
 module _ (before after : Clock) (k : promise.Command) (x : Parts) (w : World) (begun : IsBegun before after k x w) (m : IsMet before after w k) where
   -- a front of its changes is made
   front_made : (list : List Change) → list ≡ changes after k w → (made rest : List Change) → list ≡ made ++ rest → (new : Told) → new.world ≡ Some (run w made) → IsUnderWay before after k x w new
-  front_made list are made rest is new told = record { made = made; told_is = told; sound = stays_sound x w k before after m begun.sound begun.settles made rest (sym are ∙ is) }
+  front_made list are made rest is new told = record { made = made; rest = rest; front = sym are ∙ is; told_is = told; sound = stays_sound x w k before after m begun.sound begun.settles made rest (sym are ∙ is) }
 
   -- or nothing is
   nothing_made : (old new : Told) → Tells old w → new.world ≡ old.world → IsUnderWay before after k x w new

@@ -1,5 +1,5 @@
--- Every call leaves a world formed that was.
-use Rattle.std.proofs.Common.{◌≡◌, inl, inr, ℕ, ℤ, pos, Bool, true, false, cond, List, [], ◌++◌, Ok, Err, Result, sym, ◌∙◌, subst}
+-- Every command, and so every call, leaves a world formed that was.
+use Rattle.std.proofs.Common.{◌≡◌, inl, inr, ℕ, ℤ, pos, Bool, true, false, cond, List, [], ◌++◌, Some, Ok, Err, Result, sym, ◌∙◌, subst}
 use Rattle.std.specs.Prelude.{◌&&◌}
 use Rattle.std.specs.Int.Signed.{le_z}
 use Rattle.std.proofs.lemmas.List.{append-nil}
@@ -8,12 +8,13 @@ use Rattle.mesh_time.proofs.Apart.{le_says}
 use Rattle.mesh_days.specs.Moments.{IsMoment}
 use Rattle.mesh_book.specs.WellFormed.{is_moment, is_version}
 use Rattle.mesh_scratch.proofs.Clocks.{shown}
+use Rattle.mesh_house.specs.House.{Told}
 use Rattle.mesh_house.specs.Step.{run}
 use Rattle.mesh_house.specs.declared.world.Change.{Change}
 use Rattle.mesh_house.specs.declared.world.World.{World}
 use Rattle.mesh_changes.specs.Commands as promise
 use Rattle.mesh_changes.specs.Commands.{allows, changes}
-use Rattle.mesh_due.specs.Parts.{all_parts, either}
+use Rattle.mesh_due.specs.Parts.{Parts, all_parts, either}
 use Rattle.mesh_io.specs.Told.{SourceTold}
 use Rattle.mesh_layer.specs.Shows.{Tells}
 use Rattle.mesh_options.specs.scripts.Scripts.{is_skipped}
@@ -32,7 +33,7 @@ use Rattle.mesh_cli.specs.cli.Asked.{Makes}
 use Rattle.mesh_cli.specs.cli.Ends.{Commanded}
 use Rattle.mesh_cli.specs.cli.Scripts.{BatchEnds, ScriptEnds, TextsEnd, WordsEnd, asked, batch, ended, lines_run, stopped, unread, went}
 use Rattle.mesh_cli.specs.cli.Sides.{Sides, here, place_or}
-use Rattle.mesh_top_laws.specs.Kept.{TellsSound}
+use Rattle.mesh_top_laws.specs.Kept.{TellsFormed, TellsSound, unchanged, widened}
 use Rattle.mesh_top_laws.specs.Promised.{AsksFor}
 use Rattle.mesh_top_laws.proofs.Asked.{apply_judged, asked_is_met, made_is_asked, run_judged}
 use Rattle.mesh_top_laws.proofs.Calls.{answers_kept, as_before, step_kept, telling}
@@ -63,29 +64,38 @@ judged_moment dir s Migrate w k was (renames, moved, is) = subst (λ (c : promis
 judged_moment dir s Batch w k was h = subst (λ (c : promise.Command). IsMoment (judged_at w c)) (sym h) (one_or_other w promise.Nothing w.book.moment was was)
 judged_moment dir s (Demo n workers) w k was h = subst (λ (c : promise.Command). IsMoment (judged_at w c)) (sym h) (one_or_other w promise.Nothing w.book.moment was was)
 
-module _ (dir : List ℕ) (c : Command) (old : Sides) (w : World) (formed : Sound all_parts w) where
+module _ (dir : List ℕ) (c : Command) (old : Sides) (x : Parts) (w : World) (formed : Sound x w) where
   its_moment : IsMoment w.book.moment
   its_moment = moment_says w.book.moment (and_left (is_moment w.book.moment) (is_version w.book.version) (and_left (is_moment w.book.moment && is_version w.book.version) _ formed.book.well_formed))
 
-  made_formed : (list : List Change) → Makes dir old c w list → (made rest : List Change) → list ≡ made ++ rest → Sound all_parts (run w made)
-  made_formed list makes made rest is =
+  made_formed : (told : Told) (list : List Change) → Makes dir old c w list → (made rest : List Change) → list ≡ made ++ rest → told.world ≡ Some (run w made) → TellsFormed dir old c x w told
+  made_formed told list makes made rest is at =
       let (k, asks, are) = made_is_asked dir old c w list makes in
       let (before, was) = shown w.book.moment its_moment in
       let (after, now) = shown (judged_at w k) (judged_moment dir old c w k its_moment asks) in
-      doubted (either (met before after k w all_parts) (planned_parts k)) all_parts (run w made) (λ q e. absurd (let clash : true ≡ false = e in cc))
-      (stays_formed all_parts w k before after (record { was = was; is = now; asked = asked_is_met dir old c w k asks after now }) formed made rest (sym (are after now) ∙ is))
+      record {
+        doubts = either (met before after k w x) (planned_parts k);
+        world = run w made;
+        told_is = at;
+        sound = stays_formed x w k before after (record { was = was; is = now; asked = asked_is_met dir old c w k asks after now }) formed made rest (sym (are after now) ∙ is);
+        left_so = widened k asks before after was now made rest (sym (are after now) ∙ is);
+      }
 
-  answered_formed : (new : Sides) (answer : Result (List ℕ) Refusal) → Tells old.house w → IsMade (Makes dir old c w) w old.house new.house answer → TellsSound all_parts new.house
-  answered_formed new (Ok text) told (list, makes, is) = record { world = run w list; told_is = is.world; sound = made_formed list makes list [] (sym (append-nil list)) }
-  answered_formed new (Err r) told (inl untouched) = record { world = w; told_is = untouched.world ∙ told.world; sound = formed }
-  answered_formed new (Err r) told (inr (list, makes, is)) = record { world = run w is.made; told_is = is.world; sound = made_formed list makes is.made is.rest is.parts }
+  answered_formed : (new : Sides) (answer : Result (List ℕ) Refusal) → Tells old.house w → IsMade (Makes dir old c w) w old.house new.house answer → TellsFormed dir old c x w new.house
+  answered_formed new (Ok text) told (list, makes, is) = made_formed new.house list makes list [] (sym (append-nil list)) is.world
+  answered_formed new (Err r) told (inl untouched) = record { doubts = x; world = w; told_is = untouched.world ∙ told.world; sound = formed; left_so = unchanged }
+  answered_formed new (Err r) told (inr (list, makes, is)) = made_formed new.house list makes is.made is.rest is.parts is.world
+
+pub command_formed : (dir : List ℕ) (c : Command) (old new : Sides) (answer : Result (List ℕ) Refusal) → Commanded dir c old new answer → (x : Parts) (w : World) → Tells old.house w → Sound x w → TellsFormed dir old c x w new.house
+command_formed dir c old new answer commanded x w told formed = answered_formed dir c old x w formed new answer told (commanded.house.made w told)
 
 abbrev Any : List ℕ → Line → Sides → Type 0
 Any dir line old = Unit {0}
 
 formed_keeps : (dir : List ℕ) (line : Line) (old new : Sides) (answer : Result (List ℕ) Refusal) → Commanded (place_or line.paths dir) line.command old new answer → Any dir line old → TellsSound all_parts old.house → TellsSound all_parts new.house
 formed_keeps dir line old new answer commanded any is =
-    let told = telling all_parts old.house is in answered_formed (place_or line.paths dir) line.command old is.world is.sound new answer told (commanded.house.made is.world told)
+    let so = command_formed (place_or line.paths dir) line.command old new answer commanded all_parts is.world (telling all_parts old.house is) is.sound in
+    record { world = so.world; told_is = so.told_is; sound = doubted so.doubts all_parts so.world (λ q e. absurd (let clash : true ≡ false = e in cc)) so.sound }
 
 texts_formed : (dir : List ℕ) {texts : List (List ℕ)} {old new : Sides} {sinks printed : Sinks} {s : ℕ} → TextsEnd dir texts old new sinks printed s → TellsSound all_parts old.house → TellsSound all_parts new.house
 texts_formed dir (ended old sinks) is = is

@@ -1,5 +1,5 @@
 -- A command keeps a world sound at each exit, where what it asks for settles, and leaves an environment final.
-use Rattle.std.proofs.Common.{◌≡◌, inl, inr, ℕ, List, [], ◌++◌, Some, Ok, Err, Result, sym, ◌∙◌, subst}
+use Rattle.std.proofs.Common.{◌≡◌, inl, inr, ℕ, List, [], ◌++◌, Some, Ok, Err, Result, sym, ap, ◌∙◌, subst}
 use Rattle.std.proofs.lemmas.List.{append-nil}
 use Rattle.mesh_house.specs.Step.{run}
 use Rattle.mesh_house.specs.declared.world.Change.{Change}
@@ -19,7 +19,7 @@ use Rattle.mesh_cli.specs.cli.Asked.{Makes}
 use Rattle.mesh_cli.specs.cli.Ends.{Commanded, Ended}
 use Rattle.mesh_cli.specs.cli.Sides.{Sides}
 use Rattle.mesh_cli.proofs.cli.Ending.{done_made}
-use Rattle.mesh_top_laws.specs.Kept.{IsSettled, Leaves, LineSettles, TellsLeft, changed, untouched}
+use Rattle.mesh_top_laws.specs.Kept.{IsAllMade, IsSettled, Leaves, LineSettles, TellsLeft, changed, untouched}
 use Rattle.mesh_top_laws.specs.Promised.{AsksFor, LeavesIt}
 use Rattle.mesh_top_laws.proofs.Asked.{MayLeave, asked_is_met, made_is_asked, may_leave}
 
@@ -35,7 +35,7 @@ module _ (dir : List ℕ) (c : Command) (old : Sides) (x : Parts) (w : World) (s
     doubts_after made = left made (met its.before its.after k w x)
 
     -- at each exit
-    front_sound : (made rest : List Change) → changes its.after k w ≡ made ++ rest → Sound (doubts_after made) (run w made)
+    pub front_sound : (made rest : List Change) → changes its.after k w ≡ made ++ rest → Sound (doubts_after made) (run w made)
     front_sound made rest is = stays_sound x w k its.before its.after is_met sound its.settles made rest is
 
   -- so in whatever the command leaves
@@ -74,13 +74,20 @@ module _ (dir : List ℕ) (c : Command) (old : Sides) (x : Parts) (w : World) (s
 pub command_kept : (dir : List ℕ) (c : Command) (old new : Sides) (answer : Result (List ℕ) Refusal) → Commanded dir c old new answer → (x : Parts) (w : World) → Tells old.house w → Sound x w → (settled : LineSettles dir old c x w) → TellsLeft dir old c x w settled new.house
 command_kept dir c old new answer commanded x w told sound settled = answered_left dir c old x w sound settled new answer told (commanded.house.made w told)
 
--- what is left at status 0
+-- what is left at status 0: all changes were made
 abbrev pub Left : (dir : List ℕ) (c : Command) (old new : Sides) (x : Parts) (w : World) → LineSettles dir old c x w → Type 0
-Left dir c old new x w settled = (v : World) × (new.house.world ≡ Some v) × (k : promise.Command) × (asks : AsksFor dir old c w k) × LeavesIt (settled k asks).after k w v
+Left dir c old new x w settled = (v : World) × (new.house.world ≡ Some v) × (k : promise.Command) × (asks : AsksFor dir old c w k) × IsAllMade x w k (settled k asks) v × LeavesIt (settled k asks).after k w v
 
 pub command_leaves : (dir : List ℕ) (c : Command) (old new : Sides) (sinks printed : Sinks) → Ended dir c old new sinks printed 0 → (x : Parts) (w : World) → Tells old.house w → Sound x w → (settled : LineSettles dir old c x w) → Left dir c old new x w settled
 command_leaves dir c old new sinks printed ends x w told sound settled =
     let (list, makes, is) = done_made dir c old new sinks printed w ends told in
     let (k, asks, are) = made_is_asked dir old c w list makes in
     let list_is : changes (settled k asks).after k w ≡ list = sym (are (settled k asks).after (settled k asks).is) in
-    (run w list, is.world, k, asks, subst (λ (l : List Change). LeavesIt (settled k asks).after k w (run w l)) list_is (leaves dir c old x w sound settled k asks (may_leave dir old c w k asks)))
+    let whole : List Change = changes (settled k asks).after k w in (
+      run w list,
+      is.world,
+      k,
+      asks,
+      record { made = ap (run w) (sym list_is); sound = subst (λ (l : List Change). Sound (left whole (met (settled k asks).before (settled k asks).after k w x)) (run w l)) list_is (front_sound dir c old x w sound settled k asks whole [] (sym (append-nil whole))) },
+      subst (λ (l : List Change). LeavesIt (settled k asks).after k w (run w l)) list_is (leaves dir c old x w sound settled k asks (may_leave dir old c w k asks)),
+    )

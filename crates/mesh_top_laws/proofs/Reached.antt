@@ -1,21 +1,26 @@
 -- Events keep worlds sound, calls are events, and what is done after any from the empty world leaves what it promises.
-use Rattle.std.proofs.Common.{◌≡◌, inl, inr, ℕ, Bool, true, false, List, Some, Result, sym, subst}
+use Rattle.std.proofs.Common.{◌≡◌, inl, inr, ℕ, Bool, true, false, List, [], Some, Result, sym, ap, ◌∙◌, subst}
+use Rattle.std.proofs.lemmas.List.{append-nil}
 use Rattle.mesh_house.specs.House.{Told}
+use Rattle.mesh_house.specs.Step.{run}
+use Rattle.mesh_house.specs.declared.world.Change.{Change}
 use Rattle.mesh_house.specs.World.{empty_world}
 use Rattle.mesh_house.specs.declared.world.World.{World}
+use Rattle.mesh_changes.specs.Commands.{changes}
 use Rattle.mesh_due.specs.Parts.{Parts, no_parts}
 use Rattle.mesh_io.specs.Told.{SourceTold}
 use Rattle.mesh_layer.specs.Shows.{Tells}
 use Rattle.mesh_options.specs.scripts.Scripts.{is_skipped}
 use Rattle.mesh_printed.specs.declared.printed.refusals.Refusal.{Refusal}
 use Rattle.mesh_printed.specs.printed.Printing.{Sinks}
+use Rattle.mesh_sound.specs.Histories.{left, met}
 use Rattle.mesh_sound.specs.Sound.{Sound}
 use Rattle.mesh_line.specs.Lines.{IsLine}
 use Rattle.mesh_line.specs.declared.line.Line.{Line}
 use Rattle.mesh_cli.specs.cli.Scripts.{AskedAnswers, AskedEnds, BatchEnds, IsTextLine, ScriptEnds, StepBy, TextsEnd, WordsEnd, asked, batch, command, ended, lines_run, stopped, unread, usage, wanting, went}
 use Rattle.mesh_cli.specs.cli.Sides.{Sides, here, place_or}
 use Rattle.mesh_top_laws.specs.Histories.{Events, event, no_event}
-use Rattle.mesh_top_laws.specs.Kept.{AllSettle, AskedLeaves, BatchSettles, CallSettles, ScriptSettles, TextsSettle, as_it_was, of_line}
+use Rattle.mesh_top_laws.specs.Kept.{AllSettle, AskedLeaves, BatchSettles, CallSettles, ScriptSettles, TextsSettle, as_it_was, changed, of_line}
 use Rattle.mesh_top_laws.proofs.Calls.{line_leaves}
 use Rattle.mesh_top_laws.proofs.Keeping.{Left, command_kept, left_sound}
 
@@ -44,8 +49,12 @@ stays : (x : Parts) (w : World) (old new : Sides) (May : Parts → World → Typ
 stays x w old new May may at sound same =
     record { doubts = x; world = w; told_is = subst (λ (s : Sides). s.house.world ≡ Some w) (sym same) at; sound = sound; may = may; events = no_event }
 
+-- the events of a call, whatever it leaves
+abbrev Went : Parts → World → Told → Type 0
+Went x w told = Goes x w told (λ y v. Unit {0})
+
 module _ (asks : Line → Type 0) (dir : List ℕ) (old new : Sides) (x : Parts) (w : World) (at : old.house.world ≡ Some w) (sound : Sound x w) (settled : AllSettle asks dir old x w) where
-  answer_goes : (answer : Result (List ℕ) Refusal) → AskedAnswers asks dir old new answer → Goes x w new.house (AskedLeaves asks dir old x w settled)
+  answer_goes : (answer : Result (List ℕ) Refusal) → AskedAnswers asks dir old new answer → Went x w new.house
   answer_goes answer (command line as_asked single commanded) =
       let place = place_or line.paths dir in
       let so = command_kept place line.command old new answer commanded x w (telling x w old.house at sound) sound (settled line as_asked) in
@@ -54,23 +63,39 @@ module _ (asks : Line → Type 0) (dir : List ℕ) (old new : Sides) (x : Parts)
         world = so.world;
         told_is = so.told_is;
         sound = so.sound;
-        may = of_line line as_asked so.doubts so.world so.left_so;
+        may = tt;
         events = event w so.world x so.doubts no_event place line.command old (settled line as_asked) so.left_so;
       }
-  answer_goes answer (usage none same said) = stays x w old new (AskedLeaves asks dir old x w settled) as_it_was at sound same
-  answer_goes answer (wanting same said) = stays x w old new (AskedLeaves asks dir old x w settled) as_it_was at sound same
+  answer_goes answer (usage none same said) = stays x w old new (λ y v. Unit {0}) tt at sound same
+  answer_goes answer (wanting same said) = stays x w old new (λ y v. Unit {0}) tt at sound same
 
-step_goes : (dir text : List ℕ) (old new : Sides) (sinks printed : Sinks) (s : ℕ) (b : Bool) (x : Parts) (w : World) → old.house.world ≡ Some w → Sound x w → (settled : AllSettle (IsTextLine text) dir old x w)
-    → StepBy b dir text old new sinks printed s → Goes x w new.house (AskedLeaves (IsTextLine text) dir old x w settled)
-step_goes dir text old new sinks printed s true x w at sound settled (same, said, zero_is) = stays x w old new (AskedLeaves (IsTextLine text) dir old x w settled) as_it_was at sound same
+  -- where it ends with status 0, all changes of what it asks for were made
+  done_goes : (sinks printed : Sinks) → AskedEnds asks dir old new sinks printed 0 → Goes x w new.house (AskedLeaves asks dir old x w settled)
+  done_goes sinks printed ends =
+      let (line, as_asked, done) = line_leaves asks dir old new sinks printed ends x w (telling x w old.house at sound) sound settled in
+      let k = done.2 in
+      let it_asks = done.3 in
+      let its = settled line as_asked k it_asks in
+      let whole : List Change = changes its.after k w in
+      let doubts : Parts = left whole (met its.before its.after k w x) in
+      record {
+        doubts = doubts;
+        world = run w whole;
+        told_is = done.1 ∙ ap Some done.4.made;
+        sound = subst (Sound doubts) done.4.made done.4.sound;
+        may = of_line line as_asked k it_asks;
+        events = event w (run w whole) x doubts no_event (place_or line.paths dir) line.command old (settled line as_asked) (changed k it_asks whole [] (sym (append-nil whole)));
+      }
+
+step_goes : (dir text : List ℕ) (old new : Sides) (sinks printed : Sinks) (s : ℕ) (b : Bool) (x : Parts) (w : World) → old.house.world ≡ Some w → Sound x w → AllSettle (IsTextLine text) dir old x w
+    → StepBy b dir text old new sinks printed s → Went x w new.house
+step_goes dir text old new sinks printed s true x w at sound settled (same, said, zero_is) = stays x w old new (λ y v. Unit {0}) tt at sound same
 step_goes dir text old new sinks printed s false x w at sound settled ends = answer_goes (IsTextLine text) dir old new x w at sound settled ends.answer ends.answered
 
--- the events of a call, whatever it leaves
-abbrev Went : Parts → World → Told → Type 0
-Went x w told = Goes x w told (λ y v. Unit {0})
-
-any : (x : Parts) (w : World) (told : Told) (May : Parts → World → Type 0) → Goes x w told May → Went x w told
-any x w told May is = record { doubts = is.doubts; world = is.world; told_is = is.told_is; sound = is.sound; may = tt; events = is.events }
+step_done : (dir text : List ℕ) (old new : Sides) (sinks printed : Sinks) (b : Bool) (x : Parts) (w : World) → old.house.world ≡ Some w → Sound x w → (settled : AllSettle (IsTextLine text) dir old x w)
+    → StepBy b dir text old new sinks printed 0 → Goes x w new.house (AskedLeaves (IsTextLine text) dir old x w settled)
+step_done dir text old new sinks printed true x w at sound settled (same, said, zero_is) = stays x w old new (AskedLeaves (IsTextLine text) dir old x w settled) as_it_was at sound same
+step_done dir text old new sinks printed false x w at sound settled ends = done_goes (IsTextLine text) dir old new x w at sound settled sinks printed ends
 
 after : (x y : Parts) (w u : World) (told : Told) → Events w x u y → Went y u told → Went x w told
 after x y w u told first is =
@@ -79,10 +104,10 @@ after x y w u told first is =
 texts_go : (dir : List ℕ) {texts : List (List ℕ)} {old new : Sides} {sinks printed : Sinks} {s : ℕ} (ends : TextsEnd dir texts old new sinks printed s) (x : Parts) (w : World) → old.house.world ≡ Some w → Sound x w → TextsSettle dir ends x w → Went x w new.house
 texts_go dir (ended old sinks) x w at sound settled = record { doubts = x; world = w; told_is = at; sound = sound; may = tt; events = no_event }
 texts_go dir (went text texts old mid new sinks between printed s step more) x w at sound settled =
-    let is = step_goes dir text old mid sinks between 0 (is_skipped text) x w at sound settled.0 step in
+    let is = step_done dir text old mid sinks between (is_skipped text) x w at sound settled.0 step in
     after x is.doubts w is.world new.house is.events (texts_go dir more is.doubts is.world is.told_is is.sound (settled.1 is.doubts is.world is.told_is is.may))
 texts_go dir (stopped text texts old new sinks printed s short step) x w at sound settled =
-    any x w new.house (AskedLeaves (IsTextLine text) dir old x w settled) (step_goes dir text old new sinks printed s (is_skipped text) x w at sound settled step)
+    step_goes dir text old new sinks printed s (is_skipped text) x w at sound settled step
 
 script_goes : (dir script : List ℕ) {old new : Sides} {sinks printed : Sinks} {s : ℕ} (ends : ScriptEnds dir script old new sinks printed s) (x : Parts) (w : World) → old.house.world ≡ Some w → Sound x w → ScriptSettles dir script ends x w → Went x w new.house
 script_goes dir script (inl texts) x w at sound settled = texts_go dir texts x w at sound settled
@@ -94,7 +119,7 @@ batch_goes dir (lines_run script read ends) x w at sound settled = script_goes d
 
 call_goes : {words : List (List ℕ)} {input rest : SourceTold} {old new : Sides} {sinks printed : Sinks} {s : ℕ} (ends : WordsEnd words input rest old new sinks printed s) (x : Parts) (w : World) → old.house.world ≡ Some w → Sound x w → CallSettles ends x w → Went x w new.house
 call_goes {words = words} {old = old} {new = new} (asked same ends) x w at sound settled =
-    any x w new.house (AskedLeaves (IsLine words) here old x w settled) (answer_goes (IsLine words) here old new x w at sound settled ends.answer ends.answered)
+    answer_goes (IsLine words) here old new x w at sound settled ends.answer ends.answered
 call_goes (batch line read is_one ends) x w at sound settled = batch_goes (place_or line.paths here) ends x w at sound settled
 
 pub call_events : (words : List (List ℕ)) (input rest : SourceTold) (old new : Sides) (sinks printed : Sinks) (s : ℕ) (ends : WordsEnd words input rest old new sinks printed s) (x : Parts) (w : World) → old.house.world ≡ Some w → Sound x w → CallSettles ends x w

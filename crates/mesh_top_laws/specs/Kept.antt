@@ -8,10 +8,10 @@ use Rattle.mesh_house.specs.Step.{run}
 use Rattle.mesh_house.specs.declared.world.Change.{Change}
 use Rattle.mesh_house.specs.declared.world.World.{World}
 use Rattle.mesh_changes.specs.Commands as promise
-use Rattle.mesh_due.specs.Parts.{Parts}
+use Rattle.mesh_due.specs.Parts.{Parts, either}
 use Rattle.mesh_io.specs.Told.{SourceTold}
 use Rattle.mesh_layer.specs.Shows.{Tells}
-use Rattle.mesh_sound.specs.Histories.{Settles, judged_at, left, met, sources_after}
+use Rattle.mesh_sound.specs.Histories.{Settles, judged_at, left, met, planned_parts, sources_after}
 use Rattle.mesh_sound.specs.Moved.{moved}
 use Rattle.mesh_sound.specs.Sound.{Sound}
 use Rattle.mesh_line.specs.Lines.{IsLine}
@@ -50,14 +50,36 @@ pub record TellsLeft (dir : List ℕ) (s : Sides) (c : Command) (x : Parts) (w :
   pub sound : Sound doubts world
   pub left_so : Leaves dir s c x w settled doubts world
 
+-- all changes of a command that settles were made, and the world is sound but for what they leave in doubt
+pub record IsAllMade (x : Parts) (w : World) (k : promise.Command) (settled : IsSettled x w k) (v : World) : Type 0 where
+  pub made : v ≡ run w (promise.changes settled.after k w)
+  pub sound : Sound (left (promise.changes settled.after k w) (met settled.before settled.after k w x)) v
+
+-- What a command leaves of a world, whether it settles or not, and what is in doubt then: all is as it was; or some first changes of what
+-- it asks for were made, and in doubt is what was, what moves by them, and all parts of the objects that it plans.
+pub data Widens (dir : List ℕ) (s : Sides) (c : Command) (x : Parts) (w : World) : Parts → World → Type 0 where
+  unchanged : Widens dir s c x w x w
+  widened : (k : promise.Command) → AsksFor dir s c w k → (before after : Clock) → Shows before w.book.moment → Shows after (judged_at w k) → (made rest : List Change) → promise.changes after k w ≡ made ++ rest →
+      Widens dir s c x w (either (met before after k w x) (planned_parts k)) (run w made)
+
+-- a house tells a world that is sound but for these parts, and that the command leaves so
+pub record TellsFormed (dir : List ℕ) (s : Sides) (c : Command) (x : Parts) (w : World) (told : Told) : Type 0 where
+  pub doubts : Parts
+  pub world : World
+  pub told_is : told.world ≡ Some world
+  pub sound : Sound doubts world
+  pub left_so : Widens dir s c x w doubts world
+
 -- whatever line some words or a text ask for settles
 abbrev pub AllSettle : (Line → Type 0) → List ℕ → Sides → Parts → World → Type 0
 AllSettle asks dir s x w = (line : Line) → asks line → LineSettles (place_or line.paths dir) s line.command x w
 
--- what is left where some words or a text ask for a line: all as it was, or what the line leaves
+-- what is left where a text ends with status 0: all as it was, or what all changes of the line that it asks for leave
 pub data AskedLeaves (asks : Line → Type 0) (dir : List ℕ) (s : Sides) (x : Parts) (w : World) (settled : AllSettle asks dir s x w) : Parts → World → Type 0 where
   as_it_was : AskedLeaves asks dir s x w settled x w
-  of_line : (line : Line) (as_asked : asks line) (y : Parts) (v : World) → Leaves (place_or line.paths dir) s line.command x w (settled line as_asked) y v → AskedLeaves asks dir s x w settled y v
+  of_line : (line : Line) (as_asked : asks line) (k : promise.Command) (it_asks : AsksFor (place_or line.paths dir) s line.command w k) →
+      AskedLeaves asks dir s x w settled (left (promise.changes (settled line as_asked k it_asks).after k w) (met (settled line as_asked k it_asks).before (settled line as_asked k it_asks).after k w x))
+      (run w (promise.changes (settled line as_asked k it_asks).after k w))
 
 -- the lines of a script settle, each in what those before it leave
 abbrev pub TextsSettle : (dir : List ℕ) {texts : List (List ℕ)} {old new : Sides} {sinks printed : Sinks} {s : ℕ} → TextsEnd dir texts old new sinks printed s → Parts → World → Type 0

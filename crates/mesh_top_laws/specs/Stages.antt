@@ -1,5 +1,5 @@
 -- What the calls that a command is made of leave of a house, by themselves.
-use Rattle.std.specs.Prelude.{◌≡◌, List, Some}
+use Rattle.std.specs.Prelude.{◌≡◌, List, ◌++◌, Some}
 use Rattle.mesh_scratch.specs.Horizons.{Clock}
 use Rattle.mesh_house.specs.House.{Told}
 use Rattle.mesh_house.specs.Step.{run}
@@ -18,5 +18,7 @@ pub record IsBegun (before after : Clock) (k : promise.Command) (x : Parts) (w :
 -- some first changes of the command were made, and the world is sound but for what they leave in doubt
 pub record IsUnderWay (before after : Clock) (k : promise.Command) (x : Parts) (w : World) (told : Told) : Type 0 where
   pub made : List Change
+  pub rest : List Change
+  pub front : promise.changes after k w ≡ made ++ rest
   pub told_is : told.world ≡ Some (run w made)
   pub sound : Sound (left made (met before after k w x)) (run w made)

@@ -23,7 +23,7 @@ ghost use Rattle.mesh_cli.specs.cli.Ends.{Commanded, Ended};
 ghost use Rattle.mesh_cli.specs.cli.Scripts.{AskedEnds, IsTextLine, WordsEnd};
 ghost use Rattle.mesh_cli.specs.cli.Sides.{Sides, here, place_or};
 ghost use Rattle.mesh_top_laws.specs.Histories.{Events};
-ghost use Rattle.mesh_top_laws.specs.Kept.{AllSettle, CallIsStill, CallSettles, IsSettled, IsStill, LineSettles, TellsLeft, TellsSound};
+ghost use Rattle.mesh_top_laws.specs.Kept.{AllSettle, CallIsStill, CallSettles, IsAllMade, IsSettled, IsStill, LineSettles, TellsFormed, TellsLeft, TellsSound};
 ghost use Rattle.mesh_top_laws.specs.Promised.{AsksFor, LeavesIt};
 
 use mesh_sound::the_empty_world_is_sound;
@@ -41,21 +41,22 @@ pub fn commands_keep_worlds_sound()
         TellsLeft dir old c x w settled new.house }
 {}
 
-/// Where such a command ends with status 0, an apply, a run and a plan that is applied at once leave their environment final: each
-/// of its views shows the rows that its model has from scratch at that moment, and no other view of it stands.
+/// Where such a command ends with status 0, all of its changes were made, and an apply, a run and a plan that is applied at once leave
+/// their environment final: each of its views shows the rows that its model has from scratch at that moment, and no other view of it
+/// stands.
 pub fn commands_at_status_0_leave_what_they_promise()
     ensures { (dir : List ℕ) (c : Command) (old new : Sides) (sinks printed : Sinks) → Ended dir c old new sinks printed 0 → (x : Parts) (w : World) → Tells old.house w → Sound x w → (settled : LineSettles dir old c x w) →
-        (v : World) × (new.house.world ≡ Some v) × (k : Promised) × (asks : AsksFor dir old c w k) × LeavesIt (settled k asks).after k w v }
+        (v : World) × (new.house.world ≡ Some v) × (k : Promised) × (asks : AsksFor dir old c w k) × IsAllMade x w k (settled k asks) v × LeavesIt (settled k asks).after k w v }
 {}
 
 /// So does the line that the words of a call ask for, and each line of a script.
 pub fn lines_at_status_0_leave_what_they_promise()
     ensures words { (words : List (List ℕ)) (dir : List ℕ) (old new : Sides) (sinks printed : Sinks) → AskedEnds (IsLine words) dir old new sinks printed 0 → (x : Parts) (w : World) → Tells old.house w → Sound x w →
         (settled : AllSettle (IsLine words) dir old x w) →
-        (line : Line) × (as_asked : IsLine words line) × (v : World) × (new.house.world ≡ Some v) × (k : Promised) × (asked : AsksFor (place_or line.paths dir) old line.command w k) × LeavesIt (settled line as_asked k asked).after k w v }
+        (line : Line) × (as_asked : IsLine words line) × (v : World) × (new.house.world ≡ Some v) × (k : Promised) × (asked : AsksFor (place_or line.paths dir) old line.command w k) × IsAllMade x w k (settled line as_asked k asked) v × LeavesIt (settled line as_asked k asked).after k w v }
     ensures script { (text : List ℕ) (dir : List ℕ) (old new : Sides) (sinks printed : Sinks) → AskedEnds (IsTextLine text) dir old new sinks printed 0 → (x : Parts) (w : World) → Tells old.house w → Sound x w →
         (settled : AllSettle (IsTextLine text) dir old x w) →
-        (line : Line) × (as_asked : IsTextLine text line) × (v : World) × (new.house.world ≡ Some v) × (k : Promised) × (asked : AsksFor (place_or line.paths dir) old line.command w k) × LeavesIt (settled line as_asked k asked).after k w v }
+        (line : Line) × (as_asked : IsTextLine text line) × (v : World) × (new.house.world ≡ Some v) × (k : Promised) × (asked : AsksFor (place_or line.paths dir) old line.command w k) × IsAllMade x w k (settled line as_asked k asked) v × LeavesIt (settled line as_asked k asked).after k w v }
 {}
 
 /// Where no recorded rows would come out otherwise through a command, and nothing is in doubt, it settles.
@@ -81,10 +82,11 @@ pub fn still_calls_are_events()
         ((q : Forget) → x q ≡ false) → (v : World) × (y : Parts) × (new.house.world ≡ Some v) × ((q : Forget) → y q ≡ false) × Events w x v y }
 {}
 
-/// Whatever events there are from the empty world on, each over any project, at any moment, and stopped anywhere, the world that they
-/// lead to is sound, but for what is then in doubt.
+/// Whatever events there are, each over any project, at any moment, and stopped anywhere, they lead from a world that is sound but for
+/// some parts to one that is sound but for what is then in doubt; so from the empty world, where nothing is.
 pub fn worlds_of_events_are_sound()
-    ensures { (w : World) (x : Parts) → Events empty_world no_parts w x → Sound x w }
+    ensures sound { (w : World) (x : Parts) → Sound x w → (v : World) (y : Parts) → Events w x v y → Sound y v }
+    ensures from_the_empty_one { (w : World) (x : Parts) → Events empty_world no_parts w x → Sound x w }
 {
     the_empty_world_is_sound();
 }
@@ -94,13 +96,20 @@ pub fn worlds_of_events_are_sound()
 pub fn calls_show_rows_from_scratch()
     ensures words { (w : World) (x : Parts) → Events empty_world no_parts w x → (words : List (List ℕ)) (old new : Sides) (sinks printed : Sinks) → old.house.world ≡ Some w → AskedEnds (IsLine words) here old new sinks printed 0 →
         (settled : AllSettle (IsLine words) here old x w) →
-        (line : Line) × (as_asked : IsLine words line) × (v : World) × (new.house.world ≡ Some v) × (k : Promised) × (asked : AsksFor (place_or line.paths here) old line.command w k) × LeavesIt (settled line as_asked k asked).after k w v }
+        (line : Line) × (as_asked : IsLine words line) × (v : World) × (new.house.world ≡ Some v) × (k : Promised) × (asked : AsksFor (place_or line.paths here) old line.command w k) × IsAllMade x w k (settled line as_asked k asked) v × LeavesIt (settled line as_asked k asked).after k w v }
     ensures script { (w : World) (x : Parts) → Events empty_world no_parts w x → (text dir : List ℕ) (old new : Sides) (sinks printed : Sinks) → old.house.world ≡ Some w → AskedEnds (IsTextLine text) dir old new sinks printed 0 →
         (settled : AllSettle (IsTextLine text) dir old x w) →
-        (line : Line) × (as_asked : IsTextLine text line) × (v : World) × (new.house.world ≡ Some v) × (k : Promised) × (asked : AsksFor (place_or line.paths dir) old line.command w k) × LeavesIt (settled line as_asked k asked).after k w v }
+        (line : Line) × (as_asked : IsTextLine text line) × (v : World) × (new.house.world ≡ Some v) × (k : Promised) × (asked : AsksFor (place_or line.paths dir) old line.command w k) × IsAllMade x w k (settled line as_asked k asked) v × LeavesIt (settled line as_asked k asked).after k w v }
 {
     the_empty_world_is_sound();
 }
+
+/// Where the house tells a world that is sound but for some parts, then once a command has answered, whether it settles or not, it tells
+/// one that is sound but for these, those that move by the command, and all parts of the objects that it plans.
+pub fn commands_keep_worlds_formed()
+    ensures { (dir : List ℕ) (c : Command) (old new : Sides) (answer : Result (List ℕ) Refusal) → Commanded dir c old new answer → (x : Parts) (w : World) → Tells old.house w → Sound x w →
+        TellsFormed dir old c x w new.house }
+{}
 
 /// Every call, whether it settles or not, leaves a world formed that was.
 pub fn calls_keep_worlds_formed()

@@ -10,8 +10,8 @@ mod stages;
 
 pub use laws::{
     calls_are_events, calls_keep_worlds_formed, calls_show_rows_from_scratch,
-    commands_at_status_0_leave_what_they_promise, commands_keep_worlds_sound,
-    commands_within_a_moment_are_still, events_go_on_from_one_another,
+    commands_at_status_0_leave_what_they_promise, commands_keep_worlds_formed,
+    commands_keep_worlds_sound, commands_within_a_moment_are_still, events_go_on_from_one_another,
     lines_at_status_0_leave_what_they_promise, steady_projects_are_still, still_calls_are_events,
     what_is_made_is_asked_of_the_promise, what_is_still_settles, worlds_of_events_are_sound,
 };
