@@ -17,8 +17,8 @@ ghost use Rattle.mesh_sound.specs.Histories.{IsAsked, IsMet, Settles, met};
 ghost use Rattle.mesh_sound.specs.Sound.{IsEntry, Sound};
 ghost use Rattle.mesh_isolation_laws.specs.Isolation.{DropsNone, KeepsRows, LeavesOut, again_in};
 
-/// At every exit of a command, each environment that it doesn't switch has the record that it had, with both of its lists, and
-/// each of its views points where it pointed; one that didn't stand doesn't stand. This asks for no settling.
+/// At every exit of a command, each environment but the one that an apply is for, or that is to go, has the record that it had, with
+/// both of its lists, and each of its views points where it pointed; one that didn't stand doesn't stand. This asks for no settling.
 pub fn other_environments_stay()
     ensures { (x : Parts) (w : World) (c : Command) (clock : Clock) → Sound x w → IsAsked clock w c → (made rest : List Change) → changes clock c w ≡ made ++ rest →
         (e : Env) → IsEnv w.book e → LeavesOut c e.name →
@@ -26,7 +26,8 @@ pub fn other_environments_stay()
 {}
 
 /// At every exit of a command that settles and isn't the janitor's, what is recorded of a table and isn't in doubt has the rows
-/// that it had, each as often, whichever environments share the table, and even where it is forgotten and computed again.
+/// that it had, each as often, whichever environments share the table, and even where it is forgotten and computed again. Of a FULL
+/// table it is what is recorded where its marks are its model's at the command's moment.
 pub fn what_is_recorded_keeps_its_rows()
     ensures { (x : Parts) (w : World) (c : Command) (before after : Clock) → IsMet before after w c → Sound x w → Settles after c w (met before after c w x) → DropsNone c →
         (made rest : List Change) → changes after c w ≡ made ++ rest →
@@ -35,7 +36,7 @@ pub fn what_is_recorded_keeps_its_rows()
 {}
 
 /// Whether a command settles or not, and whatever is in doubt, at every exit of a command that isn't the janitor's what is recorded
-/// of a table and isn't computed again has the rows that it had, each as often.
+/// of a table, so of a FULL table, and isn't computed again has the rows that it had, each as often.
 pub fn what_is_not_computed_again_keeps_its_rows()
     ensures { (x : Parts) (w : World) (c : Command) (before after : Clock) → IsMet before after w c → Sound x w → DropsNone c →
         (made rest : List Change) → changes after c w ≡ made ++ rest →
