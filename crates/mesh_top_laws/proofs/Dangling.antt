@@ -143,7 +143,7 @@ module _ (p : Made) (w v : World) (o : Name) (lost : IsLost (models p) (parts p)
       ∙ ap (λ (l : List Change). executes (models p) (parts p) (run w (opened p)) ++ l) (nothing_behind last)
       ∙ append-nil (executes (models p) (parts p) (run w (opened p))))
 
-  never : (made : List Change) → ((last : List Change) → start ++ book.executes clock b p.forgets (planned_models p) last (planned_models p) (run w start) ≡ made ++ last) → ⊥
+  pub never : (made : List Change) → ((last : List Change) → start ++ book.executes clock b p.forgets (planned_models p) last (planned_models p) (run w start) ≡ made ++ last) → ⊥
   never made whole =
       let none : length (made ++ []) ≡ length mine = ap length (sym (whole []) ∙ cuts []) in
       let one : length (made ++ Finalize [] ∷ []) ≡ length mine = ap length (sym (whole (Finalize [] ∷ [])) ∙ cuts (Finalize [] ∷ [])) in

@@ -38,7 +38,7 @@ use Rattle.mesh_top_laws.specs.Promised.{AsksFor}
 use Rattle.mesh_top_laws.proofs.Asked.{apply_judged, asked_is_met, made_is_asked, run_judged}
 use Rattle.mesh_top_laws.proofs.Calls.{answers_kept, as_before, step_kept, telling}
 
-moment_says : (t : ℤ) → is_moment t ≡ true → IsMoment t
+pub moment_says : (t : ℤ) → is_moment t ≡ true → IsMoment t
 moment_says t h = (le_says (pos 0) t (and_left (le_z (pos 0) t) _ h), le_says t (pos 253_402_300_799) (and_right (le_z (pos 0) t) _ h))
 
 one_or_other : (w : World) (k : promise.Command) (raised : ℤ) → IsMoment w.book.moment → IsMoment raised → IsMoment (cond (allows w k) raised w.book.moment)

@@ -14,5 +14,9 @@ pub mod Dangling
 pub mod Forming
 -- Still: nothing moves within one moment.
 pub mod Still
+-- Looked: no question tells of a sound world that an object is missing.
+pub mod Looked
+-- Missing: nor does any command.
+pub mod Missing
 -- Steady: what steady projects ask for settles.
 pub mod Steady

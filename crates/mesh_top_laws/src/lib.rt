@@ -16,6 +16,6 @@ pub use laws::{
     what_is_made_is_asked_of_the_promise, what_is_still_settles, worlds_of_events_are_sound,
 };
 pub use stages::{
-    executions_keep_worlds_sound, executions_never_dangle, promotions_keep_worlds_sound,
-    sweeps_keep_worlds_sound,
+    commands_never_find_an_object_missing, executions_keep_worlds_sound, executions_never_dangle,
+    promotions_keep_worlds_sound, sweeps_keep_worlds_sound,
 };

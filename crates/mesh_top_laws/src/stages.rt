@@ -32,6 +32,10 @@ ghost use Rattle.mesh_exec.specs.declared.faults.ExecFault.{ExecFault};
 ghost use Rattle.mesh_exec.specs.declared.faults.ExecFault.TheVariants.{Dangling};
 ghost use Rattle.mesh_applying.specs.Planning.{IsPlanned, IsRunPlanned};
 ghost use Rattle.mesh_sound.specs.Sound.{Sound};
+ghost use Rattle.mesh_line.specs.declared.line.Command.{Command};
+ghost use Rattle.mesh_printed.specs.declared.printed.refusals.Refusal.TheVariants.{ObjectMissing};
+ghost use Rattle.mesh_cli.specs.cli.Asked.{Gives};
+ghost use Rattle.mesh_cli.specs.cli.Sides.{Sides};
 ghost use Rattle.mesh_top_laws.specs.Stages.{IsBegun, IsUnderWay};
 
 /// The call that makes a plan keeps a sound world sound at each of its exits by itself, in an apply and in a run that settle.
@@ -65,4 +69,10 @@ pub fn executions_never_dangle()
         (old new : Told) (object : Name) → Tells old w → Executes p old new (Err (Dangling object)) → ⊥ }
     ensures runs { (before after : Clock) (x : Parts) (w : World) → Shows before w.book.moment → (t : ℤ) → IsMoment t → Shows after t → Sound x w → (env : List ℕ) (p : Plan) → IsRunPlanned w.book env t p →
         (old new : Told) (object : Name) → Tells old w → Executes p old new (Err (Dangling object)) → ⊥ }
+{}
+
+/// Nor does any command tell so of a sound world, whatever parts are in doubt: neither an apply or a run, whose models show their
+/// rows in each world on the way, nor a question, whose views show theirs.
+pub fn commands_never_find_an_object_missing()
+    ensures { (dir : List ℕ) (s : Sides) (c : Command) (x : Parts) (w : World) → Sound x w → (object : Name) → Gives dir s c w (Err (ObjectMissing object)) → ⊥ }
 {}
