@@ -2,7 +2,8 @@
 """Times the suite `files` of `mesh_answers` on the canonical text of a seed: a file of 4 MB of rows, and half of it, written
 and read. Reading is a line that reads the text without one that takes it for a day, and writing a line that writes it again
 without that which only reads it. Prints seconds of processor for one text, megabytes of text a second, and growth. Last it
-has each kind of node that holds another nested 4,095 deep, read, copied, written and dropped, on a stack of 8 MB.
+has each kind of node that holds another nested 4,095 deep (WHENs half as deep), read, copied, written and dropped, on a
+stack of 8 MB.
 
 Usage: bench/canon.py [PROGRAM], where PROGRAM is crates/mesh_answers/out/mesh_answers if left out (`rt run` makes it)."""
 import resource
@@ -16,6 +17,8 @@ SEED = "(own 1:a 1:s (seed) 9:0 0 * * * day none [] (seed [(column 2:id int) (co
 QUERY = "(own 1:a 1:d (full) 9:0 0 * * * day none [] (query [] [(select all plain [(as 1:x bool "
 NODES = (
     ("(not ", ")", DEPTH),
+    ("(neg ", ")", DEPTH),
+    ("(isnull ", ")", DEPTH),
     ("(add ", " null)", DEPTH),
     ("(add null ", ")", DEPTH),
     ("(between null null ", ")", DEPTH),

@@ -5,7 +5,7 @@ that forgets 200,000 units of a version, which adjoin or are every second one; a
 fingerprints, which are of as many models or of one. Their seconds are those of a file that makes the changes at once and
 counts what is then there, without one that has the same changes and makes none. Last the suite `rows`: the promotion of a
 further environment of many models, by `apply` without one that is stopped before it, and a janitor's sweep of the snapshots and tables of
-environments that are over; and a question over a view of 100,000 rows, beside a copy of these rows and the evaluation of its
+four versions that a fifth one has replaced; and a question over a view of 100,000 rows, beside a copy of these rows and the evaluation of its
 query alone, as the suite `queries` makes them. Prints seconds of processor and growth.
 
 Usage: bench/house.py [PROGRAM], where PROGRAM is crates/mesh_answers/out/mesh_answers if left out (`rt run` makes it)."""
@@ -16,6 +16,7 @@ from eval import ours
 import played
 from measured import Suite
 
+PROGRAM = Suite("rows", *sys.argv[1:]).command[0]
 CHANGES = 100_000
 UNITS = 200_000
 SNAPSHOTS = 10_000
@@ -89,14 +90,14 @@ def promoted(count):
     applies = [f"mesh apply e{n:02} --execution-time 2024-01-03T00:30" for n in range(TIMES)]
     # The moment and the snapshots are made, and the next change fails.
     stopped = [step for apply in applies for step in (f"fail before {1 + count}", apply)]
-    whole = played.seconds(played.PROGRAM, files, front + applies, TIMES, runs=RUNS)
-    return (whole - played.seconds(played.PROGRAM, files, front + stopped, TIMES, STOPPED, RUNS)) / TIMES
+    whole = played.seconds(PROGRAM, files, front + applies, TIMES, runs=RUNS)
+    return (whole - played.seconds(PROGRAM, files, front + stopped, TIMES, STOPPED, RUNS)) / TIMES
 
 
 def swept(count):
     """The seconds of a janitor that sweeps four versions of so many models, which the fifth one has replaced."""
     files, front = played.star(count), played.applied(5)
-    return played.each(played.PROGRAM, files, front, ["mesh janitor --execution-time 2024-02-03T00:30"])
+    return played.each(PROGRAM, files, front, ["mesh janitor --execution-time 2024-02-03T00:30"])
 
 
 def asked(rows):
@@ -109,7 +110,7 @@ def asked(rows):
         "project/models/m.sql": "MODEL (name a.l, kind FULL); SELECT k, v FROM a.s\n",
     }
     question = 'mesh fetchdf "SELECT COUNT(DISTINCT v) AS n FROM a.l"'
-    ask = played.each(played.PROGRAM, files, ["mesh apply --execution-time 2024-01-03T00:30"], [question] * TIMES)
+    ask = played.each(PROGRAM, files, ["mesh apply --execution-time 2024-01-03T00:30"], [question] * TIMES)
     suite = Suite("queries", *sys.argv[1:])
     return ask, ours(suite, "rows", rows)[0] + ours(suite, "number", rows)[0]
 

@@ -12,6 +12,8 @@ pub mod Calling
 pub mod Dangling
 -- Forming: every call leaves a world formed that was.
 pub mod Forming
+-- Beside: a command leaves the environments that it isn't for, and what is recorded.
+pub mod Beside
 -- Still: nothing moves within one moment.
 pub mod Still
 -- Looked: no question tells of a sound world that an object is missing.

@@ -4,5 +4,7 @@ pub mod Promised
 pub mod Kept
 -- Histories: the events that lead from a world to another.
 pub mod Histories
+-- Others: what a line leaves of the environments that it isn't for, and of what is recorded.
+pub mod Others
 -- Stages: what the calls that a command is made of leave, by themselves.
 pub mod Stages
