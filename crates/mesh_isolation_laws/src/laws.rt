@@ -36,7 +36,8 @@ pub fn what_is_recorded_keeps_its_rows()
 {}
 
 /// Whether a command settles or not, and whatever is in doubt, at every exit of a command that isn't the janitor's what is recorded
-/// of a table, so of a FULL table, and isn't computed again has the rows that it had, each as often.
+/// of a table and isn't computed again has the rows that it had, each as often; of a FULL table where its recorded marks are its
+/// model's at the command's moment.
 pub fn what_is_not_computed_again_keeps_its_rows()
     ensures { (x : Parts) (w : World) (c : Command) (before after : Clock) → IsMet before after w c → Sound x w → DropsNone c →
         (made rest : List Change) → changes after c w ≡ made ++ rest →

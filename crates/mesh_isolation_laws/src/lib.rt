@@ -1,7 +1,7 @@
 //! What a command leaves of the others, each the contract of a function with an empty body: at every exit of an apply or a run each
 //! other environment has the record and the views that it had, and each table the rows of what was recorded of it: where the
-//! command settles, of what isn't in doubt, even where these are computed again, and in any case of what isn't computed again. It
-//! stands on `mesh_promise_laws` and `mesh_shown_laws`.
+//! command settles, of what isn't in doubt, even where these are computed again, and in any case of what isn't computed again
+//! (of a FULL table, where its recorded marks are its model's at the command's moment). It stands on `mesh_promise_laws` and `mesh_shown_laws`.
 #![tactic(auto)]
 
 mod laws;

@@ -17,6 +17,7 @@ use Rattle.mesh_house.specs.declared.world.World.{World}
 use Rattle.mesh_due.specs.Parts.{Parts}
 use Rattle.mesh_changes.specs.Changes.{opens, run_opens}
 use Rattle.mesh_changes.specs.Environments.{env_at}
+use Rattle.mesh_layer.specs.Shows.{Tells}
 use Rattle.mesh_sound.specs.Sound.{Sound}
 use Rattle.mesh_formed_laws.proofs.Commands.{applies_whole, runs_whole}
 use Rattle.mesh_printed.specs.faults.Lines.{name_text}
@@ -39,6 +40,7 @@ use Rattle.mesh_asking.specs.upkeep.Upkeep.{InvalidateRefused, JanitorRefused}
 use Rattle.mesh_line.specs.declared.line.Command.{Command}
 use Rattle.mesh_line.specs.declared.line.Command.TheVariants.{Plan, Apply, Run, Evaluate, Fetchdf, Ingest, Janitor, Invalidate, Migrate, Batch, Demo}
 use Rattle.mesh_cli.specs.cli.Asked.{AppliesGive, Gives}
+use Rattle.mesh_cli.specs.cli.Ends.{Commanded}
 use Rattle.mesh_cli.specs.cli.Sides.{Sides}
 use Rattle.mesh_top_laws.proofs.Asked.{apply_allowed, run_allowed, run_of}
 use Rattle.mesh_top_laws.proofs.Calling.{apply_met, run_met}
@@ -149,3 +151,7 @@ module _ (x : Parts) (w : World) (sound : Sound x w) where
 
 pub never_missing : (dir : List ℕ) (s : Sides) (c : Command) (x : Parts) (w : World) → Sound x w → (o : Name) → Gives dir s c w (Err (refusal.ObjectMissing o)) → ⊥
 never_missing dir s c x w sound o h = quiet x w sound dir s o c h
+
+-- so none answers so
+pub never_answered : (dir : List ℕ) (c : Command) (old new : Sides) (o : Name) → Commanded dir c old new (Err (refusal.ObjectMissing o)) → (x : Parts) (w : World) → Tells old.house w → Sound x w → ⊥
+never_answered dir c old new o commanded x w told sound = never_missing dir old c x w sound o (commanded.house.given w told refl)

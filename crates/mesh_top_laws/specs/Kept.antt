@@ -62,7 +62,7 @@ pub data Widens (dir : List ℕ) (s : Sides) (c : Command) (x : Parts) (w : Worl
   widened : (k : promise.Command) → AsksFor dir s c w k → (before after : Clock) → Shows before w.book.moment → Shows after (judged_at w k) → (made rest : List Change) → promise.changes after k w ≡ made ++ rest →
       Widens dir s c x w (either (met before after k w x) (planned_parts k)) (run w made)
 
--- a house tells a world that is sound but for these parts, and that the command leaves so
+-- a house tells a world that is sound but for these parts, and that the command leaves so, whether it settles or not
 pub record TellsFormed (dir : List ℕ) (s : Sides) (c : Command) (x : Parts) (w : World) (told : Told) : Type 0 where
   pub doubts : Parts
   pub world : World

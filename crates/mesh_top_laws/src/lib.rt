@@ -2,7 +2,7 @@
 //! settles there, it tells one that is sound but for what is then left in doubt, at every exit and whatever the status; at status 0
 //! an apply, a run or a plan that is applied at once leaves its environment final, for every number of workers; so after any calls
 //! from the empty world that settle; every call leaves a world formed that was; and a command leaves the environments that it isn't for,
-//! and what is recorded and isn't computed again. Each law is the contract of a function with an empty body. It stands on `mesh_cli`,
+//! and what is recorded and isn't computed again, as they were. Each law is the contract of a function with an empty body. It stands on `mesh_cli`,
 //! `mesh_promise_laws`, `mesh_formed_laws`, `mesh_shown_laws`, `mesh_isolation_laws` and `mesh_steady_laws`.
 #![tactic(auto)]
 

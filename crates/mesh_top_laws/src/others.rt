@@ -23,14 +23,15 @@ ghost use Rattle.mesh_top_laws.specs.Others.{HasStayed, IsForOthers, KeepsTables
 ghost use Rattle.mesh_top_laws.specs.Promised.{AsksFor};
 
 /// Where the house tells a world that is sound but for some parts, then once a command has answered, whatever it answers and whether it
-/// settles or not, each environment that it isn't for has its record and its views as they were in the world that the house tells.
+/// settles or not, each environment that it isn't for has its record and its views as they were in the world that the house tells. The
+/// janitor and a migration are left out.
 pub fn commands_leave_other_environments()
     ensures { (dir : List ℕ) (c : Command) (old new : Sides) (answer : Result (List ℕ) Refusal) → Commanded dir c old new answer → (x : Parts) (w : World) → Tells old.house w → Sound x w →
         (e : Env) → IsEnv w.book e → IsForOthers c e.name → (v : World) × (new.house.world ≡ Some v) × HasStayed e w v }
 {}
 
-/// And what is recorded of a table, and isn't computed again by the command, has the rows that it had, each as often; but the janitor
-/// may drop it.
+/// And what is recorded of a table, and isn't computed again by the command, has the rows that it had, each as often; of a FULL table
+/// where its recorded marks are its model's at the command's moment. The janitor, which drops tables, is left out.
 pub fn commands_keep_rows_that_they_do_not_compute_again()
     ensures { (dir : List ℕ) (c : Command) (old new : Sides) (answer : Result (List ℕ) Refusal) → Commanded dir c old new answer → (x : Parts) (w : World) → Tells old.house w → Sound x w → KeepsTables c →
         (s : Snapshot) → IsSnapshot w.book.snapshots s → (version : Version) → version_of w.book s.object ≡ Some version → (v : World) × (new.house.world ≡ Some v) × StillHas dir old c w s version v }

@@ -35,6 +35,7 @@ ghost use Rattle.mesh_sound.specs.Sound.{Sound};
 ghost use Rattle.mesh_line.specs.declared.line.Command.{Command};
 ghost use Rattle.mesh_printed.specs.declared.printed.refusals.Refusal.TheVariants.{ObjectMissing};
 ghost use Rattle.mesh_cli.specs.cli.Asked.{Gives};
+ghost use Rattle.mesh_cli.specs.cli.Ends.{Commanded};
 ghost use Rattle.mesh_cli.specs.cli.Sides.{Sides};
 ghost use Rattle.mesh_top_laws.specs.Stages.{IsBegun, IsUnderWay};
 
@@ -71,8 +72,9 @@ pub fn executions_never_dangle()
         (old new : Told) (object : Name) → Tells old w → Executes p old new (Err (Dangling object)) → ⊥ }
 {}
 
-/// Nor does any command tell so of a sound world, whatever parts are in doubt: neither an apply or a run, whose models show their
+/// Nor does any command, where the house tells a sound world, answer so, whatever parts are in doubt: neither an apply or a run, whose models show their
 /// rows in each world on the way, nor a question, whose views show theirs.
 pub fn commands_never_find_an_object_missing()
-    ensures { (dir : List ℕ) (s : Sides) (c : Command) (x : Parts) (w : World) → Sound x w → (object : Name) → Gives dir s c w (Err (ObjectMissing object)) → ⊥ }
+    ensures gives { (dir : List ℕ) (s : Sides) (c : Command) (x : Parts) (w : World) → Sound x w → (object : Name) → Gives dir s c w (Err (ObjectMissing object)) → ⊥ }
+    ensures answers { (dir : List ℕ) (c : Command) (old new : Sides) (object : Name) → Commanded dir c old new (Err (ObjectMissing object)) → (x : Parts) (w : World) → Tells old.house w → Sound x w → ⊥ }
 {}
