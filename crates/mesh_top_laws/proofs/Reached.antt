@@ -20,7 +20,7 @@ use Rattle.mesh_line.specs.declared.line.Line.{Line}
 use Rattle.mesh_cli.specs.cli.Scripts.{AskedAnswers, AskedEnds, BatchEnds, IsTextLine, ScriptEnds, StepBy, TextsEnd, WordsEnd, asked, batch, command, ended, lines_run, stopped, unread, usage, wanting, went}
 use Rattle.mesh_cli.specs.cli.Sides.{Sides, here, place_or}
 use Rattle.mesh_top_laws.specs.Histories.{Events, event, no_event}
-use Rattle.mesh_top_laws.specs.Kept.{AllSettle, AskedLeaves, BatchSettles, CallSettles, ScriptSettles, TextsSettle, as_it_was, changed, of_line}
+use Rattle.mesh_top_laws.specs.Kept.{AllSettle, AskedLeaves, BatchSettles, CallSettles, Passed, ScriptSettles, TextsSettle, changed, of_line}
 use Rattle.mesh_top_laws.proofs.Calls.{line_leaves}
 use Rattle.mesh_top_laws.proofs.Keeping.{Left, command_kept, left_sound}
 
@@ -92,20 +92,22 @@ step_goes : (dir text : List ℕ) (old new : Sides) (sinks printed : Sinks) (s :
 step_goes dir text old new sinks printed s true x w at sound settled (same, said, zero_is) = stays x w old new (λ y v. Unit {0}) tt at sound same
 step_goes dir text old new sinks printed s false x w at sound settled ends = answer_goes (IsTextLine text) dir old new x w at sound settled ends.answer ends.answered
 
-step_done : (dir text : List ℕ) (old new : Sides) (sinks printed : Sinks) (b : Bool) (x : Parts) (w : World) → old.house.world ≡ Some w → Sound x w → (settled : AllSettle (IsTextLine text) dir old x w)
-    → StepBy b dir text old new sinks printed 0 → Goes x w new.house (AskedLeaves (IsTextLine text) dir old x w settled)
-step_done dir text old new sinks printed true x w at sound settled (same, said, zero_is) = stays x w old new (AskedLeaves (IsTextLine text) dir old x w settled) as_it_was at sound same
-step_done dir text old new sinks printed false x w at sound settled ends = done_goes (IsTextLine text) dir old new x w at sound settled sinks printed ends
-
 after : (x y : Parts) (w u : World) (told : Told) → Events w x u y → Went y u told → Went x w told
 after x y w u told first is =
     record { doubts = is.doubts; world = is.world; told_is = is.told_is; sound = is.sound; may = tt; events = joined w u x y first is.world is.doubts is.events }
 
 texts_go : (dir : List ℕ) {texts : List (List ℕ)} {old new : Sides} {sinks printed : Sinks} {s : ℕ} (ends : TextsEnd dir texts old new sinks printed s) (x : Parts) (w : World) → old.house.world ≡ Some w → Sound x w → TextsSettle dir ends x w → Went x w new.house
 texts_go dir (ended old sinks) x w at sound settled = record { doubts = x; world = w; told_is = at; sound = sound; may = tt; events = no_event }
-texts_go dir (went text texts old mid new sinks between printed s step more) x w at sound settled =
-    let is = step_done dir text old mid sinks between (is_skipped text) x w at sound settled.0 step in
-    after x is.doubts w is.world new.house is.events (texts_go dir more is.doubts is.world is.told_is is.sound (settled.1 is.doubts is.world is.told_is is.may))
+texts_go dir (went text texts old mid new sinks between printed s step more) x w at sound settled = go (λ y v told so then_so. texts_go dir more y v told so then_so) (is_skipped text) step settled
+  where
+    go : ((y : Parts) (v : World) → mid.house.world ≡ Some v → Sound y v → TextsSettle dir more y v → Went y v new.house) → (b : Bool) → StepBy b dir text old mid sinks between 0
+        → Passed b (TextsSettle dir more x w)
+        ((so : AllSettle (IsTextLine text) dir old x w) × ((y : Parts) (v : World) → mid.house.world ≡ Some v → AskedLeaves (IsTextLine text) dir old x w so y v → TextsSettle dir more y v))
+        → Went x w new.house
+    go rest true (same, said, zero_is) then_so = rest x w (subst (λ (m : Sides). m.house.world ≡ Some w) (sym same) at) sound then_so
+    go rest false ends then_so =
+        let is = done_goes (IsTextLine text) dir old mid x w at sound then_so.0 sinks between ends in
+        after x is.doubts w is.world new.house is.events (rest is.doubts is.world is.told_is is.sound (then_so.1 is.doubts is.world is.told_is is.may))
 texts_go dir (stopped text texts old new sinks printed s short step) x w at sound settled =
     step_goes dir text old new sinks printed s (is_skipped text) x w at sound settled step
 

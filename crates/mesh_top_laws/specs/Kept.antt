@@ -1,5 +1,5 @@
 -- When what a command line asks for settles, and when no recorded rows would come out otherwise through it; what is kept then.
-use Rattle.std.specs.Prelude.{◌≡◌, ℕ, false, List, ◌++◌, Some}
+use Rattle.std.specs.Prelude.{◌≡◌, ℕ, Bool, true, false, List, ◌++◌, Some}
 use mathlib.Core.Logic.{inl, inr}
 use Rattle.mesh_base.specs.declared.forgets.Forget.{Forget}
 use Rattle.mesh_scratch.specs.Horizons.{Clock, Shows}
@@ -11,6 +11,7 @@ use Rattle.mesh_changes.specs.Commands as promise
 use Rattle.mesh_due.specs.Parts.{Parts, either}
 use Rattle.mesh_io.specs.Told.{SourceTold}
 use Rattle.mesh_layer.specs.Shows.{Tells}
+use Rattle.mesh_options.specs.scripts.Scripts.{is_skipped}
 use Rattle.mesh_sound.specs.Histories.{Settles, judged_at, left, met, planned_parts, sources_after}
 use Rattle.mesh_sound.specs.Moved.{moved}
 use Rattle.mesh_sound.specs.Sound.{Sound}
@@ -74,18 +75,23 @@ pub record TellsFormed (dir : List ℕ) (s : Sides) (c : Command) (x : Parts) (w
 abbrev pub AllSettle : (Line → Type 0) → List ℕ → Sides → Parts → World → Type 0
 AllSettle asks dir s x w = (line : Line) → asks line → LineSettles (place_or line.paths dir) s line.command x w
 
--- what is left where a text ends with status 0: all as it was, or what all changes of the line that it asks for leave
+-- what is left where a text asks for a line that ends with status 0: what all of its changes leave
 pub data AskedLeaves (asks : Line → Type 0) (dir : List ℕ) (s : Sides) (x : Parts) (w : World) (settled : AllSettle asks dir s x w) : Parts → World → Type 0 where
-  as_it_was : AskedLeaves asks dir s x w settled x w
   of_line : (line : Line) (as_asked : asks line) (k : promise.Command) (it_asks : AsksFor (place_or line.paths dir) s line.command w k) →
       AskedLeaves asks dir s x w settled (left (promise.changes (settled line as_asked k it_asks).after k w) (met (settled line as_asked k it_asks).before (settled line as_asked k it_asks).after k w x))
       (run w (promise.changes (settled line as_asked k it_asks).after k w))
+
+-- of a text that is passed over, and of one that asks for a line
+abbrev pub Passed : Bool → Type 0 → Type 0 → Type 0
+Passed true over asking = over
+Passed false over asking = asking
 
 -- the lines of a script settle, each in what those before it leave
 abbrev pub TextsSettle : (dir : List ℕ) {texts : List (List ℕ)} {old new : Sides} {sinks printed : Sinks} {s : ℕ} → TextsEnd dir texts old new sinks printed s → Parts → World → Type 0
 TextsSettle dir (ended old sinks) x w = Unit {0}
 TextsSettle dir (went text texts old mid new sinks between printed s step more) x w =
-    (settled : AllSettle (IsTextLine text) dir old x w) × ((y : Parts) (v : World) → mid.house.world ≡ Some v → AskedLeaves (IsTextLine text) dir old x w settled y v → TextsSettle dir more y v)
+    Passed (is_skipped text) (TextsSettle dir more x w)
+    ((settled : AllSettle (IsTextLine text) dir old x w) × ((y : Parts) (v : World) → mid.house.world ≡ Some v → AskedLeaves (IsTextLine text) dir old x w settled y v → TextsSettle dir more y v))
 TextsSettle dir (stopped text texts old new sinks printed s short step) x w = AllSettle (IsTextLine text) dir old x w
 
 abbrev pub ScriptSettles : (dir script : List ℕ) {old new : Sides} {sinks printed : Sinks} {s : ℕ} → ScriptEnds dir script old new sinks printed s → Parts → World → Type 0
