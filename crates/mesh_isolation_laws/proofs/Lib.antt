@@ -4,6 +4,8 @@ pub mod Elsewhere
 pub mod Fills
 -- Others: the environments that a command doesn't switch.
 pub mod Others
+-- Janitor: nor does the janitor take away, or add, the record of one that isn't over.
+pub mod Janitor
 -- Holds: what holds at each exit of a list of changes.
 pub mod Holds
 -- Rows: a table that keeps the rows of a part of it.

@@ -151,10 +151,11 @@ module _ (x : Parts) (w : World) (sound : Sound x w) where
           by_pending true i = from_joined f.list f.previous r i
           by_pending false i = Has_left r f.list f.previous i
 
-  module _ (e : Env) (known : IsEnv w.book e) where
+  -- of an environment whose entries' schemas are plain, as those of the book are
+  module _ (e : Env) (entries : (r : Ref) → IsEntry e r → is_plain_schema r.name.schema ≡ true) where
     -- a view of another environment is none of its views
     other_view : (env : List ℕ) (n : Name) → is_plain_schema n.schema ≡ true → (env ≡ e.name → ⊥) → IsNone e (view_in env n)
-    other_view env n plain other r i same = other (view_names env e.name n r.name plain (entry_plain x w sound e known r (entry_among x w sound e r i)) same).0
+    other_view env n plain other r i same = other (view_names env e.name n r.name plain (entries r i) same).0
 
     module _ (plan : Plan) (other : plan.env ≡ e.name → ⊥) (plain : (p : Planned) → Has p plan.models → is_plain_schema p.node.own.name.schema ≡ true) where
       points_harmless : Each (IsHarmless e) (map (points plan.env) (objects_by_name plan.models))
@@ -208,5 +209,12 @@ pub others_stay : (x : Parts) (w : World) (c : Command) (clock : Clock) → Soun
     → IsEnv w.book e → LeavesOut c e.name
     → IsEnv (run w made).book e × ((r : Ref) → IsEntry e r → view (run w made) (view_in e.name r.name) ≡ view w (view_in e.name r.name))
 others_stay x w c clock sound is made rest same e known other =
-    let spared = run_spared e w made (Each_left (IsHarmless e) made rest (subst (Each (IsHarmless e)) same (changes_harmless x w sound e known clock c is other))) in
+    let spared = run_spared e w made (Each_left (IsHarmless e) made rest (subst (Each (IsHarmless e)) same (changes_harmless x w sound e (λ r i. entry_plain x w sound e known r (entry_among x w sound e r i)) clock c is other))) in
     (spared.env ∙ known, spared.views)
+
+-- of any other name, the book has the environment that it had, or still none
+pub records_stay : (x : Parts) (w : World) (c : Command) (clock : Clock) → Sound x w → IsAsked clock w c → (made rest : List Change) → changes clock c w ≡ made ++ rest → (name : List ℕ)
+    → LeavesOut c name → env_at (run w made).book name ≡ env_at w.book name
+records_stay x w c clock sound is made rest same name other =
+    let e : Env = record { name = name; pending = false; list = []; previous = []; expires = None } in
+    (run_spared e w made (Each_left (IsHarmless e) made rest (subst (Each (IsHarmless e)) same (changes_harmless x w sound e (λ r i. absurd (entry_among x w sound e r i)) clock c is other)))).env

@@ -1,5 +1,5 @@
 // What the definitions give.
-ghost use Rattle.std.specs.Prelude.{◌++◌, ◌≡◌, Some, List};
+ghost use Rattle.std.specs.Prelude.{◌++◌, ◌≡◌, ℕ, ℤ, Some, List, false};
 ghost use Rattle.mesh_base.specs.declared.snapshots.Env.{Env};
 ghost use Rattle.mesh_base.specs.declared.snapshots.Ref.{Ref};
 ghost use Rattle.mesh_base.specs.declared.snapshots.Snapshot.{Snapshot};
@@ -12,17 +12,31 @@ ghost use Rattle.mesh_house.specs.declared.world.World.{World};
 ghost use Rattle.mesh_listed.specs.Closing.{IsSnapshot};
 ghost use Rattle.mesh_due.specs.Parts.{Parts};
 ghost use Rattle.mesh_changes.specs.Commands.{Command, changes};
-ghost use Rattle.mesh_changes.specs.Environments.{IsEnv, view_in};
+ghost use Rattle.mesh_changes.specs.Environments.{IsEnv, env_at, is_over, view_in};
+ghost use Rattle.mesh_changes.specs.Kept.{sweeps};
 ghost use Rattle.mesh_sound.specs.Histories.{IsAsked, IsMet, Settles, met};
 ghost use Rattle.mesh_sound.specs.Sound.{IsEntry, Sound};
 ghost use Rattle.mesh_isolation_laws.specs.Isolation.{DropsNone, KeepsRows, LeavesOut, again_in};
 
 /// At every exit of a command, each environment but the one that an apply is for, or that is to go, has the record that it had, with
-/// both of its lists, and each of its views points where it pointed; one that didn't stand doesn't stand. This asks for no settling.
+/// both of its lists, and each of its views points where it pointed. This asks for no settling.
 pub fn other_environments_stay()
     ensures { (x : Parts) (w : World) (c : Command) (clock : Clock) → Sound x w → IsAsked clock w c → (made rest : List Change) → changes clock c w ≡ made ++ rest →
         (e : Env) → IsEnv w.book e → LeavesOut c e.name →
         IsEnv (run w made).book e × ((r : Ref) → IsEntry e r → view (run w made) (view_in e.name r.name) ≡ view w (view_in e.name r.name)) }
+{}
+
+/// Nor does another environment appear: of any name that is left out the book has the environment that it had, or still none.
+pub fn no_other_environment_appears()
+    ensures { (x : Parts) (w : World) (c : Command) (clock : Clock) → Sound x w → IsAsked clock w c → (made rest : List Change) → changes clock c w ≡ made ++ rest →
+        (name : List ℕ) → LeavesOut c name → env_at (run w made).book name ≡ env_at w.book name }
+{}
+
+/// The janitor takes away no environment that isn't over at its moment, and adds none: wherever it stops, of any name whose environment
+/// isn't over, where there is one, the book has the environment that it had, or still none.
+pub fn the_janitor_leaves_other_records()
+    ensures { (x : Parts) (w : World) (t : ℤ) → Sound x w → (made rest : List Change) → sweeps w.book t ≡ made ++ rest →
+        (name : List ℕ) → ((e : Env) → env_at w.book name ≡ Some e → is_over t e.expires ≡ false) → env_at (run w made).book name ≡ env_at w.book name }
 {}
 
 /// At every exit of a command that settles and isn't the janitor's, what is recorded of a table and isn't in doubt has the rows

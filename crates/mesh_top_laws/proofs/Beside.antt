@@ -15,14 +15,15 @@ use Rattle.mesh_listed.specs.Closing.{IsSnapshot}
 use Rattle.mesh_due.specs.Parts.{Parts}
 use Rattle.mesh_changes.specs.Commands as promise
 use Rattle.mesh_changes.specs.Commands.{allows, changes}
-use Rattle.mesh_changes.specs.Environments.{IsEnv, is_over, view_in}
+use Rattle.mesh_changes.specs.Environments.{IsEnv, env_at, is_over, view_in}
 use Rattle.mesh_changes.specs.Kept.{sweeps}
 use Rattle.mesh_layer.specs.Shows.{Tells}
 use Rattle.mesh_printed.specs.declared.printed.refusals.Refusal.{Refusal}
 use Rattle.mesh_sound.specs.Histories.{IsMet}
 use Rattle.mesh_sound.specs.Sound.{IsEntry, Sound}
 use Rattle.mesh_isolation_laws.specs.Isolation.{DropsNone, LeavesOut}
-use Rattle.mesh_isolation_laws.proofs.Others.{others_stay}
+use Rattle.mesh_isolation_laws.proofs.Janitor.{janitor_records}
+use Rattle.mesh_isolation_laws.proofs.Others.{others_stay, records_stay}
 use Rattle.mesh_isolation_laws.proofs.Spared.{not_again_kept}
 use Rattle.mesh_shown_laws.proofs.Sweeping.{sweep_leaves}
 use Rattle.mesh_line.specs.declared.line.Command.{Command}
@@ -84,6 +85,14 @@ module _ (dir : List ℕ) (c : Command) (old new : Sides) (answer : Result (List
           let (record_is, views) = others_stay x w k after sound (asked_is_met dir old c w k asks after is) made rest front e known (left_out dir old w e.name c k asks other) in
           (run w made, at, record { known = record_is; views = views })
 
+  pub records_left : (name : List ℕ) → IsForOthers c name → (v : World) × (new.house.world ≡ Some v) × (env_at v.book name ≡ env_at w.book name)
+  records_left name other = let so = command_formed dir c old new answer commanded x w told sound in go so.doubts so.world so.told_is so.left_so
+    where
+      go : (y : Parts) (v : World) → new.house.world ≡ Some v → Widens dir old c x w y v → (u : World) × (new.house.world ≡ Some u) × (env_at u.book name ≡ env_at w.book name)
+      go y v at unchanged = (w, at, refl)
+      go y v at (widened k asks before after was is made rest front) =
+          (run w made, at, records_stay x w k after sound (asked_is_met dir old c w k asks after is) made rest front name (left_out dir old w name c k asks other))
+
   pub rows_left : KeepsTables c → (s : Snapshot) → IsSnapshot w.book.snapshots s → (version : Version) → version_of w.book s.object ≡ Some version → (v : World) × (new.house.world ≡ Some v) × StillHas dir old c w s version v
   rows_left keeps s known version there = let so = command_formed dir c old new answer commanded x w told sound in go so.doubts so.world so.told_is so.left_so
     where
@@ -118,3 +127,24 @@ module _ (x : Parts) (w : World) (sound : Sound x w) (e : Env) (known : IsEnv w.
       go y v at unchanged = (w, at, λ r there. (refl, refl))
       go y v at (widened k (t, place, real, is) before after was now made rest front) =
           (run w made, at, front_left t (free t (t, place, real, refl)) made rest (subst (λ (c : promise.Command). changes after c w ≡ made ++ rest) is front))
+
+-- and of a name whose environment isn't over at its moment, the book has the record that it had
+module _ (x : Parts) (w : World) (sound : Sound x w) (name : List ℕ) where
+  front_recorded : (t : ℤ) → ((e : Env) → env_at w.book name ≡ Some e → is_over t e.expires ≡ false) → (made rest : List Change)
+      → cond (allows w (promise.Janitor t)) (sweeps w.book t) [] ≡ made ++ rest → env_at (run w made).book name ≡ env_at w.book name
+  front_recorded t free made rest front = go (allows w (promise.Janitor t)) made front
+    where
+      go : (b : Bool) (list : List Change) → cond b (sweeps w.book t) [] ≡ list ++ rest → env_at (run w list).book name ≡ env_at w.book name
+      go true list is = janitor_records x w t sound list rest is name free
+      go false [] is = refl
+      go false (c ∷ cs) is = absurd (let clash : [] ≡ c ∷ (cs ++ rest) = is in cc)
+
+  pub janitor_recorded : (dir : List ℕ) (moment : Option ℤ) (old new : Sides) (answer : Result (List ℕ) Refusal) → Commanded dir (Janitor moment) old new answer → Tells old.house w
+      → ((t : ℤ) → AsksFor dir old (Janitor moment) w (promise.Janitor t) → (e : Env) → env_at w.book name ≡ Some e → is_over t e.expires ≡ false)
+      → (v : World) × (new.house.world ≡ Some v) × (env_at v.book name ≡ env_at w.book name)
+  janitor_recorded dir moment old new answer commanded told free = let so = command_formed dir (Janitor moment) old new answer commanded x w told sound in go so.doubts so.world so.told_is so.left_so
+    where
+      go : (y : Parts) (v : World) → new.house.world ≡ Some v → Widens dir old (Janitor moment) x w y v → (u : World) × (new.house.world ≡ Some u) × (env_at u.book name ≡ env_at w.book name)
+      go y v at unchanged = (w, at, refl)
+      go y v at (widened k (t, place, real, is) before after was now made rest front) =
+          (run w made, at, front_recorded t (free t (t, place, real, refl)) made rest (subst (λ (c : promise.Command). changes after c w ≡ made ++ rest) is front))

@@ -16,9 +16,9 @@ pub mod Forming
 pub mod Beside
 -- Still: nothing moves within one moment.
 pub mod Still
--- Looked: no question tells of a sound world that an object is missing.
+-- Looked: no question tells of a sound world that it is damaged.
 pub mod Looked
--- Missing: nor does any command.
-pub mod Missing
+-- Undamaged: nor does any command.
+pub mod Undamaged
 -- Steady: what steady projects ask for settles.
 pub mod Steady

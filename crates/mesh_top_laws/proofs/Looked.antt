@@ -1,5 +1,5 @@
--- No question tells of a sound world that an object is missing: what stands behind the views of an environment shows rows.
-use Rattle.std.proofs.Common.{◌≡◌, ℕ, Bool, true, false, cond, codes, nat_eq, inl, inr, List, [], ◌∷◌, map, Option, Some, None, Ok, Err, Result, refl, sym, ap, ◌∙◌, subst}
+-- No question tells of a sound world that it is damaged: its book breaks no rule, and what stands behind the views of an environment shows rows.
+use Rattle.std.proofs.Common.{◌≡◌, ℕ, Bool, true, false, cond, nat_eq, inl, inr, List, [], ◌∷◌, map, Option, Some, None, Ok, Err, Result, refl, sym, ap, ◌∙◌, subst}
 use Rattle.std.proofs.lemmas.Map.Lookups.{exact_bytes}
 use Rattle.std.specs.List.{list_all}
 use Rattle.std.specs.Option.{option_and_then}
@@ -21,9 +21,10 @@ use Rattle.mesh_base.specs.declared.snapshots.Env.{Env}
 use Rattle.mesh_base.specs.declared.snapshots.Ref.{Ref}
 use Rattle.mesh_base.specs.declared.snapshots.Snapshot.{Snapshot}
 use Rattle.mesh_rules.specs.Proper.{defn_names, is_among}
-use Rattle.mesh_book.specs.WellFormed.{book_fault, has_parents, is_listed, parents_at, snapshot_at}
+use Rattle.mesh_book.specs.WellFormed.{book_fault, has_parents, is_listed, is_well_formed_book, parents_at, snapshot_at}
 use Rattle.mesh_book.specs.declared.book.Book.{Book}
 use Rattle.mesh_book.specs.declared.fault.BookFault.{BookFault}
+use Rattle.mesh_book.proofs.Breaches.{without_fault}
 use Rattle.mesh_book.proofs.Exchanged.{found_key}
 use Rattle.mesh_laws.proofs.Finding.{one_passes}
 use Rattle.mesh_laws.proofs.Has.{Has, Has_filter_from, Has_map_from, Has_to}
@@ -39,19 +40,27 @@ use Rattle.mesh_sound_laws.proofs.EnvLaws.{listed_snapshot}
 use Rattle.mesh_shown_laws.proofs.Standing.{list_stands, listed_has, listed_shows}
 use Rattle.mesh_resolve.specs.Queries.{resolved}
 use Rattle.mesh_resolve.specs.declared.known.Known.{Known}
-use Rattle.mesh_exec.specs.Sources.{kind_of, model_breach}
+use Rattle.mesh_exec.specs.Sources.{model_breach}
 use Rattle.mesh_exec.specs.declared.sources.Breach.{Breach}
-use Rattle.mesh_printed.specs.faults.Lines.{name_text}
 use Rattle.mesh_printed.specs.declared.printed.refusals.Refusal.{Refusal}
-use Rattle.mesh_printed.specs.declared.printed.refusals.Refusal.TheVariants.{BookBroken, EnvPending, EnvUnknown, Memory, Model, ObjectMissing, StateOld}
-use Rattle.mesh_asking.specs.asking.Evaluated.{evaluated, found_rows, lacks, listed, lost_behind, model_text, parents_of, snapshot_of, unknown}
+use Rattle.mesh_printed.specs.declared.printed.refusals.Refusal.TheVariants.{BookBroken, EnvPending, EnvUnknown, StateOld}
+use Rattle.mesh_asking.specs.asking.Evaluated.{evaluated, found_rows, lacks, listed, lost_behind, model_text, parents_of, snapshot_of}
 use Rattle.mesh_asking.specs.asking.Fetched.{fetched, known_of, of_word, seen, tree_over, word, word_over, worded}
 use Rattle.mesh_asking.specs.asking.Looks.{◌>>=◌, final_list, list_of, present_list, printed}
+use Rattle.mesh_top_laws.specs.Stages.{tells_of_damage}
 
--- an answer that tells of no object
+-- an answer that tells of no damage
 abbrev pub Quiet : {T : Type 0} → Result T Refusal → Type 0
 Quiet (Ok y) = Unit {0}
-Quiet (Err r) = (o : Name) → r ≡ ObjectMissing o → ⊥
+Quiet (Err why) = tells_of_damage why ≡ true → ⊥
+
+-- a well formed book breaks no rule
+pub no_breach : (b : Book) → is_well_formed_book b ≡ true → book_fault b ≡ None
+no_breach b whole = go (book_fault b) refl
+  where
+    go : (o : Option BookFault) → book_fault b ≡ o → o ≡ None
+    go None is = refl
+    go (Some f) is = absurd (let clash : true ≡ false = (without_fault b (Some f) (sym is)).1 whole in cc)
 
 -- one step that tells of none, and then the next
 then_quiet : {A B : Type 0} (m : Result A Refusal) (next : A → Result B Refusal) → Quiet m → ((y : A) → m ≡ Ok y → Quiet (next y)) → Quiet (m >>= next)
@@ -70,25 +79,24 @@ record IsListOf (b : Book) (env : List ℕ) : Type 0 where
   final : its.pending ≡ false
 
 module _ (b : Book) (env : List ℕ) where
-  -- it isn't there or is pending, or the book isn't as it has to be: no object is told of
+  -- it isn't there or is pending, or the book is of another version: no damage is told of
   final_quiet : (e : Option Env) → Quiet (final_list env e)
-  final_quiet None = λ o h. let clash : EnvUnknown env ≡ ObjectMissing o = h in cc
+  final_quiet None = λ damage. cc
   final_quiet (Some e) = go e.pending
     where
       go : (p : Bool) → Quiet (cond p (Err (EnvPending env)) (Ok e.list))
-      go true = λ o h. let clash : EnvPending env ≡ ObjectMissing o = h in cc
+      go true = λ damage. cc
       go false = tt
 
-  present_quiet : (f : Option BookFault) → Quiet (present_list b env f)
-  present_quiet (Some f) = λ o h. let clash : BookBroken f.part f.place ≡ ObjectMissing o = h in cc
-  present_quiet None = go (nat_eq b.version 2)
+  present_quiet : Quiet (present_list b env None)
+  present_quiet = go (nat_eq b.version 2)
     where
       go : (v : Bool) → Quiet (cond v (final_list env (env_at b env)) (Err (StateOld b.version)))
       go true = final_quiet (env_at b env)
-      go false = λ o h. let clash : StateOld b.version ≡ ObjectMissing o = h in cc
+      go false = λ damage. cc
 
-  list_quiet : Quiet (list_of b env)
-  list_quiet = present_quiet (book_fault b)
+  list_quiet : book_fault b ≡ None → Quiet (list_of b env)
+  list_quiet fit = subst (λ (f : Option BookFault). Quiet (present_list b env f)) (sym fit) present_quiet
 
   -- and where there is a list, it is that of such an environment
   module _ (list : List Ref) where
@@ -133,10 +141,10 @@ none_first : {A : Type 0} (lost : A → Option Name) (xs : List A) → ((a : A) 
 none_first lost [] none = refl
 none_first lost (a ∷ others) none = ap (λ (o : Option Name). first_of (o ∷ map lost others)) (none a (inl refl)) ∙ none_first lost others (λ b k. none b (inr k))
 
--- where nothing is lost, no object is told
+-- where nothing is lost, nothing is told of
 none_told : (columns : List Column) (rows : Option (List (List Cell))) (lost : Option Name) → lost ≡ None → Quiet (printed columns rows lost)
 none_told columns (Some rows) lost none = tt
-none_told columns None None none = λ o h. let clash : Memory ≡ ObjectMissing o = h in cc
+none_told columns None None none = λ damage. cc
 none_told columns None (Some object) none = absurd (let clash : Some object ≡ None = none in cc)
 
 -- of a sound world, by an environment that is there and isn't pending
@@ -184,9 +192,9 @@ module _ (x : Parts) (w : World) (sound : Sound x w) (env : List ℕ) (of : IsLi
       none_first (lost_model env w) (asked_models w.book env q) (λ name k. name_found name
       (subst (λ (e : Option Env). Has name (map ref_name (listed_in e))) of.known (Has_filter_from (is_among (defn_names (Sql q))) (map ref_name (listed_in (env_at w.book env))) name k).0))
 
-  -- the text of a model tells of no object
+  -- the text of a model tells of none
   model_quiet : (model : Name) (u : Bounds) (o : Option Snapshot) → snapshot_of all list model ≡ o → Quiet (model_text env model u w o)
-  model_quiet model u None at = λ o h. let clash : unknown model ≡ ObjectMissing o = h in cc
+  model_quiet model u None at = λ damage. cc
   model_quiet model u (Some s) at =
       let (r, k, is) = snapshot_listed all list model s at in
       then_quiet (lacks model (model_breach w.sources s.own.sources)) (λ there. printed (columns_of s.own) (found_rows env s u w) (lost_behind env s w)) (lacks_quiet (model_breach w.sources s.own.sources))
@@ -194,12 +202,12 @@ module _ (x : Parts) (w : World) (sound : Sound x w) (env : List ℕ) (of : IsLi
     where
       lacks_quiet : (breach : Option Breach) → Quiet (lacks model breach)
       lacks_quiet None = tt
-      lacks_quiet (Some breach) = λ o h. let clash : Model (name_text model) 0 (kind_of breach) ≡ ObjectMissing o = h in cc
+      lacks_quiet (Some breach) = λ damage. cc
 
 -- what is read of words tells of none
-of_word_quiet : (f : ReadFault) (o : Name) → of_word f ≡ ObjectMissing o → ⊥
-of_word_quiet (read.Fault at kind) o h = let clash : Model (codes "-") at kind ≡ ObjectMissing o = h in cc
-of_word_quiet read.Memory o h = let clash : Memory ≡ ObjectMissing o = h in cc
+of_word_quiet : (f : ReadFault) → tells_of_damage (of_word f) ≡ true → ⊥
+of_word_quiet (read.Fault at kind) damage = cc
+of_word_quiet read.Memory damage = cc
 
 word_quiet : {T : Type 0} (r : Result T ReadFault) → Quiet (word r)
 word_quiet (Ok y) = tt
@@ -212,14 +220,14 @@ word_over_quiet known text query =
     (λ ts given. then_quiet (word query) (λ tree. word (resolved known tree)) (word_quiet query) (λ tree read. word_quiet (resolved known tree)))
 
 -- nor finding what it may name
-known_quiet : (b : Book) (env : List ℕ) → Quiet (known_of b env)
-known_quiet b env = then_quiet (list_of b env) (λ list. Ok (seen b list)) (list_quiet b env) (λ list given. tt)
+known_quiet : (b : Book) (env : List ℕ) → book_fault b ≡ None → Quiet (known_of b env)
+known_quiet b env fit = then_quiet (list_of b env) (λ list. Ok (seen b list)) (list_quiet b env fit) (λ list given. tt)
 
 module _ (x : Parts) (w : World) (sound : Sound x w) (env : List ℕ) where
   -- the rows of a model
   pub evaluated_quiet : (model : Name) (u : Bounds) → Quiet (evaluated w.book env model u w)
   evaluated_quiet model u =
-      then_quiet (list_of w.book env) (λ list. model_text env model u w (snapshot_of w.book.snapshots list model)) (list_quiet w.book env)
+      then_quiet (list_of w.book env) (λ list. model_text env model u w (snapshot_of w.book.snapshots list model)) (list_quiet w.book env (no_breach w.book sound.book.well_formed))
       (λ list given. let (of, is) = list_given w.book env list given in
       subst (λ (l : List Ref). Quiet (model_text env model u w (snapshot_of w.book.snapshots l model))) is (model_quiet x w sound env of model u (snapshot_of w.book.snapshots of.its.list model) refl))
 
@@ -227,7 +235,7 @@ module _ (x : Parts) (w : World) (sound : Sound x w) (env : List ℕ) where
   pub fetched_quiet : (text : List ℕ) (query : Result Surface ReadFault) → Quiet (fetched w.book env text query w)
   fetched_quiet text query =
       then_quiet (worded w.book env text query) (λ q. printed (select_columns q.selects) (asked w.book env q w) (lost_asked w.book env q w))
-      (then_quiet (known_of w.book env) (λ known. word_over known text query) (known_quiet w.book env) (λ known given. word_over_quiet known text query))
+      (then_quiet (known_of w.book env) (λ known. word_over known text query) (known_quiet w.book env (no_breach w.book sound.book.well_formed)) (λ known given. word_over_quiet known text query))
       (λ q given. let (known, named) = first_gave (known_of w.book env) (λ known. word_over known text query) q given in
       let (list, there) = first_gave (list_of w.book env) (λ list. Ok (seen w.book list)) known named in
       let (of, is) = list_given w.book env list there in

@@ -1,5 +1,5 @@
 -- What the calls that a command is made of leave of a house, by themselves.
-use Rattle.std.specs.Prelude.{◌≡◌, List, ◌++◌, Some}
+use Rattle.std.specs.Prelude.{◌≡◌, Bool, true, false, List, ◌++◌, Some}
 use Rattle.mesh_scratch.specs.Horizons.{Clock}
 use Rattle.mesh_house.specs.House.{Told}
 use Rattle.mesh_house.specs.Step.{run}
@@ -7,6 +7,8 @@ use Rattle.mesh_house.specs.declared.world.Change.{Change}
 use Rattle.mesh_house.specs.declared.world.World.{World}
 use Rattle.mesh_changes.specs.Commands as promise
 use Rattle.mesh_due.specs.Parts.{Parts}
+use Rattle.mesh_printed.specs.declared.printed.refusals.Refusal.{Refusal}
+use Rattle.mesh_printed.specs.declared.printed.refusals.Refusal.TheVariants.{BookBroken, ObjectMissing}
 use Rattle.mesh_sound.specs.Histories.{Settles, left, met}
 use Rattle.mesh_sound.specs.Sound.{Sound}
 
@@ -22,3 +24,9 @@ pub record IsUnderWay (before after : Clock) (k : promise.Command) (x : Parts) (
   pub front : promise.changes after k w ≡ made ++ rest
   pub told_is : told.world ≡ Some (run w made)
   pub sound : Sound (left made (met before after k w x)) (run w made)
+
+-- what is told where the warehouse isn't as the tool leaves it: its book breaks a rule, or an object that a view or a model reads is missing
+abbrev pub tells_of_damage : Refusal → Bool
+tells_of_damage (BookBroken part place) = true
+tells_of_damage (ObjectMissing object) = true
+tells_of_damage other = false

@@ -1,9 +1,10 @@
 //! The promise of the public call: where the house tells a world that is sound but for some parts, and what a command line asks for
 //! settles there, it tells one that is sound but for what is then left in doubt, at every exit and whatever the status; at status 0
 //! an apply, a run or a plan that is applied at once leaves its environment final, for every number of workers; so after any calls
-//! from the empty world that settle; every call leaves a world formed that was; and a command leaves the environments that it isn't for,
-//! and what is recorded and isn't computed again, as they were. Each law is the contract of a function with an empty body. It stands on `mesh_cli`,
-//! `mesh_promise_laws`, `mesh_formed_laws`, `mesh_shown_laws`, `mesh_isolation_laws` and `mesh_steady_laws`.
+//! from the empty world that settle; every call leaves a world formed that was, and none tells of a sound world that it is damaged;
+//! and a command leaves the environments that it isn't for, and what is recorded and isn't computed again, as they were. Each law is
+//! the contract of a function with an empty body. It stands on `mesh_cli`, `mesh_promise_laws`, `mesh_formed_laws`,
+//! `mesh_shown_laws`, `mesh_isolation_laws` and `mesh_steady_laws`.
 #![tactic(auto)]
 
 mod laws;
@@ -19,9 +20,10 @@ pub use laws::{
 };
 pub use others::{
     commands_keep_rows_that_they_do_not_compute_again, commands_leave_other_environments,
+    commands_make_no_other_environment, the_janitor_leaves_other_records,
     the_janitor_leaves_other_views,
 };
 pub use stages::{
-    commands_never_find_an_object_missing, executions_keep_worlds_sound, executions_never_dangle,
+    commands_never_find_damage, executions_keep_worlds_sound, executions_never_dangle,
     promotions_keep_worlds_sound, sweeps_keep_worlds_sound,
 };

@@ -33,11 +33,11 @@ ghost use Rattle.mesh_exec.specs.declared.faults.ExecFault.TheVariants.{Dangling
 ghost use Rattle.mesh_applying.specs.Planning.{IsPlanned, IsRunPlanned};
 ghost use Rattle.mesh_sound.specs.Sound.{Sound};
 ghost use Rattle.mesh_line.specs.declared.line.Command.{Command};
-ghost use Rattle.mesh_printed.specs.declared.printed.refusals.Refusal.TheVariants.{ObjectMissing};
+ghost use Rattle.mesh_printed.specs.declared.printed.refusals.Refusal.{Refusal};
 ghost use Rattle.mesh_cli.specs.cli.Asked.{Gives};
 ghost use Rattle.mesh_cli.specs.cli.Ends.{Commanded};
 ghost use Rattle.mesh_cli.specs.cli.Sides.{Sides};
-ghost use Rattle.mesh_top_laws.specs.Stages.{IsBegun, IsUnderWay};
+ghost use Rattle.mesh_top_laws.specs.Stages.{IsBegun, IsUnderWay, tells_of_damage};
 
 /// The call that makes a plan keeps a sound world sound at each of its exits by itself, in an apply and in a run that settle.
 pub fn executions_keep_worlds_sound()
@@ -72,9 +72,9 @@ pub fn executions_never_dangle()
         (old new : Told) (object : Name) → Tells old w → Executes p old new (Err (Dangling object)) → ⊥ }
 {}
 
-/// Nor does any command, where the house tells a sound world, answer so, whatever parts are in doubt: neither an apply or a run, whose models show their
-/// rows in each world on the way, nor a question, whose views show theirs.
-pub fn commands_never_find_an_object_missing()
-    ensures gives { (dir : List ℕ) (s : Sides) (c : Command) (x : Parts) (w : World) → Sound x w → (object : Name) → Gives dir s c w (Err (ObjectMissing object)) → ⊥ }
-    ensures answers { (dir : List ℕ) (c : Command) (old new : Sides) (object : Name) → Commanded dir c old new (Err (ObjectMissing object)) → (x : Parts) (w : World) → Tells old.house w → Sound x w → ⊥ }
+/// Nor does any command tell of a sound world that it is damaged, whatever parts are in doubt: its book breaks no rule, the models of an apply
+/// or a run show their rows in each world on the way, and so do the views that a question reads.
+pub fn commands_never_find_damage()
+    ensures gives { (dir : List ℕ) (s : Sides) (c : Command) (x : Parts) (w : World) → Sound x w → (why : Refusal) → tells_of_damage why ≡ true → Gives dir s c w (Err why) → ⊥ }
+    ensures answers { (dir : List ℕ) (c : Command) (old new : Sides) (why : Refusal) → tells_of_damage why ≡ true → Commanded dir c old new (Err why) → (x : Parts) (w : World) → Tells old.house w → Sound x w → ⊥ }
 {}
