@@ -1,4 +1,5 @@
 // The words that the host gives, and the file that they name.
+use crate::line::UsageFault;
 use crate::read::read_words;
 use mesh_list::{Duplicate, Memory, Seq};
 use mesh_values::{Str, same_text};
@@ -59,10 +60,12 @@ fn file_of(alloc: Global, name: Option<&Str>) -> Result<Option<Str>, Memory> {
     Ok(Some(name.copy()?))
 }
 
-/// The file of the warehouse, or none where it is in memory.
+/// The file of the warehouse, or none where it is in memory and where the words are no command line.
 pub fn warehouse_file(alloc: Global, words: &[Str]) -> Result<Option<Str>, Memory> {
     match read_words(alloc, words) {
-        Err(_) => Ok(None),
+        // A warehouse in memory in the place of the file would keep nothing.
+        Err(UsageFault::Memory) => Err(Memory),
+        Err(UsageFault::Usage) => Ok(None),
         Ok(line) => file_of(alloc, line.warehouse.as_ref()),
     }
 }
