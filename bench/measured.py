@@ -1,8 +1,16 @@
-"""Seconds of processor that a program takes in a folder with some files, and a suite of `mesh_answers` for lines of its files."""
+"""Seconds of processor that a program takes in a folder with some files, and a suite of `mesh_answers` for lines of its files.
+A script that imports this prints its own text when its first word is `--help`, and does nothing else."""
 import os
 import re
 import subprocess
+import sys
 import tempfile
+
+import __main__
+
+if sys.argv[1:2] in (["--help"], ["-h"]):
+    print(__main__.__doc__)
+    sys.exit(0)
 
 TOP = os.path.dirname(os.path.dirname(os.path.abspath(__file__)))
 PROGRAM = f"{TOP}/crates/mesh_answers/out/mesh_answers"
