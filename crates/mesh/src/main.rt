@@ -5,12 +5,12 @@
 //! is made.
 #![tactic(auto)]
 
+use mesh_base_values::Str;
+use mesh_cli_words::{host_words, warehouse_file};
 use mesh_house::{MemHouse, Warehouse};
 use mesh_io::{DirFolder, StdSink, StdSource, SystemClock};
 use mesh_keep::KeepFail;
-use mesh_line::{host_words, warehouse_file};
 use mesh_sqlite::{close, opened};
-use mesh_values::Str;
 use std::process::ExitCode;
 use std::thread::Threads;
 

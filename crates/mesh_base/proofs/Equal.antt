@@ -5,12 +5,12 @@ use Rattle.std.specs.Cmp.{IsEquivalence}
 use Rattle.std.specs.Ordering.{int_eq}
 use Rattle.std.proofs.lemmas.Bool.{and_parts, eqb-true}
 use denote.Enum.Bare.{same_true}
-use Rattle.mesh_values.specs.declared.values.Cell.{Cell}
-use Rattle.mesh_values.specs.declared.values.Cell.TheVariants.{Null, Int, Text, Date, Bool as Truth}
-use Rattle.mesh_values.specs.declared.values.ColType.{ColType}
-use Rattle.mesh_values.specs.contracts.values.CellPartialEq.TheImpl as cells
-use Rattle.mesh_values.specs.contracts.values.ColTypePartialEq.TheImpl as types
-use Rattle.mesh_values.specs.contracts.values.ColType as the_types
+use Rattle.mesh_base_values.specs.declared.values.Cell.{Cell}
+use Rattle.mesh_base_values.specs.declared.values.Cell.TheVariants.{Null, Int, Text, Date, Bool as Truth}
+use Rattle.mesh_base_values.specs.declared.values.ColType.{ColType}
+use Rattle.mesh_base_values.specs.contracts.values.CellPartialEq.TheImpl as cells
+use Rattle.mesh_base_values.specs.contracts.values.ColTypePartialEq.TheImpl as types
+use Rattle.mesh_base_values.specs.contracts.values.ColType as the_types
 use Rattle.mesh_base.specs.declared.expressions.AggKind.{AggKind}
 use Rattle.mesh_base.specs.declared.expressions.Expr.{Expr, roll-Expr, out-Expr, map-Expr, ind-Expr, roll-out-Expr, the_lemmas}
 use Rattle.mesh_base.specs.declared.expressions.Expr as expr

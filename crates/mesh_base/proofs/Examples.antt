@@ -1,7 +1,7 @@
 -- Sizes of small expressions, worked out by hand.
 use Rattle.std.proofs.Common.{◌≡◌, ℕ, ◌+◌, pos, [], ◌∷◌, ◌∙◌, arith}
-use Rattle.mesh_values.specs.declared.values.Cell.{Cell}
-use Rattle.mesh_values.specs.declared.values.Cell.TheVariants as cell
+use Rattle.mesh_base_values.specs.declared.values.Cell.{Cell}
+use Rattle.mesh_base_values.specs.declared.values.Cell.TheVariants as cell
 use Rattle.mesh_base.specs.declared.expressions.Expr.{Expr, roll-Expr, fold-roll-Expr}
 use Rattle.mesh_base.specs.declared.expressions.Expr as expr
 use Rattle.mesh_base.specs.declared.expressions.Expr.TheOpen.{Literal, Binary, Case}

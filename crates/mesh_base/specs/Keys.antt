@@ -5,13 +5,13 @@ use Rattle.std.specs.Ordering.{ordering_then}
 use Rattle.std.specs.Cmp.{IsTotalOrder}
 use Rattle.std.proofs.lemmas.Cmp.{on_total, then_total}
 use Rattle.std.proofs.lemmas.Map.Lookups.{exact_bytes, CmpEqualImpliesEq}
-use Rattle.mesh_values.specs.declared.values.Name.{Name}
+use Rattle.mesh_base_values.specs.declared.values.Name.{Name}
 use Rattle.mesh_base.specs.declared.jobs.Input.{Input}
 use Rattle.mesh_base.specs.declared.snapshots.Ref.{Ref}
 use Rattle.mesh_base.specs.declared.snapshots.Snapshot.{Snapshot}
 use Rattle.mesh_base.specs.declared.snapshots.Env.{Env}
-use Rattle.mesh_values.specs.Names.{text_cmp, name_cmp}
-use Rattle.mesh_values.specs.NameOrder.{then_equal, texts_total, names_total, names_exact}
+use Rattle.mesh_base_values.specs.Names.{text_cmp, name_cmp}
+use Rattle.mesh_base_values.specs.NameOrder.{then_equal, texts_total, names_total, names_exact}
 
 -- by name, and then by fingerprint
 abbrev pub ref_cmp : Ref → Ref → Ordering

@@ -4,3 +4,5 @@ pub mod Keys
 pub mod Outputs
 -- Nodes: how many nodes an expression has.
 pub mod Nodes
+-- rules: the definitions of the module `rules`.
+pub mod rules

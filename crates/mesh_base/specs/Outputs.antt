@@ -1,6 +1,6 @@
 -- The output columns of a model.
 use Rattle.std.specs.Prelude.{List, [], ◌∷◌, map}
-use Rattle.mesh_values.specs.declared.values.Column.{Column}
+use Rattle.mesh_base_values.specs.declared.values.Column.{Column}
 use Rattle.mesh_base.specs.declared.queries.Item.{Item}
 use Rattle.mesh_base.specs.declared.queries.Select.{Select}
 use Rattle.mesh_base.specs.declared.definitions.Defn.{Defn}

@@ -1,7 +1,7 @@
 // What a model is by itself, once its files were read and resolved.
 use crate::queries::Query;
+use mesh_base_values::{Columns, Cron, Kind, Name, Rows, Str, Unit};
 use mesh_list::{Duplicate, Memory, Same, Seq, both};
-use mesh_values::{Columns, Cron, Kind, Name, Rows, Str, Unit};
 
 pub type Sources = Seq<Decl>;
 

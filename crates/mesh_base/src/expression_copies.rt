@@ -2,8 +2,8 @@
 ghost use Rattle.std.specs.Prelude.{◌≡◌, IfOk};
 
 use crate::expressions::{Expr, Exprs, When, Whens};
+use mesh_base_values::{Cell, Str};
 use mesh_list::{Boxed, Duplicate, Memory, Seq, together};
-use mesh_values::{Cell, Str};
 
 impl Duplicate for Expr {
     fn copy(&self) -> Result<Expr, Memory> {

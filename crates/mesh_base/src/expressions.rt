@@ -1,6 +1,6 @@
 // Expressions of resolved queries: a column is named by its FROM item's place, and no alias is left.
+use mesh_base_values::{Cell, ColType, Str};
 use mesh_list::{Boxed, Duplicate, Memory, Seq};
-use mesh_values::{Cell, ColType, Str};
 
 pub type Exprs = Seq<Expr>;
 

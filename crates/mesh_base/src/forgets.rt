@@ -1,7 +1,7 @@
 // What is forgotten so that it is computed again, and snapshots that get another fingerprint.
 use crate::snapshots::Ref;
+use mesh_base_values::Name;
 use mesh_list::{Duplicate, Memory, Same, Seq};
-use mesh_values::Name;
 
 pub type Forgets = Seq<Forget>;
 

@@ -1,7 +1,7 @@
 // What a query is evaluated over, and what came of a command.
 use crate::queries::Query;
+use mesh_base_values::{Bounds, Columns, Name, Rows, Str};
 use mesh_list::{Duplicate, Memory, Same, Seq, both};
-use mesh_values::{Bounds, Columns, Name, Rows, Str};
 
 pub type Inputs = Seq<Input>;
 

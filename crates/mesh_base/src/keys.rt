@@ -1,14 +1,14 @@
 // What the items of a book and the tables of a source are found by.
 ghost use Rattle.std.specs.Prelude.{◌≡◌};
 ghost use Rattle.std.proofs.lemmas.Map.Lookups.{exact_bytes};
-ghost use Rattle.mesh_values.specs.Names.{name_cmp, text_cmp};
-ghost use Rattle.mesh_values.specs.NameOrder.{names_exact, names_total, texts_total};
+ghost use Rattle.mesh_base_values.specs.Names.{name_cmp, text_cmp};
+ghost use Rattle.mesh_base_values.specs.NameOrder.{names_exact, names_total, texts_total};
 ghost use Rattle.mesh_base.specs.Keys.{env_name, input_name, ref_cmp, ref_itself, refs_exact, refs_total, snapshot_ref};
 
 use crate::jobs::Input;
 use crate::snapshots::{Env, Ref, Snapshot};
+use mesh_base_values::{Name, Str};
 use mesh_list::Keyed;
-use mesh_values::{Name, Str};
 use std::cmp::Ordering;
 
 impl Keyed for Ref {

@@ -1,6 +1,7 @@
 //! The resolved forms that every later crate speaks of: expressions and queries, definitions of models, snapshots,
 //! environments and plans. Its contract: a copy is equal and equality is exact. It stands on `mesh_list` and
-//! `mesh_values`.
+//! `mesh_base_values`.
+//! The module `rules` has well-formed definitions, proper projects and plans.
 #![tactic(auto)]
 
 mod definitions;
@@ -12,6 +13,7 @@ mod jobs;
 mod keys;
 mod plans;
 mod queries;
+pub mod rules;
 mod snapshots;
 
 pub use definitions::{Decl, Defn, Externals, Own, Reading, Reads, Sources};

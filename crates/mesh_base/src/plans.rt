@@ -1,6 +1,6 @@
 // What a plan says of each model: how it differs from the environment's, and what is to be computed.
+use mesh_base_values::{Name, Names};
 use mesh_list::Seq;
-use mesh_values::{Name, Names};
 
 /// Seconds: the last ticks that a table's rows were computed for.
 pub type Marks = Seq<i64>;

@@ -1,7 +1,7 @@
 // Resolved queries: each column has its name and type, and `*` is expanded.
 use crate::expressions::{Expr, Exprs};
+use mesh_base_values::{ColType, Name, Str};
 use mesh_list::{Duplicate, Memory, Same, Seq, both, together};
-use mesh_values::{ColType, Name, Str};
 
 pub type Items = Seq<Item>;
 

@@ -1,7 +1,7 @@
 // Models at one state of their files, and the environments that list them.
 use crate::definitions::Own;
+use mesh_base_values::{Name, Str};
 use mesh_list::{Duplicate, Memory, Register, Same, Seq, both, together};
-use mesh_values::{Name, Str};
 
 pub type Refs = Seq<Ref>;
 

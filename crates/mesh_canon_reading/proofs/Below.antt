@@ -1,7 +1,7 @@
 -- What passes a test below a number, one number on.
 use Rattle.std.proofs.Common.{◌≡◌, ℕ, zero, suc, ◌+◌, ◌<◌, Bool, true, false, cond, ◌||◌, refl, ap, subst, arith, add-one, inl, inr}
 use Rattle.std.proofs.lemmas.Bool.{cases_eq}
-use Rattle.mesh_values.specs.Crons.{count_below, some_below}
+use Rattle.mesh_base_values.specs.Crons.{count_below, some_below}
 
 pub some_more : (p : ℕ → Bool) (n : ℕ) → some_below p n ≡ false → p n ≡ false → some_below p (n + 1) ≡ false
 unfolding some_below

@@ -6,7 +6,7 @@ use Rattle.std.proofs.Math.Nat.{pow-le-pow_right, pow-succ', zero-div}
 use Rattle.std.proofs.lemmas.Bool.{and_parts, eqb-true, eqb-false, le-ltb, lt-ltb, ltb-true, ne_eqb}
 use Rattle.std.proofs.lemmas.Fmt.{length-decimal-le}
 use Rattle.std.proofs.lemmas.List.{append-nil, length-append}
-use Rattle.mesh_values.specs.Crons.{CronSets, has, is_cron, is_set, is_single, some_below}
+use Rattle.mesh_base_values.specs.Crons.{CronSets, has, is_cron, is_set, is_single, some_below}
 use Rattle.mesh_canon_text.specs.Text.{behind_commas, commas, cron_text, field_text, fields_text, places}
 use Rattle.mesh_canon_words.specs.Words.{after, number_at, then_at}
 use Rattle.mesh_canon_reading.specs.Reading.{cron_at, field_at, fields_at, fields_in, values_at}

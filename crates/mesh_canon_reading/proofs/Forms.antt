@@ -2,12 +2,12 @@
 use Rattle.std.proofs.Common.{◌≡◌, ℕ, ◌^◌, Bool, true, false, List, [], ◌∷◌, ◌++◌, Option, Some, None, refl, sym, ap, subst, ◌∙◌, append_assoc}
 use Rattle.std.specs.Prelude.{ℤ, codes, nat_lt}
 use Rattle.std.proofs.lemmas.Bool.{and_parts}
-use Rattle.mesh_values.specs.Crons.{CronSets}
-use Rattle.mesh_values.specs.Kinds.{is_incremental, lookback_of}
-use Rattle.mesh_values.specs.declared.values.Name.{Name}
-use Rattle.mesh_values.specs.declared.times.Unit.{Unit as TimeUnit}
-use Rattle.mesh_values.specs.declared.kinds.Kind.{Kind}
-use Rattle.mesh_values.specs.declared.kinds.Kind.TheVariants as kinds
+use Rattle.mesh_base_values.specs.Crons.{CronSets}
+use Rattle.mesh_base_values.specs.Kinds.{is_incremental, lookback_of}
+use Rattle.mesh_base_values.specs.declared.values.Name.{Name}
+use Rattle.mesh_base_values.specs.declared.times.Unit.{Unit as TimeUnit}
+use Rattle.mesh_base_values.specs.declared.kinds.Kind.{Kind}
+use Rattle.mesh_base_values.specs.declared.kinds.Kind.TheVariants as kinds
 use Rattle.mesh_base.specs.declared.definitions.Decl.{Decl}
 use Rattle.mesh_base.specs.declared.definitions.Defn.{Defn}
 use Rattle.mesh_base.specs.declared.definitions.Own.{Own}

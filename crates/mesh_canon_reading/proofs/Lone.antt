@@ -2,9 +2,9 @@
 use Rattle.std.proofs.Common.{◌≡◌, ℕ, true, List, [], ◌∷◌, ◌++◌, Some, refl, sym, ap, ◌∙◌}
 use Rattle.std.specs.Prelude.{codes}
 use Rattle.std.proofs.lemmas.List.{append-nil}
-use Rattle.mesh_values.specs.declared.values.Cell.{Cell}
-use Rattle.mesh_values.specs.declared.values.ColType.{ColType}
-use Rattle.mesh_values.specs.declared.values.ColType.TheVariants as types
+use Rattle.mesh_base_values.specs.declared.values.Cell.{Cell}
+use Rattle.mesh_base_values.specs.declared.values.ColType.{ColType}
+use Rattle.mesh_base_values.specs.declared.values.ColType.TheVariants as types
 use Rattle.mesh_canon_text.specs.Text.{cell_text, type_word}
 use Rattle.mesh_canon_reading.specs.Fits.{cell_fits}
 use Rattle.mesh_canon_words.specs.Words.{type_at}

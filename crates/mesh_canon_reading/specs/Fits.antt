@@ -3,11 +3,11 @@
 use Rattle.std.specs.Prelude.{◌≡◌, ℕ, ℤ, pos, negsuc, ◌-◌, ◌^◌, Bool, true, ◌&&◌, nat_le, nat_lt, List, length, Some, None}
 use Rattle.std.specs.List.{list_all}
 use Rattle.std.specs.declared.option.Option.{Option}
-use Rattle.mesh_values.specs.Crons.{is_cron}
-use Rattle.mesh_values.specs.declared.values.Cell.{Cell}
-use Rattle.mesh_values.specs.declared.values.Cell.TheVariants as cells
-use Rattle.mesh_values.specs.declared.values.Column.{Column}
-use Rattle.mesh_values.specs.declared.values.Name.{Name}
+use Rattle.mesh_base_values.specs.Crons.{is_cron}
+use Rattle.mesh_base_values.specs.declared.values.Cell.{Cell}
+use Rattle.mesh_base_values.specs.declared.values.Cell.TheVariants as cells
+use Rattle.mesh_base_values.specs.declared.values.Column.{Column}
+use Rattle.mesh_base_values.specs.declared.values.Name.{Name}
 use Rattle.mesh_base.specs.declared.expressions.Expr.{Expr, fold-Expr}
 use Rattle.mesh_base.specs.declared.expressions.Expr.TheOpen.{Expr-F, When-F, Literal, Col, Macro, Binary, Neg, Not, IsNull, Between, OneOf, Cast, Call, Case, CountAll, Agg}
 use Rattle.mesh_base.specs.declared.expressions.When.{When, fold-When}
@@ -17,8 +17,8 @@ use Rattle.mesh_base.specs.declared.queries.Rel.TheVariants as rels
 use Rattle.mesh_base.specs.declared.queries.FromItem.{FromItem}
 use Rattle.mesh_base.specs.declared.queries.Select.{Select}
 use Rattle.mesh_base.specs.declared.queries.Query.{Query}
-use Rattle.mesh_values.specs.declared.kinds.Kind.{Kind}
-use Rattle.mesh_values.specs.declared.kinds.Kind.TheVariants as kinds
+use Rattle.mesh_base_values.specs.declared.kinds.Kind.{Kind}
+use Rattle.mesh_base_values.specs.declared.kinds.Kind.TheVariants as kinds
 use Rattle.mesh_base.specs.declared.definitions.Decl.{Decl}
 use Rattle.mesh_base.specs.declared.definitions.Defn.{Defn}
 use Rattle.mesh_base.specs.declared.definitions.Defn.TheVariants as bodies

@@ -1,11 +1,11 @@
 // Crons, read.
 ghost use Rattle.std.specs.Prelude.{◌≡◌, ◌≤◌, ◌<◌, ◌+◌, ◌^◌, ◌&&◌, codes, nat_lt, IfOk};
-ghost use Rattle.mesh_values.specs.Crons.{count_below, has, has_date, has_day, is_cron, is_set, is_single, longest, some_below};
+ghost use Rattle.mesh_base_values.specs.Crons.{count_below, has, has_date, has_day, is_cron, is_set, is_single, longest, some_below};
 ghost use Rattle.mesh_canon_words.specs.Words.{Gives, then_at};
 ghost use Rattle.mesh_canon_reading.specs.Reading.{sets_of, checked, cron_at, field_at, fields_at, fields_in, values_at};
 
+use mesh_base_values::Cron;
 use mesh_canon_words::{CanonFault, after, expect, number, text};
-use mesh_values::Cron;
 use std::alloc::Global;
 
 const EACH_MINUTE: u64 = 0xfff_ffff_ffff_ffff;
@@ -151,7 +151,7 @@ pub(crate) fn made(fields: &Fields) -> Result<Cron, CanonFault>
     })
 }
 
-#[tactic(auto, unfolding(mesh_values::specs::Crons::is_cron))]
+#[tactic(auto, unfolding(mesh_base_values::specs::Crons::is_cron))]
 fn is_cron(fields: &Fields) -> bool
     ensures { result ≡ is_cron (sets_of fields.now) }
 {
@@ -166,7 +166,7 @@ fn is_cron(fields: &Fields) -> bool
         && (!fields.dow_star || has_date(fields.month, fields.dom))
 }
 
-#[tactic(auto, unfolding(mesh_values::specs::Crons::has))]
+#[tactic(auto, unfolding(mesh_base_values::specs::Crons::has))]
 fn has(set: u64, value: u64) -> bool
     requires { value < 64 }
     ensures { result ≡ has set value }
@@ -174,7 +174,7 @@ fn has(set: u64, value: u64) -> bool
     (set >> value) % 2 == 1
 }
 
-#[tactic(auto, unfolding(mesh_values::specs::Crons::is_set))]
+#[tactic(auto, unfolding(mesh_base_values::specs::Crons::is_set))]
 fn is_set(set: u64, low: u64, count: u64) -> bool
     requires count { count ≤ 60 }
     requires low { low ≤ 1 }
@@ -204,7 +204,7 @@ fn is_single(set: u64) -> bool
 }
 
 // How many values below 60 a set has.
-#[tactic(auto, using(crate::proofs::Below::count_more), unfolding(mesh_values::specs::Crons::count_below))]
+#[tactic(auto, using(crate::proofs::Below::count_more), unfolding(mesh_base_values::specs::Crons::count_below))]
 fn count(set: u64) -> u64
     ensures { result ≡ count_below (has set) 60 }
 {
@@ -217,7 +217,7 @@ fn count(set: u64) -> u64
     found
 }
 
-#[tactic(auto, unfolding(mesh_values::specs::Crons::has_date))]
+#[tactic(auto, unfolding(mesh_base_values::specs::Crons::has_date))]
 fn has_date(months: u64, days: u64) -> bool
     ensures { result ≡ has_date months days }
 {
@@ -236,7 +236,7 @@ fn is_date(months: u64, days: u64, month: u64) -> bool
     has(months, month) && has_day(days, month)
 }
 
-#[tactic(auto, unfolding(mesh_values::specs::Crons::has_day))]
+#[tactic(auto, unfolding(mesh_base_values::specs::Crons::has_day))]
 fn has_day(days: u64, month: u64) -> bool
     ensures { result ≡ has_day days month }
 {

@@ -8,9 +8,9 @@ use crate::query_reading::query;
 use crate::read::{Readable, list_then, shut};
 use crate::value_reading::name_then_space;
 use mesh_base::{Decl, Defn, Own};
+use mesh_base_values::{Kind, Name, Str, Unit};
 use mesh_canon_text::Form;
 use mesh_canon_words::{CanonFault, after, day, expect, number, text, unit};
-use mesh_values::{Kind, Name, Str, Unit};
 use std::alloc::Global;
 
 const MOST_LOOKBACK: u64 = 0xffff_ffff;

@@ -4,10 +4,10 @@ ghost use Rattle.mesh_canon_words.specs.Words.{Gives, text_at, then_at};
 ghost use Rattle.mesh_canon_reading.specs.Reading.{cell_at, cell_parts_at, column_at, date_at, int_at, name_at, row_at, text_cell_at};
 
 use crate::read::{Readable, list, shut};
+use mesh_base_values::{Cell, Column, Name, Row, Str};
 use mesh_canon_words::{
     CanonFault, CellHead, cell_head, day, expect, signed, text, text_then, type_then,
 };
-use mesh_values::{Cell, Column, Name, Row, Str};
 use std::alloc::Global;
 
 const MOST_INT: u64 = 0x7fff_ffff_ffff_ffff;

@@ -4,14 +4,14 @@ use Rattle.std.specs.List.{flat_map}
 use Rattle.std.specs.Fmt.{decimal, signed_decimal}
 use Rattle.std.specs.declared.option.Option.{Option}
 use Rattle.hex.specs.Hex.{encode_lower}
-use Rattle.mesh_values.specs.Crons.{CronSets}
-use Rattle.mesh_values.specs.declared.values.Cell.{Cell}
-use Rattle.mesh_values.specs.declared.values.Cell.TheVariants as cells
-use Rattle.mesh_values.specs.declared.values.ColType.{ColType}
-use Rattle.mesh_values.specs.declared.values.ColType.TheVariants as types
-use Rattle.mesh_values.specs.declared.values.Column.{Column}
-use Rattle.mesh_values.specs.declared.times.Unit.{Unit as TimeUnit}
-use Rattle.mesh_values.specs.declared.times.Unit.TheVariants as units
+use Rattle.mesh_base_values.specs.Crons.{CronSets}
+use Rattle.mesh_base_values.specs.declared.values.Cell.{Cell}
+use Rattle.mesh_base_values.specs.declared.values.Cell.TheVariants as cells
+use Rattle.mesh_base_values.specs.declared.values.ColType.{ColType}
+use Rattle.mesh_base_values.specs.declared.values.ColType.TheVariants as types
+use Rattle.mesh_base_values.specs.declared.values.Column.{Column}
+use Rattle.mesh_base_values.specs.declared.times.Unit.{Unit as TimeUnit}
+use Rattle.mesh_base_values.specs.declared.times.Unit.TheVariants as units
 use Rattle.mesh_base.specs.declared.expressions.Op.{Op}
 use Rattle.mesh_base.specs.declared.expressions.Op.TheVariants as ops
 use Rattle.mesh_base.specs.declared.expressions.Func.{Func}
@@ -31,8 +31,8 @@ use Rattle.mesh_base.specs.declared.queries.Join.TheVariants as joins
 use Rattle.mesh_base.specs.declared.queries.FromItem.{FromItem}
 use Rattle.mesh_base.specs.declared.queries.Select.{Select}
 use Rattle.mesh_base.specs.declared.queries.Query.{Query}
-use Rattle.mesh_values.specs.declared.kinds.Kind.{Kind}
-use Rattle.mesh_values.specs.declared.kinds.Kind.TheVariants as kinds
+use Rattle.mesh_base_values.specs.declared.kinds.Kind.{Kind}
+use Rattle.mesh_base_values.specs.declared.kinds.Kind.TheVariants as kinds
 use Rattle.mesh_base.specs.declared.definitions.Decl.{Decl}
 use Rattle.mesh_base.specs.declared.definitions.Defn.{Defn}
 use Rattle.mesh_base.specs.declared.definitions.Defn.TheVariants as bodies

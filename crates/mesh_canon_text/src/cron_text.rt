@@ -3,8 +3,8 @@ ghost use Rattle.std.specs.Prelude.{◌≡◌, ◌++◌, ◌+◌, ◌≤◌, ◌
 ghost use Rattle.mesh_canon_text.specs.Text.{◌·◌, behind_commas, commas, cron_text, field_text, fields_text, places};
 
 use crate::number_text::{put, put_number, put_text};
+use mesh_base_values::Cron;
 use mesh_list::Memory;
-use mesh_values::Cron;
 use std::alloc::Global;
 
 const EACH_MINUTE: u64 = 0xfff_ffff_ffff_ffff;

@@ -11,8 +11,8 @@ use crate::query_text::put_query;
 use crate::value_text::put_name_between;
 use crate::written::{Written, put_list, put_list_then};
 use mesh_base::{Decl, Defn, Own, Ref, Refs};
+use mesh_base_values::{Kind, Str, Strs, Unit};
 use mesh_list::{Memory, Seq};
-use mesh_values::{Kind, Str, Strs, Unit};
 use std::alloc::Global;
 
 // The lookback behind a time column, where it is said.

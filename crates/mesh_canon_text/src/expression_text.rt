@@ -7,8 +7,8 @@ use crate::number_text::{put, put_between, put_number, put_pair, put_text_betwee
 use crate::value_text::{put_cell, type_word};
 use crate::written::Written;
 use mesh_base::{AggKind, Expr, Func, Op, Var, When};
+use mesh_base_values::Str;
 use mesh_list::Memory;
-use mesh_values::Str;
 
 fn op_word(op: Op) -> &'static [u8]
     ensures { result.now ≡ op_word op }

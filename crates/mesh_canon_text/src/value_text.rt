@@ -6,8 +6,8 @@ use crate::number_text::{
     put, put_between, put_signed_between, put_text, put_text_behind, put_text_between,
 };
 use crate::written::{Written, put_list};
+use mesh_base_values::{Cell, ColType, Column, Name, Row, Str};
 use mesh_list::{Memory, Seq};
-use mesh_values::{Cell, ColType, Column, Name, Row, Str};
 use std::alloc::Global;
 
 impl Written for Str {

@@ -6,7 +6,7 @@ ghost use Rattle.mesh_canon_words.specs.Words.{Finds, Gives, agg_at, bare_head_a
 use crate::fault::CanonFault;
 use crate::words::{after, expect};
 use mesh_base::{AggKind, Func, Join, Op, Var};
-use mesh_values::{ColType, Unit};
+use mesh_base_values::{ColType, Unit};
 
 /// How a cell begins.
 #[derive(Clone, Copy)]

@@ -3,8 +3,8 @@ ghost use Rattle.std.specs.Prelude.{◌≡◌, ◌<◌, ◌≤◌, ◌^◌, ◌+
 ghost use Rattle.mesh_canon_words.specs.Words.{Gives, after, below_at, digits_at, number_at, signed_at, text_at, then_at};
 
 use crate::fault::CanonFault;
+use mesh_base_values::Str;
 use mesh_list::Seq;
-use mesh_values::Str;
 use std::alloc::Global;
 
 const MOST_DAY: u64 = 0x7fff_ffff;

@@ -3,8 +3,8 @@ use crate::escapes::shown;
 use crate::report::put_number;
 use crate::trouble::Trouble;
 use crate::words::{front_word, number_of};
+use mesh_base_values::{Cell, ColType};
 use mesh_list::Duplicate;
-use mesh_values::{Cell, ColType};
 use std::alloc::Global;
 
 fn put_text(report: &mut Vec<u8>, text: &[u8]) -> Result<(), Trouble> {

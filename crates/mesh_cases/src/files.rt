@@ -1,8 +1,8 @@
 // The files of a suite, which lie in a folder of its own where the program runs.
 use crate::trouble::Trouble;
+use mesh_base_values::Str;
 use mesh_io::{DirFolder, Folder};
 use mesh_list::Seq;
-use mesh_values::Str;
 use std::alloc::Global;
 
 /// The bytes of the largest file of cases.

@@ -1,7 +1,7 @@
 // Columns, and faults of a file.
+use mesh_base_values::Column;
 use mesh_cases::{Pen, Trouble, kind_word};
-use mesh_tokens::{FaultKind, ReadFault};
-use mesh_values::Column;
+use mesh_query_tokens::{FaultKind, ReadFault};
 
 /// Adds a count, and the word of what is counted in front of it.
 pub fn put_count(pen: &mut Pen, what: &[u8], count: u64) {

@@ -1,9 +1,9 @@
 // One call of an object at the outside, and what it answered.
 use crate::answers::put_count;
+use mesh_base_values::Str;
 use mesh_cases::{Pen, Trouble, front_word, number_of};
 use mesh_io::{Clock, Folder, IoFail, Sink, Source, take_all};
 use mesh_list::Duplicate;
-use mesh_values::Str;
 
 fn put_bytes(pen: &mut Pen, bytes: &[u8]) {
     pen.put(b"'");

@@ -1,12 +1,12 @@
 // Canonical texts: definitions, lists and nodes.
 use crate::near::are_told_apart;
 use mesh_base::{Own, Ref, Refs};
+use mesh_base_values::{Name, Str};
 use mesh_canon::canon::{
     CanonFault, list_text, node_text, own_text, own_text_old, read_list, read_own, read_own_old,
 };
 use mesh_cases::{Pen, Trouble, front_word, halves};
 use mesh_list::{Duplicate, Memory, Seq, together};
-use mesh_values::{Name, Str};
 use std::alloc::Global;
 
 /// What came of reading a text, and of writing again what was read.

@@ -1,9 +1,9 @@
 // Cells as another type, and the texts that are numbers and truths.
 use crate::seeds::put_cell_of;
 use crate::times::put_found;
+use mesh_base_values::Cell;
 use mesh_cases::{Pen, Trouble, cell_of, front_word, kind_of};
-use mesh_casts::{cast, lower_case, number_named, truth_named};
-use mesh_values::Cell;
+use mesh_time_days::casts::{cast, lower_case, number_named, truth_named};
 
 fn put_truth(text: &[u8], pen: &mut Pen) -> Result<(), Trouble> {
     match truth_named(pen.alloc(), text)? {

@@ -1,8 +1,8 @@
 // Crons and their ticks.
 use crate::answers::put_count;
+use mesh_base_values::{Cron, CronFault, Unit};
 use mesh_cases::{Pen, Trouble, front_word, halves, number_of};
 use mesh_time::{floor, read_cron, ticks_at, unit_of};
-use mesh_values::{Cron, CronFault, Unit};
 
 /// The last second of 9999-12-31.
 const LAST: i64 = 253_402_300_799;

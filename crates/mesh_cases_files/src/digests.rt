@@ -1,6 +1,6 @@
 // Fingerprints of texts.
+use mesh_canon::fingerprint::fingerprint;
 use mesh_cases::{Pen, Trouble};
-use mesh_fingerprint::fingerprint;
 
 /// Makes the call of a word, and answers whether there is one.
 pub fn call(word: &[u8], text: &[u8], pen: &mut Pen) -> Result<bool, Trouble> {

@@ -1,9 +1,9 @@
 // The folder, the clock and the streams in memory.
 use crate::calls::{count_of, list, now, put, put_written, read, take, take_first};
+use mesh_base_values::Str;
 use mesh_cases::{Pen, Trouble, front_word, number_of};
 use mesh_io::{File, Files, MemClock, MemFolder, MemSink, MemSource, Numbers, are_distinct};
 use mesh_list::{Duplicate, Memory, Same, Seq, together};
-use mesh_values::Str;
 use std::alloc::Global;
 use std::mem;
 

@@ -1,9 +1,9 @@
 // Ranges of seconds.
 use crate::answers::put_count;
+use mesh_base_values::{Schedule, Spans, Unit};
 use mesh_cases::{Pen, Trouble, front_word, number_of};
 use mesh_list::{Duplicate, Same};
 use mesh_time::{END_OF_SECONDS, FIRST_SECOND, Ranges};
-use mesh_values::{Schedule, Spans, Unit};
 use std::alloc::Global;
 
 /// The ranges that the lines of a file change.

@@ -1,11 +1,11 @@
 // Files that are read: seeds beside their declared columns, and declarations of sources.
 use crate::answers::{put_column, put_count, put_fault};
 use crate::sources::{put_sources, put_sources_size};
+use mesh_base_values::{Cell, ColType, Column, Columns, Row, Seed, Str};
 use mesh_cases::{Pen, Trouble, front_word, kind_of, put_cell};
-use mesh_csv::external::read_external;
-use mesh_csv::seeds::read_seed;
 use mesh_list::{Duplicate, Memory, Seq, push_made};
-use mesh_values::{Cell, ColType, Column, Columns, Row, Seed, Str};
+use mesh_model_csv::external::read_external;
+use mesh_model_csv::seeds::read_seed;
 use std::alloc::Global;
 
 /// The columns that are declared, and what stands in front of each file.

@@ -1,8 +1,8 @@
 // What is printed of the sources that a file declares.
 use crate::answers::{put_column, put_count};
 use mesh_base::{Decl, Externals};
+use mesh_base_values::Column;
 use mesh_cases::Pen;
-use mesh_values::Column;
 
 fn is_time(source: &Decl, column: &Column) -> bool {
     match &source.time {

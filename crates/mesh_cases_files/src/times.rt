@@ -1,7 +1,7 @@
 // Days and moments.
 use mesh_cases::{Pen, Trouble, cell_of, number_of};
-use mesh_casts::is_day_number;
-use mesh_days::{day_of, day_text, moment_of, moment_text, time_value};
+use mesh_time_days::casts::is_day_number;
+use mesh_time_days::{day_of, day_text, moment_of, moment_text, time_value};
 
 /// Adds a number, or that there is none.
 pub fn put_found(pen: &mut Pen, found: Option<i64>) {

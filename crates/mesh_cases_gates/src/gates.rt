@@ -1,5 +1,5 @@
 // Gates that hold a unit, or count them.
-use mesh_wave::wave::Gate;
+use mesh_exec_wave::wave::Gate;
 use std::sync::atomic::{AtomicU64, Ordering};
 
 /// How often a held unit looks whether it may go on.

@@ -1,21 +1,21 @@
 // The plan of a project for production is made, but for its views.
 ghost use Rattle.std.specs.Prelude.{◌≡◌, ◌≤◌, true, IfOk};
-ghost use Rattle.mesh_days.specs.Moments.{IsMoment};
-ghost use Rattle.mesh_changes.specs.Commands.{is_present};
-ghost use Rattle.mesh_works.specs.Executable.{IsExecutable};
+ghost use Rattle.mesh_time_days.specs.Moments.{IsMoment};
+ghost use Rattle.mesh_spec_changes.specs.Commands.{is_present};
+ghost use Rattle.mesh_exec_works.specs.Executable.{IsExecutable};
 
 use mesh_base::Done;
-use mesh_book::Book;
+use mesh_base::rules::{Plan, Project};
 use mesh_cases::Trouble;
-use mesh_commands::present_book;
+use mesh_cli_answer::present_book;
 use mesh_exec::execute;
+use mesh_exec_wave::wave::Gate;
 use mesh_house::Warehouse;
+use mesh_house_book::Book;
 use mesh_io::Folder;
 use mesh_list::Duplicate;
 use mesh_plan::plan;
 use mesh_project::project::load;
-use mesh_rules::{Plan, Project};
-use mesh_wave::wave::Gate;
 use std::alloc::Global;
 use std::thread::Threads;
 

@@ -6,9 +6,9 @@ use crate::shown::{make_chain, put_question};
 use crate::written::{
     put_body, put_book, put_columns, put_counts, put_fingerprints, put_name, put_world,
 };
-use mesh_book::Book;
 use mesh_cases::{Pen, Trouble, cases_of, front_word};
 use mesh_house::{Change, Changes, Fail, MemHouse, Warehouse, WhFail, World, make, make_all};
+use mesh_house_book::Book;
 use mesh_list::{Duplicate, Memory, Same, Seq};
 use std::alloc::Global;
 use std::mem::replace;

@@ -1,8 +1,8 @@
 // A line of a case, in words, and what its words say.
 use mesh_base::{Forget, Own, Ref, Refs, Rename};
+use mesh_base_values::{Cell, ColType, Column, Columns, Name, Pair, Row, Str};
 use mesh_cases::{Trouble, front_word, number_of, parted};
 use mesh_list::{Duplicate, Memory, Seq, push_made, together};
-use mesh_values::{Cell, ColType, Column, Columns, Name, Pair, Row, Str};
 use std::alloc::Global;
 
 /// Two answers as one.

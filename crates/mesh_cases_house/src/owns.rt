@@ -1,11 +1,11 @@
 // Definitions by their canonical texts.
 use crate::line::{Named, Owns};
 use mesh_base::{Defn, Own};
+use mesh_base_columns::columns_of;
+use mesh_base_values::{Columns, Rows, sort_rows};
 use mesh_canon::canon::{CanonFault, own_text, read_own};
 use mesh_cases::{Pen, Trouble, front_word};
-use mesh_columns::columns_of;
 use mesh_list::{Duplicate, Memory, Seq, together};
-use mesh_values::{Columns, Rows, sort_rows};
 use std::alloc::Global;
 use std::mem::replace;
 

@@ -2,11 +2,11 @@
 use crate::line::{Line, Named, columns, pair};
 use crate::written::{put_name, put_rows};
 use mesh_base::{Defn, Own, Query};
+use mesh_base_values::{Name, Pair, Pairs, Rows};
 use mesh_cases::{Pen, Trouble};
 use mesh_house::{Change, MemHouse, make};
 use mesh_layer::{ShowFault, ask, object_rows, show};
 use mesh_list::{Duplicate, Seq, together};
-use mesh_values::{Name, Pair, Pairs, Rows};
 use std::alloc::Global;
 
 fn target(alloc: Global, first: Name, second: Name) -> Result<Pairs, Trouble> {

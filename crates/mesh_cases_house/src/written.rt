@@ -1,9 +1,9 @@
 // How a world and a book are written: a word or a number for each thing in it.
 use mesh_base::{Env, Input, Ref, Refs, Snapshot};
-use mesh_book::{Book, Version};
+use mesh_base_values::{Cell, Columns, Name, Pair, Row, Rows};
 use mesh_cases::Pen;
 use mesh_house::{Body, Object, ViewOf, World};
-use mesh_values::{Cell, Columns, Name, Pair, Row, Rows};
+use mesh_house_book::{Book, Version};
 
 fn put_next(pen: &mut Pen, number: i64) {
     pen.put(b" ");

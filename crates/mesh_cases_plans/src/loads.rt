@@ -1,12 +1,12 @@
 // Projects that are loaded from a folder, and the lines of their faults.
+use mesh_base::rules::Project;
 use mesh_cases::{Pen, Trouble};
-use mesh_files::files::LoadFault;
+use mesh_cli_print::faults::fault_line;
 use mesh_io::Folder;
 use mesh_list::Duplicate;
-use mesh_printed::faults::fault_line;
 use mesh_project::project::load;
-use mesh_rules::Project;
-use mesh_tokens::FaultKind;
+use mesh_project_files::LoadFault;
+use mesh_query_tokens::FaultKind;
 use std::alloc::Global;
 
 /// The project in the folder itself, which has no fault.

@@ -1,8 +1,8 @@
 // How names and categories are shown.
+use mesh_base::rules::Project;
 use mesh_base::{Categories, Category, Node, Reading};
+use mesh_base_values::{Name, Pair};
 use mesh_cases::Pen;
-use mesh_rules::Project;
-use mesh_values::{Name, Pair};
 
 fn put_name(pen: &mut Pen, name: &Name) {
     pen.put(name.schema.as_slice());

@@ -2,14 +2,14 @@
 use crate::lattice::{model_text, sizes};
 use crate::loads::{loaded, put_loaded};
 use crate::shown::{put_categories, put_changed, put_counts, put_pairs, put_readings};
+use mesh_base::rules::Project;
 use mesh_base::{Node, Own};
+use mesh_base_values::Str;
 use mesh_cases::{Pen, Trouble, filled, front_word, number_of};
+use mesh_category::category::categorize;
 use mesh_io::{DirFolder, File, MemFolder};
 use mesh_lineage::{joinable, reads, unsteady};
 use mesh_list::{Duplicate, Memory, Seq};
-use mesh_rules::Project;
-use mesh_values::Str;
-use mesh_versions::category::categorize;
 use std::alloc::Global;
 use std::mem::replace;
 

@@ -1,17 +1,17 @@
 // What the text of a query or of a model means, over models and sources that are known.
 use crate::cut::cut_at;
 use mesh_base::{Defn, Input, Inputs, Own, Query, Sources};
+use mesh_base_values::{Columns, Kind, Name, Rows, Seed, Str};
 use mesh_canon::canon::{own_text, read_own};
 use mesh_cases::{Pen, Trouble};
-use mesh_csv::external::read_external;
-use mesh_files::text::read_model;
+use mesh_cli_print::faults::fault_line;
 use mesh_list::{Duplicate, Memory, both};
-use mesh_model::ModelText;
-use mesh_printed::faults::fault_line;
+use mesh_model::read_model;
+use mesh_model_csv::external::read_external;
+use mesh_model_statement::model::ModelText;
 use mesh_query::parse;
+use mesh_query_tokens::{ReadFault, tokens_of};
 use mesh_resolve::{Known, own_of, resolve};
-use mesh_tokens::{ReadFault, tokens_of};
-use mesh_values::{Columns, Kind, Name, Rows, Seed, Str};
 use std::alloc::Global;
 
 /// A definition whose query is empty.

@@ -1,9 +1,9 @@
 // Jobs over one table of numbers: each has the one row that lies in its bounds.
 use mesh_base::{Defn, Input, Inputs, Job, Jobs, Own, Pools, Query};
+use mesh_base_values::{Bounds, Cell, ColType, Column, Columns, Name, Row, Rows, Str};
 use mesh_canon::canon::{CanonFault, read_own};
 use mesh_cases::Trouble;
 use mesh_list::{Duplicate, Memory, Seq, both, push_made, together};
-use mesh_values::{Bounds, Cell, ColType, Column, Columns, Name, Row, Rows, Str};
 use std::alloc::Global;
 
 /// The view a.v: `SELECT x FROM a.t`.

@@ -19,11 +19,11 @@
 //! - `table NAME | TEXT` makes the table `a.NAME` of a seed's rows, or of a query's; the name is written as in canonical text;
 //! - `(..` is an expression, which is evaluated without a row;
 //! - `sum .. | TEXT` shows how many rows a query has, and the sum of their numbers;
-//! - `distinct .. | TEXT` shows one of each of a seed's rows, as `distinct_rows` of `mesh_joined::index` keeps them;
+//! - `distinct .. | TEXT` shows one of each of a seed's rows, as `distinct_rows` of `mesh_eval_rows::joins::index` keeps them;
 //! - `places .. | TEXT` shows, for each of a seed's rows, its places among the rows of the last table, and the first of them,
-//!   as an `Index` of `mesh_joined::index` finds them;
+//!   as an `Index` of `mesh_eval_rows::joins::index` finds them;
 //! - `.. | TEXT` shows the rows of a query;
-//! - `waves` computes jobs by several workers (`mesh_wave::wave`): none, two of which one waits for the other at a gate, and 256, and
+//! - `waves` computes jobs by several workers (`mesh_exec_wave::wave`): none, two of which one waits for the other at a gate, and 256, and
 //!   shows how many lists of rows there are, and whether each stands at the place of its job.
 //!
 //! `bench/eval.py` and `bench/text.py` have the program run cases of their own.

@@ -1,7 +1,7 @@
 // How rows, and places of rows, are shown.
+use mesh_base_values::{Cell, Row, Rows};
 use mesh_cases::{Pen, Trouble};
-use mesh_joined::index::{Index, Listed};
-use mesh_values::{Cell, Row, Rows};
+use mesh_eval_rows::joins::index::{Index, Listed};
 
 fn put_text(pen: &mut Pen, text: &[u8]) {
     pen.put(b"'");

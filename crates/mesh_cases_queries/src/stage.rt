@@ -3,14 +3,14 @@ use crate::asked::{put_model, query_of, with_query};
 use crate::shown::{put_places, put_rows, put_sum};
 use crate::words::{Word, expanded};
 use mesh_base::{Defn, Input, Inputs, Own, Query, Sources};
+use mesh_base_columns::columns_of;
+use mesh_base_values::{Bounds, Rows};
 use mesh_canon::canon::read_own;
 use mesh_cases::{Pen, Trouble, halves};
-use mesh_columns::columns_of;
 use mesh_eval::eval;
-use mesh_joined::index::distinct_rows;
+use mesh_eval_rows::joins::index::distinct_rows;
 use mesh_list::{Duplicate, Memory};
 use mesh_resolve::Known;
-use mesh_values::{Bounds, Rows};
 use std::alloc::Global;
 
 /// The second day of 1970.

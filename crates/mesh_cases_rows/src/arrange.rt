@@ -3,10 +3,10 @@ use crate::report::put_name;
 use crate::stage::{Call, Stage};
 use crate::trouble::Trouble;
 use mesh_base::{Ref, Refs, Snapshot, Snapshots};
-use mesh_days::moment_of;
+use mesh_base_values::{Name, Str, Unit, same_text};
 use mesh_house::{Change, Warehouse, World};
 use mesh_list::{Duplicate, Memory, Register, Seq, both, push_made};
-use mesh_values::{Name, Str, Unit, same_text};
+use mesh_time_days::moment_of;
 use std::alloc::Global;
 use std::mem::replace;
 

@@ -1,19 +1,19 @@
 // Plans whose units enter a gate.
 ghost use Rattle.std.specs.Prelude.{IfOk};
-ghost use Rattle.mesh_days.specs.Moments.{IsMoment};
+ghost use Rattle.mesh_time_days.specs.Moments.{IsMoment};
 
 use crate::report::put;
 use crate::stage::Stage;
 use crate::trouble::Trouble;
 use mesh_base::Done;
+use mesh_base_values::Str;
 use mesh_cases_gates::{Counting, Holding, make_behind};
-use mesh_days::moment_of;
-use mesh_values::Str;
-use mesh_wave::wave::Gate;
+use mesh_exec_wave::wave::Gate;
+use mesh_time_days::moment_of;
 use std::alloc::Global;
 use std::thread::Threads;
 
-#[tactic(auto, unfolding(mesh_days::specs::Moments::IsMomentText))]
+#[tactic(auto, unfolding(mesh_time_days::specs::Moments::IsMomentText))]
 fn moment(word: &Str) -> Result<i64, Trouble>
     ensures { IfOk result (λ t. IsMoment t) }
 {

@@ -58,10 +58,10 @@ use crate::stage::Stage;
 use crate::trouble::Trouble;
 use crate::turns::{cuts, stops};
 pub use mapped::mesh_over_a_map;
+use mesh_base_values::Str;
+use mesh_cli_values::scripts::{is_skipped, line_words};
 use mesh_io::{DirFolder, Folder};
 use mesh_list::{Duplicate, Seq};
-use mesh_options::scripts::{is_skipped, line_words};
-use mesh_values::Str;
 use std::alloc::Global;
 use std::thread::Threads;
 

@@ -2,13 +2,13 @@
 ghost use Rattle.mesh_cli.specs.cli.Scripts.{WordsEnd};
 ghost use Rattle.mesh_cli.specs.cli.Sides.{sides};
 ghost use Rattle.mesh_keep.specs.MapKeeper.{map_told};
-ghost use Rattle.mesh_kept.specs.kept.House.{house_told};
-ghost use Rattle.mesh_printed.specs.printed.Printing.{sinks};
+ghost use Rattle.mesh_keep_house.specs.kept.House.{house_told};
+ghost use Rattle.mesh_cli_print.specs.printed.Printing.{sinks};
 
+use mesh_base_values::Str;
 use mesh_io::{Clock, Folder, Sink, Source};
 use mesh_keep::MapKeeper;
-use mesh_kept::kept::KeptHouse;
-use mesh_values::Str;
+use mesh_keep_house::kept::KeptHouse;
 use std::alloc::Global;
 use std::thread::Threads;
 

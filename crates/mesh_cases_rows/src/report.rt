@@ -1,10 +1,10 @@
 // What is printed of a command and of what its house shows.
 use crate::trouble::Trouble;
+use mesh_base_values::{Columns, Name, Rows, Str, same_text, sort_rows};
+use mesh_cli_print::printed::rows_text;
 use mesh_house::{MemHouse, ViewOf, Warehouse, World};
 use mesh_layer::show;
 use mesh_list::{Duplicate, Seq};
-use mesh_printed::printed::rows_text;
-use mesh_values::{Columns, Name, Rows, Str, same_text, sort_rows};
 use std::alloc::Global;
 
 /// A command's status, how many changes it made, and what it wrote.

@@ -2,12 +2,12 @@
 use crate::mapped::mesh_over_a_map;
 use crate::report::Outcome;
 use crate::trouble::Trouble;
+use mesh_base_values::{LAST_MOMENT, Str};
 use mesh_house::{Fail, Fails, MemHouse, Warehouse, World};
 use mesh_io::{File, Folder, MemClock, MemFolder, MemSink, MemSource, Numbers};
 use mesh_keep::MapKeeper;
-use mesh_kept::kept::KeptHouse;
+use mesh_keep_house::kept::KeptHouse;
 use mesh_list::{Duplicate, Memory, Seq, both, together};
-use mesh_values::{LAST_MOMENT, Str};
 use std::alloc::Global;
 use std::mem::replace;
 use std::thread::Threads;

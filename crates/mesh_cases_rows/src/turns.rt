@@ -3,9 +3,9 @@ use crate::arrange::failing;
 use crate::report::{Outcome, put, put_outcome, put_views};
 use crate::stage::Stage;
 use crate::trouble::Trouble;
+use mesh_base_values::Str;
 use mesh_house::World;
 use mesh_list::{Duplicate, Seq, together};
-use mesh_values::Str;
 use std::alloc::Global;
 use std::thread::Threads;
 

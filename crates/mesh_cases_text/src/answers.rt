@@ -5,13 +5,13 @@ use crate::parts::{put_model, put_parts};
 use crate::query::put_query;
 use crate::refusals::{put_fault, put_fault_of};
 use crate::tokens::put_each;
+use mesh_base_values::Str;
 use mesh_cases::{Pen, Trouble, halves};
-use mesh_files::text::read_model;
 use mesh_list::{Duplicate, Same};
+use mesh_model::read_model;
+use mesh_model_statement::read_statement;
 use mesh_query::parse;
-use mesh_statement::read_statement;
-use mesh_tokens::{ReadFault, Tokens, tokens_of};
-use mesh_values::Str;
+use mesh_query_tokens::{ReadFault, Tokens, tokens_of};
 use std::alloc::Global;
 
 /// The tokens of a text that has no fault among them.

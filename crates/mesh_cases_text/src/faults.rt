@@ -1,9 +1,9 @@
 // Faults that are made from their number and what they name.
 use crate::notation::number_of;
+use mesh_base_values::{Name, Names, Str};
 use mesh_cases::{Trouble, halves};
 use mesh_list::Duplicate;
-use mesh_tokens::FaultKind;
-use mesh_values::{Name, Names, Str};
+use mesh_query_tokens::FaultKind;
 use std::alloc::Global;
 
 fn of_a_text(number: u64, name: Str) -> FaultKind {

@@ -1,5 +1,5 @@
-//! The cases of what is read from texts: of `mesh_tokens`, `mesh_query`, `mesh_statement`, `mesh_files::text` and
-//! `mesh_printed::faults`. Each line of a file of `data/text` of `mesh_answers` is a case, but for empty lines and those that begin
+//! The cases of what is read from texts: of `mesh_query_tokens`, `mesh_query`, `mesh_model_statement`, `mesh_model` and
+//! `mesh_cli_print::faults`. Each line of a file of `data/text` of `mesh_answers` is a case, but for empty lines and those that begin
 //! with `#`. It is reported as it stands, and below it what the libraries answer, in the notation of that file. The program's
 //! `stdout` has what must be printed; its values were worked out by hand.
 //!

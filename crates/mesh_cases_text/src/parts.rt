@@ -1,11 +1,11 @@
 // The properties of statements and of models in print, each behind a blank.
 use crate::query::put_query;
 use crate::tokens::put_each;
+use mesh_base_values::{ColType, Columns, Cron, Kind, Name, Str, Unit};
 use mesh_cases::Pen;
-use mesh_model::ModelText;
-use mesh_statement::Parts;
-use mesh_tokens::Tokens;
-use mesh_values::{ColType, Columns, Cron, Kind, Name, Str, Unit};
+use mesh_model_statement::Parts;
+use mesh_model_statement::model::ModelText;
+use mesh_query_tokens::Tokens;
 
 fn put_name(pen: &mut Pen, name: &Name) {
     pen.word(name.schema.as_slice());

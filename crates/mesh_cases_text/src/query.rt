@@ -1,10 +1,10 @@
 // Queries in print.
 use crate::tree::{put_expr, put_qualified};
+use mesh_base_values::Str;
 use mesh_cases::Pen;
-use mesh_surface::{
+use mesh_query_grammar::surface::{
     OrExpr, Surface, SurfaceFrom, SurfaceItem, SurfaceJoin, SurfaceRel, SurfaceSelect, SurfaceUnion,
 };
-use mesh_values::Str;
 
 pub fn put_query(pen: &mut Pen, query: &Surface) {
     for cte in query.ctes.as_slice() {

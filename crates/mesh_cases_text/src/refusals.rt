@@ -1,7 +1,7 @@
 // The lines of faults in print, each behind a blank.
 use mesh_cases::Pen;
-use mesh_printed::faults::fault_line;
-use mesh_tokens::{FaultKind, ReadFault};
+use mesh_cli_print::faults::fault_line;
+use mesh_query_tokens::{FaultKind, ReadFault};
 
 /// The line of a fault in some file.
 pub fn put_fault_of(pen: &mut Pen, file: &[u8], at: u64, kind: &FaultKind) {

@@ -1,6 +1,6 @@
 // Tokens in print, each behind a blank.
 use mesh_cases::Pen;
-use mesh_tokens::{Token, TokenKind, Tokens};
+use mesh_query_tokens::{Token, TokenKind, Tokens};
 
 fn put_what(pen: &mut Pen, letter: &[u8], what: &[u8]) {
     pen.put(letter);

@@ -1,12 +1,12 @@
 // Expressions of a query's tree in print: each list of parts in parentheses with its operator first, and `[..]` round what
 // stands in parentheses.
+use mesh_base_values::{ColType, Str};
 use mesh_cases::Pen;
 use mesh_list::Seq;
-use mesh_surface::{
+use mesh_query_grammar::surface::{
     AddExpr, AddSign, AndExpr, Args, Arm, CatExpr, Cmp, Function, MulExpr, MulSign, NotExpr,
     OrExpr, Primary, Test, Unary,
 };
-use mesh_values::{ColType, Str};
 
 #[cycle(tree)]
 pub fn put_expr(pen: &mut Pen, e: &OrExpr) {

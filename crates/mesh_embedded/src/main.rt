@@ -2,14 +2,14 @@
 //! the rows behind a view as values, not as a CSV text. `docs/CALLS.md` goes through it. What it prints is compared with `stdout`.
 #![tactic(auto)]
 
-use mesh_applying::apply;
+use mesh_base_values::{Cell, Name, Row, Str};
+use mesh_cli_apply::apply;
+use mesh_cli_print::faults::{put, put_number};
+use mesh_cli_print::printed::{Refusal, refusal_line};
 use mesh_house::{MemHouse, Warehouse};
 use mesh_io::{File, MemFolder, Sink, StdSink};
 use mesh_layer::{ShowFault, show};
 use mesh_list::{Duplicate, Memory, Seq};
-use mesh_printed::faults::{put, put_number};
-use mesh_printed::printed::{Refusal, refusal_line};
-use mesh_values::{Cell, Name, Row, Str};
 use std::alloc::Global;
 use std::process::ExitCode;
 use std::thread::Threads;

@@ -2,14 +2,14 @@
 use Rattle.std.proofs.Common.{◌≡◌, ℕ, zero, suc, ◌+◌, ◌<◌, Bool, true, false, cond, not, List, [], ◌∷◌, ◌++◌, map, length, take, get_or, refl, sym, ap, ap₂, ◌∙◌, arith}
 use Rattle.std.specs.List.{filter, flat_map, list_any, range_with_len}
 use Rattle.std.proofs.lemmas.List.{append-nil, take_more}
-use Rattle.mesh_values.specs.declared.values.Cell.{Cell}
-use Rattle.mesh_meaning.specs.Aggregates.{distinct}
-use Rattle.mesh_values.specs.declared.times.Bounds.{Bounds}
-use Rattle.mesh_values.specs.declared.values.Column.{Column}
+use Rattle.mesh_base_values.specs.declared.values.Cell.{Cell}
+use Rattle.mesh_spec_query.specs.Aggregates.{distinct}
+use Rattle.mesh_base_values.specs.declared.times.Bounds.{Bounds}
+use Rattle.mesh_base_values.specs.declared.values.Column.{Column}
 use Rattle.mesh_base.specs.declared.expressions.Expr.{Expr}
-use Rattle.mesh_meaning.specs.Sel.{Group, Joined, same_row, key_list, group_of}
-use Rattle.mesh_joined.specs.index.Places.{places, places_from}
-use Rattle.mesh_joined.proofs.index.OneOfEach.{distinct-more, same_row-exact}
+use Rattle.mesh_spec_query.specs.Sel.{Group, Joined, same_row, key_list, group_of}
+use Rattle.mesh_eval_rows.specs.joins.index.Places.{places, places_from}
+use Rattle.mesh_eval_rows.proofs.joins.index.OneOfEach.{distinct-more, same_row-exact}
 
 turn : (k at : ℕ) → k + suc at ≡ suc k + at
 turn k at = omega arith

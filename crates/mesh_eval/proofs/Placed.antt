@@ -4,16 +4,16 @@ use Rattle.std.specs.declared.option.Option.{Option}
 use Rattle.std.specs.declared.option.Option.TheVariants.{None, Some}
 use Rattle.std.specs.declared.result.Result.{Result}
 use Rattle.mesh_list.specs.declared.memory.Memory.{Memory}
-use Rattle.mesh_values.specs.declared.times.Bounds.{Bounds}
-use Rattle.mesh_values.specs.declared.values.Column.{Column}
+use Rattle.mesh_base_values.specs.declared.times.Bounds.{Bounds}
+use Rattle.mesh_base_values.specs.declared.values.Column.{Column}
 use Rattle.mesh_base.specs.declared.expressions.Expr.{Expr}
 use Rattle.mesh_base.specs.declared.queries.Item.{Item}
 use Rattle.mesh_base.specs.declared.queries.Select.{Select}
-use Rattle.mesh_meaning.specs.Cells.{is_true}
-use Rattle.mesh_meaning.specs.Ev.{Ev}
-use Rattle.mesh_meaning.specs.Sel.{Joined, item_row, key_list, row_scope}
-use Rattle.mesh_bound.specs.declared.forms.Bound.{Bound}
-use Rattle.mesh_bound.specs.Meaning.{Given, AreBound, given_scope, row_alone}
+use Rattle.mesh_spec_query.specs.Cells.{is_true}
+use Rattle.mesh_spec_query.specs.Ev.{Ev}
+use Rattle.mesh_spec_query.specs.Sel.{Joined, item_row, key_list, row_scope}
+use Rattle.mesh_eval_expressions.specs.declared.bound.forms.Bound.{Bound}
+use Rattle.mesh_eval_expressions.specs.bound.Meaning.{Given, AreBound, given_scope, row_alone}
 use Rattle.mesh_eval.specs.Placed.{values_at, bound_holds, given_group, AreItems, IsCondition, IsOutput}
 
 pub key_rows : {A : Type 0} (u : Bounds) (columns : List (List Column)) (all own : List Expr) (bound there : List Bound) (f : A → Joined) (rows : List A)

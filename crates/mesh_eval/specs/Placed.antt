@@ -3,16 +3,16 @@ use Rattle.std.specs.Prelude.{◌≡◌, Bool, true, List, [], ◌∷◌, ◌++�
 use Rattle.std.specs.List.{filter}
 use Rattle.std.specs.declared.option.Option.{Option}
 use Rattle.std.specs.declared.option.Option.TheVariants.{None, Some}
-use Rattle.mesh_values.specs.declared.times.Bounds.{Bounds}
-use Rattle.mesh_values.specs.declared.values.Cell.{Cell}
-use Rattle.mesh_values.specs.declared.values.Column.{Column}
+use Rattle.mesh_base_values.specs.declared.times.Bounds.{Bounds}
+use Rattle.mesh_base_values.specs.declared.values.Cell.{Cell}
+use Rattle.mesh_base_values.specs.declared.values.Column.{Column}
 use Rattle.mesh_base.specs.declared.expressions.Expr.{Expr}
 use Rattle.mesh_base.specs.declared.queries.Item.{Item}
 use Rattle.mesh_base.specs.declared.queries.Select.{Select}
-use Rattle.mesh_meaning.specs.Cells.{is_true}
-use Rattle.mesh_meaning.specs.Sel.{Group, Joined, holds, item_row, group_row}
-use Rattle.mesh_bound.specs.declared.forms.Bound.{Bound}
-use Rattle.mesh_bound.specs.Meaning.{Given, EachMeans, bound_each, bound_value, given_scope, row_alone}
+use Rattle.mesh_spec_query.specs.Cells.{is_true}
+use Rattle.mesh_spec_query.specs.Sel.{Group, Joined, holds, item_row, group_row}
+use Rattle.mesh_eval_expressions.specs.declared.bound.forms.Bound.{Bound}
+use Rattle.mesh_eval_expressions.specs.bound.Meaning.{Given, EachMeans, bound_each, bound_value, given_scope, row_alone}
 use Rattle.mesh_eval.specs.declared.groups.Output.{Output}
 
 -- the values of bound expressions at a row

@@ -1,20 +1,20 @@
 // Groups of rows, each as the places of its rows.
 ghost use Rattle.std.specs.Prelude.{◌≡◌, [], ◌++◌, map, IfOk, OnOk};
 ghost use Rattle.std.specs.List.{flat_map};
-ghost use Rattle.mesh_meaning.specs.Aggregates.{distinct};
-ghost use Rattle.mesh_joined.specs.index.Places.{places};
-ghost use Rattle.mesh_expressions.specs.Frames.{all_places, given_of, picked};
-ghost use Rattle.mesh_meaning.specs.Sel.{same_row, key_list, group_of, groups, grouped_rows};
+ghost use Rattle.mesh_spec_query.specs.Aggregates.{distinct};
+ghost use Rattle.mesh_eval_rows.specs.joins.index.Places.{places};
+ghost use Rattle.mesh_eval_expressions.specs.Frames.{all_places, given_of, picked};
+ghost use Rattle.mesh_spec_query.specs.Sel.{same_row, key_list, group_of, groups, grouped_rows};
 ghost use Rattle.mesh_eval.specs.Placed.{IsOutput, bound_holds, output_row};
 
 use crate::placing::{bind_condition, bind_items, flat_values};
 use mesh_base::{Expr, Select};
-use mesh_bound::{Bound, Bounded, bind_each};
-use mesh_expressions::{Frame, Members, holds, values_of};
-use mesh_joined::index::{FlatRows, Index, Listed};
-use mesh_joined::joined::JoinedRows;
+use mesh_base_values::{Bounds, Cell, Columns, Rows};
+use mesh_eval_expressions::bound::{Bound, Bounded, bind_each};
+use mesh_eval_expressions::{Frame, Members, holds, values_of};
+use mesh_eval_rows::joins::index::{FlatRows, Index, Listed};
+use mesh_eval_rows::joins::joined::JoinedRows;
 use mesh_list::{Memory, push_made, together};
-use mesh_values::{Bounds, Cell, Columns, Rows};
 use std::alloc::Global;
 
 /// The HAVING and the items of a SELECT, bound.

@@ -1,18 +1,18 @@
 // Expressions bound before the first row, and their values at rows.
 ghost use Rattle.std.specs.Prelude.{◌≡◌, [], ◌∷◌, ◌++◌, length, map, IfOk, OnOk};
-ghost use Rattle.mesh_values.specs.declared.values.Cell.{Cell as Shown};
-ghost use Rattle.mesh_joined.specs.joined.Joined.{shown};
-ghost use Rattle.mesh_meaning.specs.Cells.{is_true};
-ghost use Rattle.mesh_bound.specs.Meaning.{Given, Means, bound_value, row_alone};
+ghost use Rattle.mesh_base_values.specs.declared.values.Cell.{Cell as Shown};
+ghost use Rattle.mesh_eval_rows.specs.joins.joined.Joined.{shown};
+ghost use Rattle.mesh_spec_query.specs.Cells.{is_true};
+ghost use Rattle.mesh_eval_expressions.specs.bound.Meaning.{Given, Means, bound_value, row_alone};
 ghost use Rattle.mesh_eval.specs.Placed.{AreItems, IsCondition, bound_holds, row_test, values_at};
 
 use mesh_base::{Expr, Item};
-use mesh_bound::{Bound, Bounded, bind};
-use mesh_expressions::{Frame, holds, lent_at, value_alone};
-use mesh_joined::index::FlatRows;
-use mesh_joined::joined::JoinedRows;
+use mesh_base_values::{Bounds, Cell, Columns, Row, Rows};
+use mesh_eval_expressions::bound::{Bound, Bounded, bind};
+use mesh_eval_expressions::{Frame, holds, lent_at, value_alone};
+use mesh_eval_rows::joins::index::FlatRows;
+use mesh_eval_rows::joins::joined::JoinedRows;
 use mesh_list::{Duplicate, Memory, push_made};
-use mesh_values::{Bounds, Cell, Columns, Row, Rows};
 use std::alloc::Global;
 
 /// Items over the columns of a FROM, under keys and for an interval.

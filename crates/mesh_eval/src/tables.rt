@@ -3,11 +3,11 @@ ghost use Rattle.std.specs.Prelude.{◌≡◌, slice_get};
 ghost use Rattle.std.specs.Option.{option_copied};
 ghost use Rattle.std.specs.Ordering.{is_eq};
 ghost use Rattle.std.specs.List.{find};
-ghost use Rattle.mesh_values.specs.Names.{name_cmp};
-ghost use Rattle.mesh_meaning.specs.Tables.{relation, columns_in, rows_in};
+ghost use Rattle.mesh_base_values.specs.Names.{name_cmp};
+ghost use Rattle.mesh_spec_query.specs.Tables.{relation, columns_in, rows_in};
 
 use mesh_base::{Input, Rel};
-use mesh_values::{Column, Name, Row};
+use mesh_base_values::{Column, Name, Row};
 
 fn named<'x>(inputs: &'x [Input], name: &Name) -> Option<&'x Input>
     ensures { option_copied result ≡ find (λ input. is_eq (name_cmp input.name name.now)) inputs.now }

@@ -7,9 +7,9 @@ use Rattle.std.specs.declared.option.Option.{Option}
 use Rattle.std.proofs.lemmas.List.{map-append}
 use Rattle.std.proofs.lemmas.Bool.{eq-eqb}
 use Rattle.std.proofs.lemmas.Bool.Decides.{eqb_tells}
-use Rattle.mesh_values.specs.declared.kinds.Kind.{Kind}
-use Rattle.mesh_values.specs.declared.kinds.Kind.TheVariants.{Full, View, Seed, Incremental}
-use Rattle.mesh_values.specs.declared.times.Bounds.{Bounds}
+use Rattle.mesh_base_values.specs.declared.kinds.Kind.{Kind}
+use Rattle.mesh_base_values.specs.declared.kinds.Kind.TheVariants.{Full, View, Seed, Incremental}
+use Rattle.mesh_base_values.specs.declared.times.Bounds.{Bounds}
 use Rattle.mesh_base.specs.Outputs.{columns_of}
 use Rattle.mesh_base.specs.declared.forgets.Forget.{Forget}
 use Rattle.mesh_base.specs.declared.forgets.Forget.TheVariants.{Range, Marks}
@@ -17,28 +17,28 @@ use Rattle.mesh_base.specs.declared.jobs.Input.{Input}
 use Rattle.mesh_base.specs.declared.plans.Due.{Due}
 use Rattle.mesh_base.specs.declared.plans.Entry.{Entry}
 use Rattle.mesh_base.specs.declared.snapshots.Node.{Node}
-use Rattle.mesh_rules.specs.declared.plans.Plan.{Plan}
-use Rattle.mesh_book.specs.declared.book.Book.{Book}
-use Rattle.mesh_scratch.specs.Closures.{Closure, Model, Alone, closures, parents_at as closures_at, with_model}
-use Rattle.mesh_scratch.specs.Horizons.{Clock}
-use Rattle.mesh_scratch.specs.Scratch.{defn_rows, no_bounds, piece_over}
-use Rattle.mesh_scratch.specs.Sources.{inputs}
+use Rattle.mesh_base.specs.declared.rules.plans.Plan.{Plan}
+use Rattle.mesh_house_book.specs.declared.book.Book.{Book}
+use Rattle.mesh_spec_model.specs.Closures.{Closure, Model, Alone, closures, parents_at as closures_at, with_model}
+use Rattle.mesh_spec_model.specs.Horizons.{Clock}
+use Rattle.mesh_spec_model.specs.Scratch.{defn_rows, no_bounds, piece_over}
+use Rattle.mesh_spec_model.specs.Sources.{inputs}
 use Rattle.mesh_house.specs.declared.world.Change.{Change}
 use Rattle.mesh_house.specs.declared.world.Change.TheVariants.{MakeView, PutSnapshot, ReplaceRows, WriteRange, RecordRange, RecordMarks, Moment}
 use Rattle.mesh_house.specs.declared.world.World.{World}
 use Rattle.mesh_house.specs.Step.{run}
 use Rattle.mesh_house.specs.World.{version_of}
-use Rattle.mesh_shown.specs.Shown.{each_there}
-use Rattle.mesh_due.specs.Dues.{due, due_at, due_of, dues_from}
-use Rattle.mesh_due.specs.Marks.{marks}
-use Rattle.mesh_due.specs.Parts.{object_of, unit_of}
-use Rattle.mesh_due.specs.Plans.{Planned, is_made, planned_by}
-use Rattle.mesh_changes.specs.Changes.{ascending, executes as book_executes, fill, fills as book_fills, followed, forgetting, is_any as is_any_part, makes, opens, parent_table, planned_ref, puts, run_opens, snapshot_of, tables_for, target_of}
-use Rattle.mesh_changes.specs.Environments.{lifetime}
-use Rattle.mesh_works.specs.Dues.{behind, is_any, leading}
-use Rattle.mesh_works.specs.Written.{written}
-use Rattle.mesh_works.specs.Plain.{making, model_of, models, opened, parents_at, plain_models, puts_of}
-use Rattle.mesh_works.specs.Works.{Part, parts, parts_from}
+use Rattle.mesh_spec_changes.specs.shown.Shown.{each_there}
+use Rattle.mesh_spec_changes.specs.due.Dues.{due, due_at, due_of, dues_from}
+use Rattle.mesh_spec_changes.specs.due.Marks.{marks}
+use Rattle.mesh_spec_changes.specs.due.Parts.{object_of, unit_of}
+use Rattle.mesh_spec_changes.specs.due.Plans.{Planned, is_made, planned_by}
+use Rattle.mesh_spec_changes.specs.Changes.{ascending, executes as book_executes, fill, fills as book_fills, followed, forgetting, is_any as is_any_part, makes, opens, parent_table, planned_ref, puts, run_opens, snapshot_of, tables_for, target_of}
+use Rattle.mesh_spec_changes.specs.Environments.{lifetime}
+use Rattle.mesh_exec_works.specs.Dues.{behind, is_any, leading}
+use Rattle.mesh_exec_works.specs.Written.{written}
+use Rattle.mesh_exec_works.specs.Plain.{making, model_of, models, opened, parents_at, plain_models, puts_of}
+use Rattle.mesh_exec_works.specs.Works.{Part, parts, parts_from}
 use Rattle.mesh_exec.specs.Executed.{executed, executes, filled, fills, part_fills, part_rows}
 use Rattle.mesh_exec.specs.Planned.{IsOf, as_planned, opens_of, planned_models}
 

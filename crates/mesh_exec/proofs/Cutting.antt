@@ -5,11 +5,11 @@ use Rattle.std.specs.List.{filter, list_all}
 use Rattle.std.specs.Ordering.{int_eq}
 use Rattle.std.specs.declared.option.Option.{Option}
 use Rattle.jiff_core.proofs.SignedLemmas.{signed_arith}
-use Rattle.mesh_values.specs.Kinds.{is_incremental, time_column}
-use Rattle.mesh_values.specs.declared.kinds.Kind.{Kind}
-use Rattle.mesh_values.specs.declared.kinds.Kind.TheVariants.{Full, View, Seed as SeedKind, Incremental}
-use Rattle.mesh_values.specs.declared.times.Bounds.{Bounds}
-use Rattle.mesh_values.specs.declared.values.Cell.{Cell}
+use Rattle.mesh_base_values.specs.Kinds.{is_incremental, time_column}
+use Rattle.mesh_base_values.specs.declared.kinds.Kind.{Kind}
+use Rattle.mesh_base_values.specs.declared.kinds.Kind.TheVariants.{Full, View, Seed as SeedKind, Incremental}
+use Rattle.mesh_base_values.specs.declared.times.Bounds.{Bounds}
+use Rattle.mesh_base_values.specs.declared.values.Cell.{Cell}
 use Rattle.mesh_base.specs.Outputs.{columns_of}
 use Rattle.mesh_base.specs.declared.definitions.Own.{Own}
 use Rattle.mesh_base.specs.declared.jobs.Input.{Input}
@@ -17,18 +17,18 @@ use Rattle.mesh_base.specs.declared.plans.Due.{Due}
 use Rattle.mesh_base.specs.declared.plans.Due.TheVariants.{Whole, Unit as OfUnit}
 use Rattle.mesh_base.specs.declared.plans.Entry.{Entry}
 use Rattle.mesh_base.specs.declared.snapshots.Node.{Node}
-use Rattle.mesh_seconds.specs.Times.{is_within}
-use Rattle.mesh_scratch.specs.Scratch.{defn_rows, is_of_unit, lies_by, piece_over}
-use Rattle.mesh_due.specs.Plans.{Planned}
-use Rattle.mesh_changes.specs.Changes.{ascending}
+use Rattle.mesh_time_days.specs.seconds.Times.{is_within}
+use Rattle.mesh_spec_model.specs.Scratch.{defn_rows, is_of_unit, lies_by, piece_over}
+use Rattle.mesh_spec_changes.specs.due.Plans.{Planned}
+use Rattle.mesh_spec_changes.specs.Changes.{ascending}
 use Rattle.mesh_lineage.specs.Joinable.{is_joinable, is_joinable_as}
-use Rattle.mesh_wave.proofs.wave.Ascending.{cut_ascending}
-use Rattle.mesh_unit_laws.specs.Units.{IsInDays, IsUnit}
-use Rattle.mesh_unit_laws.proofs.Cuts.{sorted_rows}
-use Rattle.mesh_works.specs.Cuts.{cut_fills, rows_in, run_fills, second_in, seconds_by, seconds_of}
-use Rattle.mesh_works.specs.Executable.{is_due_of, is_in_days}
-use Rattle.mesh_works.specs.Written.{written}
-use Rattle.mesh_works.specs.Plain.{model_of}
+use Rattle.mesh_exec_wave.proofs.wave.Ascending.{cut_ascending}
+use Rattle.mesh_exec_units.specs.Units.{IsInDays, IsUnit}
+use Rattle.mesh_exec_units.proofs.Cuts.{sorted_rows}
+use Rattle.mesh_exec_works.specs.Cuts.{cut_fills, rows_in, run_fills, second_in, seconds_by, seconds_of}
+use Rattle.mesh_exec_works.specs.Executable.{is_due_of, is_in_days}
+use Rattle.mesh_exec_works.specs.Written.{written}
+use Rattle.mesh_exec_works.specs.Plain.{model_of}
 use Rattle.mesh_exec.specs.Fills.{fillings, span_rows}
 use Rattle.mesh_exec.specs.Runs.{begins_at, end_of, goes_all_on, goes_on, is_run, last_end}
 use Rattle.mesh_exec.proofs.Running.{is_both}

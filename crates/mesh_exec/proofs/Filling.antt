@@ -8,12 +8,12 @@ use Rattle.std.specs.declared.option.Option.{Option}
 use Rattle.std.proofs.lemmas.List.{map-append, take-append-drop}
 use Rattle.std.proofs.lemmas.List.Elements.{All-append, All-cons, All-nil}
 use Rattle.std.proofs.lemmas.Grind.{flat_map-append}
-use Rattle.mesh_values.specs.Kinds.{is_incremental, time_column}
-use Rattle.mesh_values.specs.declared.kinds.Kind.{Kind}
-use Rattle.mesh_values.specs.declared.kinds.Kind.TheVariants.{Full, View, Seed as SeedKind, Incremental}
-use Rattle.mesh_values.specs.declared.times.Bounds.{Bounds}
-use Rattle.mesh_values.specs.declared.values.Cell.{Cell}
-use Rattle.mesh_values.specs.declared.values.Column.{Column}
+use Rattle.mesh_base_values.specs.Kinds.{is_incremental, time_column}
+use Rattle.mesh_base_values.specs.declared.kinds.Kind.{Kind}
+use Rattle.mesh_base_values.specs.declared.kinds.Kind.TheVariants.{Full, View, Seed as SeedKind, Incremental}
+use Rattle.mesh_base_values.specs.declared.times.Bounds.{Bounds}
+use Rattle.mesh_base_values.specs.declared.values.Cell.{Cell}
+use Rattle.mesh_base_values.specs.declared.values.Column.{Column}
 use Rattle.mesh_base.specs.Outputs.{defn_columns, select_columns}
 use Rattle.mesh_base.specs.declared.definitions.Defn.{Defn}
 use Rattle.mesh_base.specs.declared.definitions.Defn.TheVariants.{Seed, Sql}
@@ -23,20 +23,20 @@ use Rattle.mesh_base.specs.declared.plans.Due.{Due}
 use Rattle.mesh_base.specs.declared.plans.Due.TheVariants.{Whole, Unit as OfUnit}
 use Rattle.mesh_base.specs.declared.plans.Entry.{Entry}
 use Rattle.mesh_base.specs.declared.snapshots.Node.{Node}
-use Rattle.mesh_rules.specs.Proper.{is_body_of}
-use Rattle.mesh_meaning.specs.Sel.{Sel}
-use Rattle.mesh_scratch.specs.Scratch.{defn_rows, lies_by, no_bounds}
+use Rattle.mesh_base.specs.rules.Proper.{is_body_of}
+use Rattle.mesh_spec_query.specs.Sel.{Sel}
+use Rattle.mesh_spec_model.specs.Scratch.{defn_rows, lies_by, no_bounds}
 use Rattle.mesh_house.specs.declared.world.Change.{Change}
-use Rattle.mesh_due.specs.Marks.{is_computed}
-use Rattle.mesh_due.specs.Plans.{Planned}
-use Rattle.mesh_changes.specs.Changes.{ascending}
-use Rattle.mesh_wave.specs.wave.Waves.{counts, job_rows}
+use Rattle.mesh_spec_changes.specs.due.Marks.{is_computed}
+use Rattle.mesh_spec_changes.specs.due.Plans.{Planned}
+use Rattle.mesh_spec_changes.specs.Changes.{ascending}
+use Rattle.mesh_exec_wave.specs.wave.Waves.{counts, job_rows}
 use Rattle.mesh_lineage.specs.Joinable.{is_joinable}
-use Rattle.mesh_works.specs.Executable.{is_due_of}
-use Rattle.mesh_works.specs.Fronts.{pool_at}
-use Rattle.mesh_works.specs.Written.{written}
-use Rattle.mesh_works.specs.Plain.{model_of}
-use Rattle.mesh_works.specs.Works.{seed_rows}
+use Rattle.mesh_exec_works.specs.Executable.{is_due_of}
+use Rattle.mesh_exec_works.specs.Fronts.{pool_at}
+use Rattle.mesh_exec_works.specs.Written.{written}
+use Rattle.mesh_exec_works.specs.Plain.{model_of}
+use Rattle.mesh_exec_works.specs.Works.{seed_rows}
 use Rattle.mesh_exec.specs.Executed.{filled, part_rows}
 use Rattle.mesh_exec.specs.Fills.{each_with, fillings, run_fillings, run_rows, span_rows, zipped}
 use Rattle.mesh_exec.specs.Jobs.{due_job, jobs_of, span_job}

@@ -8,10 +8,10 @@ use Rattle.mesh_list.specs.Keyed.{ascends}
 use Rattle.mesh_base.specs.declared.plans.Due.{Due}
 use Rattle.mesh_base.specs.declared.plans.Entry.{Entry}
 use Rattle.mesh_base.specs.declared.snapshots.Node.{Node}
-use Rattle.mesh_rules.specs.Proper.{is_body_of, is_fit as is_node_fit, have_distinct_names, is_plain_schema, is_proper, is_well_formed, node_cmp, node_itself, parents_at}
-use Rattle.mesh_works.specs.Dues.{behind, leading}
-use Rattle.mesh_works.specs.Executable.{is_due_in, is_due_of, place_of}
-use Rattle.mesh_works.specs.Works.{are_fit, is_fit, parts_from}
+use Rattle.mesh_base.specs.rules.Proper.{is_body_of, is_fit as is_node_fit, have_distinct_names, is_plain_schema, is_proper, is_well_formed, node_cmp, node_itself, parents_at}
+use Rattle.mesh_exec_works.specs.Dues.{behind, leading}
+use Rattle.mesh_exec_works.specs.Executable.{is_due_in, is_due_of, place_of}
+use Rattle.mesh_exec_works.specs.Works.{are_fit, is_fit, parts_from}
 use Rattle.mesh_exec.proofs.Running.{both_are, is_both}
 
 same_place : (a b : ℕ) → nat_eq a b ≡ true → a ≡ b

@@ -5,20 +5,20 @@ use Rattle.std.specs.List.{All, list_all}
 use Rattle.std.proofs.lemmas.Bool.{ltb-true}
 use Rattle.std.proofs.lemmas.List.{length-map, map-append}
 use Rattle.std.proofs.lemmas.List.Elements.{All-append, All-nil}
-use Rattle.mesh_values.specs.declared.values.Cell.{Cell}
+use Rattle.mesh_base_values.specs.declared.values.Cell.{Cell}
 use Rattle.mesh_base.specs.declared.jobs.Input.{Input}
 use Rattle.mesh_base.specs.declared.jobs.Job.{Job}
 use Rattle.mesh_house.specs.declared.world.Change.{Change}
-use Rattle.mesh_rules.specs.Proper.{is_body_of}
-use Rattle.mesh_due.specs.Marks.{is_computed}
-use Rattle.mesh_due.specs.Plans.{Planned}
+use Rattle.mesh_base.specs.rules.Proper.{is_body_of}
+use Rattle.mesh_spec_changes.specs.due.Marks.{is_computed}
+use Rattle.mesh_spec_changes.specs.due.Plans.{Planned}
 use Rattle.mesh_lineage.specs.Joinable.{is_joinable}
-use Rattle.mesh_wave.specs.wave.Waves.{job_rows}
-use Rattle.mesh_works.specs.Executable.{is_due_of}
-use Rattle.mesh_works.specs.Fronts.{pool_at}
-use Rattle.mesh_works.specs.Plain.{work_model}
-use Rattle.mesh_works.specs.Works.{are_fit, is_fit}
-use Rattle.mesh_works.specs.declared.works.Work.{Work}
+use Rattle.mesh_exec_wave.specs.wave.Waves.{job_rows}
+use Rattle.mesh_exec_works.specs.Executable.{is_due_of}
+use Rattle.mesh_exec_works.specs.Fronts.{pool_at}
+use Rattle.mesh_exec_works.specs.Plain.{work_model}
+use Rattle.mesh_exec_works.specs.Works.{are_fit, is_fit}
+use Rattle.mesh_exec_works.specs.declared.works.Work.{Work}
 use Rattle.mesh_exec.specs.Cuts.{AreCuts, AreRunsIf, IsCut, count_runs, cut_part, work_of}
 use Rattle.mesh_exec.specs.Fills.{fillings, run_rows, zipped}
 use Rattle.mesh_exec.specs.Fronts.{cut_jobs, cut_rows, front_changes, part_changes, part_rows_of}

@@ -2,22 +2,22 @@
 use Rattle.std.proofs.Common.{◌≡◌, false, List, [], ◌∷◌, ◌++◌, length, take, Some, None, refl, sym, ap, ◌∙◌, arith, append_assoc, length-append}
 use Rattle.std.specs.Ordering.{is_eq}
 use Rattle.std.specs.declared.option.Option.{Option}
-use Rattle.mesh_values.specs.Names.{name_cmp}
-use Rattle.mesh_values.specs.declared.values.Name.{Name}
+use Rattle.mesh_base_values.specs.Names.{name_cmp}
+use Rattle.mesh_base_values.specs.declared.values.Name.{Name}
 use Rattle.mesh_base.specs.declared.jobs.Input.{Input}
 use Rattle.mesh_house.specs.declared.world.Change.{Change}
 use Rattle.mesh_house.specs.declared.world.World.{World}
 use Rattle.mesh_house.specs.Step.{run}
 use Rattle.mesh_house.specs.World.{object_at}
 use Rattle.mesh_house.proofs.Runs.{run-append}
-use Rattle.mesh_due.specs.Plans.{Planned}
-use Rattle.mesh_changes.specs.Changes.{followed}
-use Rattle.mesh_works.specs.Dues.{is_any}
-use Rattle.mesh_works.specs.Fronts.{or_end, pool_now, pools_from}
-use Rattle.mesh_works.specs.Plain.{making, model_of}
-use Rattle.mesh_works.specs.Works.{Part}
-use Rattle.mesh_works.proofs.Ahead.{Spares, pool_stays, spares_more}
-use Rattle.mesh_works.proofs.Frames.{each_stays, makes_stay, written_stays}
+use Rattle.mesh_spec_changes.specs.due.Plans.{Planned}
+use Rattle.mesh_spec_changes.specs.Changes.{followed}
+use Rattle.mesh_exec_works.specs.Dues.{is_any}
+use Rattle.mesh_exec_works.specs.Fronts.{or_end, pool_now, pools_from}
+use Rattle.mesh_exec_works.specs.Plain.{making, model_of}
+use Rattle.mesh_exec_works.specs.Works.{Part}
+use Rattle.mesh_exec_works.proofs.Ahead.{Spares, pool_stays, spares_more}
+use Rattle.mesh_exec_works.proofs.Frames.{each_stays, makes_stay, written_stays}
 use Rattle.mesh_exec.specs.Executed.{executes, filled, part_fills, part_filling, part_outline, parts_outline}
 use Rattle.mesh_exec.specs.Fills.{fillings}
 use Rattle.mesh_exec.specs.Fronts.{front_changes, part_changes}

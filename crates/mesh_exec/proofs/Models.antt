@@ -6,8 +6,8 @@ use Rattle.std.specs.List.{flat_map}
 use Rattle.std.specs.declared.option.Option.{Option}
 use Rattle.std.proofs.lemmas.List.{append-nil, drop_all, take_all}
 use Rattle.mesh_list.specs.Counts.{risen}
-use Rattle.mesh_values.specs.declared.values.Name.{Name}
-use Rattle.mesh_tokens.specs.declared.faults.FaultKind.{FaultKind}
+use Rattle.mesh_base_values.specs.declared.values.Name.{Name}
+use Rattle.mesh_query_tokens.specs.declared.faults.FaultKind.{FaultKind}
 use Rattle.mesh_base.specs.declared.jobs.Input.{Input}
 use Rattle.mesh_base.specs.declared.plans.Due.{Due}
 use Rattle.mesh_house.specs.declared.house.WhFail.{WhFail}
@@ -19,18 +19,18 @@ use Rattle.mesh_house.specs.Runs.{IsRun, IsPrefixRun, Makes}
 use Rattle.mesh_house.specs.Sources.{are_plain}
 use Rattle.mesh_house.specs.Step.{run}
 use Rattle.mesh_house.proofs.Runs.{run-append}
-use Rattle.mesh_due.specs.Plans.{Planned}
-use Rattle.mesh_changes.specs.Changes.{followed}
+use Rattle.mesh_spec_changes.specs.due.Plans.{Planned}
+use Rattle.mesh_spec_changes.specs.Changes.{followed}
 use Rattle.mesh_layer.specs.Shows.{Finds, IsUntouched, Tells}
 use Rattle.mesh_layer.specs.declared.faults.ShowFault.{ShowFault}
 use Rattle.mesh_layer.specs.declared.faults.ShowFault.TheVariants as show
-use Rattle.mesh_works.specs.Dues.{is_any}
-use Rattle.mesh_works.specs.Written.{written}
-use Rattle.mesh_works.specs.Lost.{lost_part}
-use Rattle.mesh_works.specs.Plain.{making, model_of}
-use Rattle.mesh_works.specs.Tables.{part_tables, tables_if}
-use Rattle.mesh_works.specs.Works.{Part, are_fit, is_fit, part_of}
-use Rattle.mesh_works.specs.declared.works.Work.{Work}
+use Rattle.mesh_exec_works.specs.Dues.{is_any}
+use Rattle.mesh_exec_works.specs.Written.{written}
+use Rattle.mesh_exec_works.specs.Lost.{lost_part}
+use Rattle.mesh_exec_works.specs.Plain.{making, model_of}
+use Rattle.mesh_exec_works.specs.Tables.{part_tables, tables_if}
+use Rattle.mesh_exec_works.specs.Works.{Part, are_fit, is_fit, part_of}
+use Rattle.mesh_exec_works.specs.declared.works.Work.{Work}
 use Rattle.mesh_exec.specs.declared.faults.ExecFault.{ExecFault}
 use Rattle.mesh_exec.specs.declared.faults.ExecFault.TheVariants as fault
 use Rattle.mesh_exec.specs.Answers.{of_house, of_show}

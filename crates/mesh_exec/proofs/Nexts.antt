@@ -3,8 +3,8 @@ use Rattle.std.proofs.Common.{◌≡◌, ◌≤◌, ◌<◌, ◌+◌, ℕ, zero,
 use Rattle.std.specs.Result.{IsErrAnd}
 use Rattle.std.proofs.lemmas.Grind.{flat_map-append}
 use Rattle.std.proofs.lemmas.List.{append-nil, length-map, map-append, take-append-drop}
-use Rattle.mesh_values.specs.declared.values.Name.{Name}
-use Rattle.mesh_tokens.specs.declared.faults.FaultKind.{FaultKind}
+use Rattle.mesh_base_values.specs.declared.values.Name.{Name}
+use Rattle.mesh_query_tokens.specs.declared.faults.FaultKind.{FaultKind}
 use Rattle.mesh_base.specs.declared.jobs.Input.{Input}
 use Rattle.mesh_house.specs.declared.house.WhFail.{WhFail}
 use Rattle.mesh_house.specs.declared.world.Change.{Change}
@@ -15,16 +15,16 @@ use Rattle.mesh_house.specs.Runs.{IsRun, IsPrefixRun, Makes}
 use Rattle.mesh_house.specs.Sources.{are_plain}
 use Rattle.mesh_house.specs.Step.{run}
 use Rattle.mesh_house.proofs.Runs.{run-append}
-use Rattle.mesh_due.specs.Plans.{Planned}
+use Rattle.mesh_spec_changes.specs.due.Plans.{Planned}
 use Rattle.mesh_layer.specs.Shows.{Finds, Tells}
 use Rattle.mesh_layer.specs.declared.faults.ShowFault.{ShowFault}
 use Rattle.mesh_layer.specs.declared.faults.ShowFault.TheVariants as show
-use Rattle.mesh_works.specs.declared.fronts.Pooled.{Pooled}
-use Rattle.mesh_works.specs.Fronts.{each_pool, pool_at, pools_from}
-use Rattle.mesh_works.specs.Plain.{making}
-use Rattle.mesh_works.specs.Works.{Part, are_fit, is_fit, part_of}
-use Rattle.mesh_works.specs.declared.works.Work.{Work}
-use Rattle.mesh_works.proofs.Ahead.{Spares}
+use Rattle.mesh_exec_works.specs.declared.fronts.Pooled.{Pooled}
+use Rattle.mesh_exec_works.specs.Fronts.{each_pool, pool_at, pools_from}
+use Rattle.mesh_exec_works.specs.Plain.{making}
+use Rattle.mesh_exec_works.specs.Works.{Part, are_fit, is_fit, part_of}
+use Rattle.mesh_exec_works.specs.declared.works.Work.{Work}
+use Rattle.mesh_exec_works.proofs.Ahead.{Spares}
 use Rattle.mesh_exec.specs.declared.faults.ExecFault.{ExecFault}
 use Rattle.mesh_exec.specs.declared.faults.ExecFault.TheVariants as fault
 use Rattle.mesh_exec.specs.declared.making.Next.{Next}

@@ -8,9 +8,9 @@ use Rattle.std.proofs.lemmas.Grind.{flat_map-append}
 use Rattle.mesh_base.specs.declared.plans.Due.{Due}
 use Rattle.mesh_base.specs.declared.snapshots.Node.{Node}
 use Rattle.mesh_lineage.specs.Joinable.{is_joinable}
-use Rattle.mesh_rules.specs.Proper.{is_body_of}
-use Rattle.mesh_works.specs.Executable.{is_due_of}
-use Rattle.mesh_works.specs.Works.{is_fit}
+use Rattle.mesh_base.specs.rules.Proper.{is_body_of}
+use Rattle.mesh_exec_works.specs.Executable.{is_due_of}
+use Rattle.mesh_exec_works.specs.Works.{is_fit}
 use Rattle.mesh_exec.specs.declared.runs.Run.{Run}
 use Rattle.mesh_exec.specs.Runs.{AreRunsOf, are_fit_runs, dues_in, end_of, goes_all_on, goes_on, is_fit_run, is_run, onward, run_ahead}
 

@@ -4,19 +4,19 @@ use Rattle.std.specs.Prelude.{◌&&◌, not}
 use Rattle.std.specs.List.{flat_map}
 use Rattle.std.specs.declared.option.Option.{Option}
 use Rattle.std.proofs.lemmas.List.{append-nil}
-use Rattle.mesh_values.specs.declared.kinds.Kind.{Kind}
-use Rattle.mesh_values.specs.declared.kinds.Kind.TheVariants.{Full, View, Seed, Incremental}
-use Rattle.mesh_values.specs.declared.values.Cell.{Cell}
-use Rattle.mesh_values.specs.declared.values.Column.{Column}
-use Rattle.mesh_values.specs.declared.values.Name.{Name}
+use Rattle.mesh_base_values.specs.declared.kinds.Kind.{Kind}
+use Rattle.mesh_base_values.specs.declared.kinds.Kind.TheVariants.{Full, View, Seed, Incremental}
+use Rattle.mesh_base_values.specs.declared.values.Cell.{Cell}
+use Rattle.mesh_base_values.specs.declared.values.Column.{Column}
+use Rattle.mesh_base_values.specs.declared.values.Name.{Name}
 use Rattle.mesh_base.specs.declared.plans.Due.{Due}
 use Rattle.mesh_base.specs.declared.plans.Due.TheVariants.{Whole, Unit as OfUnit}
 use Rattle.mesh_base.specs.Outputs.{columns_of}
 use Rattle.mesh_base.specs.declared.definitions.Own.{Own}
-use Rattle.mesh_book.specs.Changes.{make_table as table_made, make_view as view_made}
+use Rattle.mesh_house_book.specs.Changes.{make_table as table_made, make_view as view_made}
 use Rattle.mesh_house.specs.declared.world.Change.TheVariants.{MakeTable, MakeView}
-use Rattle.mesh_values.specs.declared.values.Pair.{Pair}
-use Rattle.mesh_book.specs.declared.book.Book.{Book}
+use Rattle.mesh_base_values.specs.declared.values.Pair.{Pair}
+use Rattle.mesh_house_book.specs.declared.book.Book.{Book}
 use Rattle.mesh_house.specs.declared.objects.Body.{Body}
 use Rattle.mesh_house.specs.declared.objects.Body.TheVariants.{Rows, Stored}
 use Rattle.mesh_house.specs.declared.objects.Object.{Object}
@@ -28,9 +28,9 @@ use Rattle.mesh_house.specs.Runs.{IsRun, IsPrefixRun}
 use Rattle.mesh_house.specs.Step.{filled as filled_body, filled_at, run, step, with_book, with_object, written_at}
 use Rattle.mesh_house.specs.World.{object_at}
 use Rattle.mesh_house.proofs.Runs.{run-append}
-use Rattle.mesh_due.specs.Plans.{Planned}
-use Rattle.mesh_changes.specs.Changes.{makes, parents_in, target_of}
-use Rattle.mesh_works.specs.Written.{written}
+use Rattle.mesh_spec_changes.specs.due.Plans.{Planned}
+use Rattle.mesh_spec_changes.specs.Changes.{makes, parents_in, target_of}
+use Rattle.mesh_exec_works.specs.Written.{written}
 
 -- one list after another
 pub run_then : (f g : List Change) (w : World) (k : ℕ) (b c : Told) → IsRun f w k b → IsRun g (run w f) b.calls c → IsRun (f ++ g) w k c

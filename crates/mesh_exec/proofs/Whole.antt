@@ -5,11 +5,11 @@ use Rattle.std.specs.Result.{IsErrAnd}
 use Rattle.std.specs.declared.option.Option.{Option}
 use Rattle.std.proofs.lemmas.List.{append-nil}
 use Rattle.mesh_list.specs.Counts.{risen}
-use Rattle.mesh_values.specs.declared.values.Name.{Name}
+use Rattle.mesh_base_values.specs.declared.values.Name.{Name}
 use Rattle.mesh_base.specs.declared.forgets.Forget.{Forget}
 use Rattle.mesh_base.specs.declared.jobs.Done.{Done}
-use Rattle.mesh_rules.specs.declared.plans.Plan.{Plan}
-use Rattle.mesh_tokens.specs.declared.faults.FaultKind.{FaultKind}
+use Rattle.mesh_base.specs.declared.rules.plans.Plan.{Plan}
+use Rattle.mesh_query_tokens.specs.declared.faults.FaultKind.{FaultKind}
 use Rattle.mesh_house.specs.declared.house.WhFail.{WhFail}
 use Rattle.mesh_house.specs.declared.house.WhFail.TheVariants as house
 use Rattle.mesh_house.specs.declared.world.Change.{Change}
@@ -20,13 +20,13 @@ use Rattle.mesh_house.specs.Runs.{IsRun, IsPrefixRun, Makes}
 use Rattle.mesh_house.specs.Sources.{are_plain}
 use Rattle.mesh_house.specs.Step.{run, step}
 use Rattle.mesh_house.proofs.Runs.{run-append}
-use Rattle.mesh_due.specs.Plans.{Planned}
-use Rattle.mesh_changes.specs.Changes.{forgetting, snapshot_of}
+use Rattle.mesh_spec_changes.specs.due.Plans.{Planned}
+use Rattle.mesh_spec_changes.specs.Changes.{forgetting, snapshot_of}
 use Rattle.mesh_layer.specs.Shows.{Finds, IsUntouched, Tells}
 use Rattle.mesh_layer.specs.declared.faults.ShowFault.{ShowFault}
 use Rattle.mesh_layer.specs.declared.faults.ShowFault.TheVariants as show
-use Rattle.mesh_works.specs.Plain.{models, opened, puts_of}
-use Rattle.mesh_works.specs.Works.{Part, parts}
+use Rattle.mesh_exec_works.specs.Plain.{models, opened, puts_of}
+use Rattle.mesh_exec_works.specs.Works.{Part, parts}
 use Rattle.mesh_exec.specs.declared.faults.ExecFault.{ExecFault}
 use Rattle.mesh_exec.specs.declared.faults.ExecFault.TheVariants as fault
 use Rattle.mesh_exec.specs.declared.sources.Lack.{Lack}

@@ -2,10 +2,10 @@
 use Rattle.std.specs.Prelude.{◌≡◌, ◌+◌, ◌≤◌, ⊤, ℕ, Bool, true, false, List, [], ◌∷◌, length, map, take}
 use Rattle.mesh_base.specs.declared.plans.Due.{Due}
 use Rattle.mesh_base.specs.declared.snapshots.Node.{Node}
-use Rattle.mesh_due.specs.Marks.{is_computed}
+use Rattle.mesh_spec_changes.specs.due.Marks.{is_computed}
 use Rattle.mesh_lineage.specs.Joinable.{is_joinable}
-use Rattle.mesh_works.specs.declared.works.Work.{Work}
-use Rattle.mesh_works.specs.Works.{Part, part_of}
+use Rattle.mesh_exec_works.specs.declared.works.Work.{Work}
+use Rattle.mesh_exec_works.specs.Works.{Part, part_of}
 use Rattle.mesh_exec.specs.declared.ready.Cut.{Cut}
 use Rattle.mesh_exec.specs.declared.runs.Run.{Run}
 use Rattle.mesh_exec.specs.Runs.{AreRunsOf}

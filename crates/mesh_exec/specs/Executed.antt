@@ -3,20 +3,20 @@ use Rattle.std.specs.Prelude.{List, [], ◌∷◌, ◌++◌, Some}
 use Rattle.std.specs.List.{flat_map}
 use Rattle.std.specs.Option.{option_map}
 use Rattle.std.specs.declared.option.Option.{Option}
-use Rattle.mesh_values.specs.declared.values.Cell.{Cell}
+use Rattle.mesh_base_values.specs.declared.values.Cell.{Cell}
 use Rattle.mesh_base.specs.declared.jobs.Input.{Input}
 use Rattle.mesh_base.specs.declared.plans.Due.{Due}
 use Rattle.mesh_base.specs.declared.plans.Due.TheVariants.{Whole, Unit}
-use Rattle.mesh_rules.specs.declared.plans.Plan.{Plan}
-use Rattle.mesh_scratch.specs.Scratch.{no_bounds, defn_rows, piece_over}
+use Rattle.mesh_base.specs.declared.rules.plans.Plan.{Plan}
+use Rattle.mesh_spec_model.specs.Scratch.{no_bounds, defn_rows, piece_over}
 use Rattle.mesh_house.specs.declared.world.World.{World}
 use Rattle.mesh_house.specs.declared.world.Change.{Change}
 use Rattle.mesh_house.specs.Step.{run}
-use Rattle.mesh_due.specs.Plans.{Planned}
-use Rattle.mesh_changes.specs.Changes.{ascending, followed, tables_for}
-use Rattle.mesh_works.specs.Plain.{making, model_of, models, opened}
-use Rattle.mesh_works.specs.Works.{Part, parts}
-use Rattle.mesh_works.specs.Written.{written}
+use Rattle.mesh_spec_changes.specs.due.Plans.{Planned}
+use Rattle.mesh_spec_changes.specs.Changes.{ascending, followed, tables_for}
+use Rattle.mesh_exec_works.specs.Plain.{making, model_of, models, opened}
+use Rattle.mesh_exec_works.specs.Works.{Part, parts}
+use Rattle.mesh_exec_works.specs.Written.{written}
 
 -- the rows of a due part over the tables that its model reads: those of a unit that lie in it, or all
 abbrev pub part_rows : Planned → List Input → Due → List (List Cell)

@@ -1,14 +1,14 @@
 -- How the due parts of one model are filled from rows that were computed for each run of them.
 use Rattle.std.specs.Prelude.{List, [], ◌∷◌, ◌++◌}
 use Rattle.std.specs.List.{flat_map, slice_index_or}
-use Rattle.mesh_values.specs.declared.values.Cell.{Cell}
+use Rattle.mesh_base_values.specs.declared.values.Cell.{Cell}
 use Rattle.mesh_base.specs.declared.jobs.Input.{Input}
 use Rattle.mesh_base.specs.declared.plans.Due.{Due}
 use Rattle.mesh_house.specs.declared.world.Change.{Change}
-use Rattle.mesh_due.specs.Plans.{Planned}
-use Rattle.mesh_changes.specs.Changes.{ascending}
-use Rattle.mesh_works.specs.Cuts.{run_fills}
-use Rattle.mesh_works.specs.Written.{written}
+use Rattle.mesh_spec_changes.specs.due.Plans.{Planned}
+use Rattle.mesh_spec_changes.specs.Changes.{ascending}
+use Rattle.mesh_exec_works.specs.Cuts.{run_fills}
+use Rattle.mesh_exec_works.specs.Written.{written}
 use Rattle.mesh_exec.specs.declared.runs.Run.{Run}
 use Rattle.mesh_exec.specs.Executed.{filled, part_rows}
 use Rattle.mesh_exec.specs.Runs.{dues_in, spanned}

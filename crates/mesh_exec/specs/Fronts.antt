@@ -1,12 +1,12 @@
 -- Models whose rows are computed side by side, before any of them is made.
 use Rattle.std.specs.Prelude.{ℕ, List, [], ◌∷◌, ◌++◌, map}
-use Rattle.mesh_values.specs.declared.values.Cell.{Cell}
+use Rattle.mesh_base_values.specs.declared.values.Cell.{Cell}
 use Rattle.mesh_base.specs.declared.jobs.Input.{Input}
 use Rattle.mesh_base.specs.declared.jobs.Job.{Job}
 use Rattle.mesh_house.specs.declared.world.Change.{Change}
-use Rattle.mesh_due.specs.Plans.{Planned}
-use Rattle.mesh_works.specs.Plain.{making, model_of, work_model}
-use Rattle.mesh_works.specs.Works.{Part}
+use Rattle.mesh_spec_changes.specs.due.Plans.{Planned}
+use Rattle.mesh_exec_works.specs.Plain.{making, model_of, work_model}
+use Rattle.mesh_exec_works.specs.Works.{Part}
 use Rattle.mesh_exec.specs.declared.ready.Cut.{Cut}
 use Rattle.mesh_exec.specs.Fills.{fillings, run_rows}
 use Rattle.mesh_exec.specs.Jobs.{jobs_of}

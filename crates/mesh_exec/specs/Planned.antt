@@ -2,14 +2,14 @@
 use Rattle.std.specs.Prelude.{◌≡◌, if◌then◌else◌, List}
 use Rattle.std.specs.List.{AllByRecursion}
 use Rattle.mesh_base.specs.declared.plans.Entry.{Entry}
-use Rattle.mesh_rules.specs.declared.plans.Plan.{Plan}
-use Rattle.mesh_scratch.specs.Horizons.{Clock}
-use Rattle.mesh_book.specs.declared.book.Book.{Book}
+use Rattle.mesh_base.specs.declared.rules.plans.Plan.{Plan}
+use Rattle.mesh_spec_model.specs.Horizons.{Clock}
+use Rattle.mesh_house_book.specs.declared.book.Book.{Book}
 use Rattle.mesh_house.specs.declared.world.Change.{Change}
 use Rattle.mesh_house.specs.World.{version_of}
-use Rattle.mesh_due.specs.Dues.{dues}
-use Rattle.mesh_due.specs.Plans.{Planned, is_made, planned}
-use Rattle.mesh_changes.specs.Changes.{Plan as BookPlan, opens, run_opens}
+use Rattle.mesh_spec_changes.specs.due.Dues.{dues}
+use Rattle.mesh_spec_changes.specs.due.Plans.{Planned, is_made, planned}
+use Rattle.mesh_spec_changes.specs.Changes.{Plan as BookPlan, opens, run_opens}
 
 abbrev pub planned_models : Plan → List Planned
 planned_models p = planned p.project.nodes p.entries

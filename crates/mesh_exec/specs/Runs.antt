@@ -8,7 +8,7 @@ use Rattle.mesh_base.specs.declared.plans.Due.{Due}
 use Rattle.mesh_base.specs.declared.plans.Due.TheVariants.{Whole, Unit}
 use Rattle.mesh_base.specs.declared.snapshots.Node.{Node}
 use Rattle.mesh_lineage.specs.Joinable.{is_joinable}
-use Rattle.mesh_works.specs.Executable.{is_due_of}
+use Rattle.mesh_exec_works.specs.Executable.{is_due_of}
 use Rattle.mesh_exec.specs.declared.runs.Run.{Run}
 
 -- a unit begins there

@@ -4,17 +4,17 @@ use Rattle.std.specs.List.{fold}
 use Rattle.std.specs.Option.{option_map, option_or}
 use Rattle.std.specs.Ordering.{is_lt}
 use Rattle.std.specs.declared.option.Option.{Option}
-use Rattle.mesh_values.specs.Names.{name_cmp}
-use Rattle.mesh_values.specs.declared.values.Column.{Column}
-use Rattle.mesh_values.specs.declared.values.Name.{Name}
+use Rattle.mesh_base_values.specs.Names.{name_cmp}
+use Rattle.mesh_base_values.specs.declared.values.Column.{Column}
+use Rattle.mesh_base_values.specs.declared.values.Name.{Name}
 use Rattle.mesh_base.specs.declared.definitions.Decl.{Decl}
 use Rattle.mesh_base.specs.declared.definitions.Own.{Own}
 use Rattle.mesh_base.specs.declared.jobs.Input.{Input}
-use Rattle.mesh_scratch.specs.Sources.{has_shape, source_named}
-use Rattle.mesh_tokens.specs.declared.faults.FaultKind.{FaultKind}
-use Rattle.mesh_tokens.specs.declared.faults.FaultKind.TheVariants.{SourceMissing, SourceShape}
-use Rattle.mesh_works.specs.Dues.{is_any}
-use Rattle.mesh_works.specs.Works.{Part}
+use Rattle.mesh_spec_model.specs.Sources.{has_shape, source_named}
+use Rattle.mesh_query_tokens.specs.declared.faults.FaultKind.{FaultKind}
+use Rattle.mesh_query_tokens.specs.declared.faults.FaultKind.TheVariants.{SourceMissing, SourceShape}
+use Rattle.mesh_exec_works.specs.Dues.{is_any}
+use Rattle.mesh_exec_works.specs.Works.{Part}
 use Rattle.mesh_exec.specs.declared.sources.Breach.{Breach}
 use Rattle.mesh_exec.specs.declared.sources.Lack.{Lack}
 

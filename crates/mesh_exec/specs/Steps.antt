@@ -3,19 +3,19 @@ use Rattle.std.specs.Prelude.{◌≡◌, ◌<◌, ◌≤◌, ℕ, List, [], ◌�
 use Rattle.std.specs.Option.{ForSome}
 use Rattle.std.specs.declared.option.Option.{Option}
 use Rattle.mesh_list.specs.Counts.{risen, Rose}
-use Rattle.mesh_values.specs.declared.values.Name.{Name}
-use Rattle.mesh_rules.specs.declared.plans.Plan.{Plan}
-use Rattle.mesh_tokens.specs.declared.faults.FaultKind.{FaultKind}
+use Rattle.mesh_base_values.specs.declared.values.Name.{Name}
+use Rattle.mesh_base.specs.declared.rules.plans.Plan.{Plan}
+use Rattle.mesh_query_tokens.specs.declared.faults.FaultKind.{FaultKind}
 use Rattle.mesh_house.specs.declared.world.Change.{Change}
 use Rattle.mesh_house.specs.declared.world.World.{World}
 use Rattle.mesh_house.specs.House.{Told}
 use Rattle.mesh_house.specs.Runs.{IsRun, IsPrefixRun}
 use Rattle.mesh_house.specs.Step.{run}
-use Rattle.mesh_due.specs.Plans.{Planned}
+use Rattle.mesh_spec_changes.specs.due.Plans.{Planned}
 use Rattle.mesh_layer.specs.Shows.{IsUntouched, Tells}
-use Rattle.mesh_works.specs.Lost.{lost_part}
-use Rattle.mesh_works.specs.Plain.{making, models, opened}
-use Rattle.mesh_works.specs.Works.{Part, parts}
+use Rattle.mesh_exec_works.specs.Lost.{lost_part}
+use Rattle.mesh_exec_works.specs.Plain.{making, models, opened}
+use Rattle.mesh_exec_works.specs.Works.{Part, parts}
 use Rattle.mesh_exec.specs.declared.faults.ExecFault.{ExecFault}
 use Rattle.mesh_exec.specs.declared.faults.ExecFault.TheVariants as fault
 use Rattle.mesh_exec.specs.declared.making.Next.{Next}

@@ -1,11 +1,11 @@
 // A plan is made.
 ghost use Rattle.std.specs.Prelude.{◌≡◌, ◌≤◌, IfOk, IsTrue, length, map, true};
 ghost use Rattle.mesh_list.specs.Counts.{risen};
-ghost use Rattle.mesh_book.specs.WellFormed.{is_moment};
+ghost use Rattle.mesh_house_book.specs.WellFormed.{is_moment};
 ghost use Rattle.mesh_house.specs.Runs.{Makes};
-ghost use Rattle.mesh_works.specs.Executable.{IsExecutable};
-ghost use Rattle.mesh_works.specs.Plain.{opened};
-ghost use Rattle.mesh_works.specs.Works.{are_fit, part_of, parts};
+ghost use Rattle.mesh_exec_works.specs.Executable.{IsExecutable};
+ghost use Rattle.mesh_exec_works.specs.Plain.{opened};
+ghost use Rattle.mesh_exec_works.specs.Works.{are_fit, part_of, parts};
 ghost use Rattle.mesh_exec.specs.Answers.{Executes};
 ghost use Rattle.mesh_exec.specs.Steps.{Looks, MakesPlan};
 
@@ -14,11 +14,11 @@ use crate::fills::added;
 use crate::making::make_parts;
 use crate::sources::first_lack;
 use mesh_base::Done;
+use mesh_base::rules::Plan;
+use mesh_exec_wave::wave::Gate;
+use mesh_exec_works::{Work, opening, works_of};
 use mesh_house::{Warehouse, WhFail};
-use mesh_rules::Plan;
-use mesh_state_sync::making::make_counted;
-use mesh_wave::wave::Gate;
-use mesh_works::{Work, opening, works_of};
+use mesh_janitor::making::make_counted;
 use std::alloc::Global;
 use std::thread::Threads;
 

@@ -3,11 +3,11 @@ ghost use Rattle.std.specs.Prelude.{◌≡◌};
 ghost use Rattle.mesh_exec.specs.declared.faults.ExecFault.TheVariants as fault;
 ghost use Rattle.mesh_exec.specs.Answers.{of_house, of_show};
 
+use mesh_base_values::Name;
 use mesh_house::WhFail;
 use mesh_layer::ShowFault;
 use mesh_list::Memory;
-use mesh_tokens::FaultKind;
-use mesh_values::Name;
+use mesh_query_tokens::FaultKind;
 
 /// A parent's object shows no rows, a source isn't as a due model declares it, the warehouse failed, or memory ran out.
 #[derive(Drop)]

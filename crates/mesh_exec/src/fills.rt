@@ -1,27 +1,27 @@
 // The due parts of a model are filled.
 ghost use Rattle.std.specs.Prelude.{◌≡◌, ◌++◌, ◌+◌, ◌≤◌, [], List, OnOk, IfOk, length, true, false, map};
 ghost use Rattle.mesh_list.specs.Counts.{risen};
-ghost use Rattle.mesh_changes.specs.Changes.{ascending};
+ghost use Rattle.mesh_spec_changes.specs.Changes.{ascending};
 ghost use Rattle.mesh_base.specs.declared.jobs.Input.{Input};
 ghost use Rattle.mesh_base.specs.declared.plans.Entry.{Entry};
-ghost use Rattle.mesh_due.specs.Marks.{is_computed};
+ghost use Rattle.mesh_spec_changes.specs.due.Marks.{is_computed};
 ghost use Rattle.mesh_house.specs.Runs.{Makes};
-ghost use Rattle.mesh_rules.specs.Proper.{is_body_of};
-ghost use Rattle.mesh_works.specs.Cuts.{cut_fills, run_fills};
-ghost use Rattle.mesh_works.specs.Plain.{model_of};
-ghost use Rattle.mesh_works.specs.Works.{is_fit, seed_rows};
+ghost use Rattle.mesh_base.specs.rules.Proper.{is_body_of};
+ghost use Rattle.mesh_exec_works.specs.Cuts.{cut_fills, run_fills};
+ghost use Rattle.mesh_exec_works.specs.Plain.{model_of};
+ghost use Rattle.mesh_exec_works.specs.Works.{is_fit, seed_rows};
 ghost use Rattle.mesh_exec.specs.Fills.{each_with, fillings, first_pool, run_fillings, run_rows, zipped};
 ghost use Rattle.mesh_exec.specs.Runs.{are_fit_runs};
 
 use crate::jobs::jobs_of;
 use crate::runs::{Run, runs_from, runs_of};
 use mesh_base::{Defn, Due, Entry, Node, Pools};
+use mesh_base_values::{Kind, Rows, RowsList, sort_rows};
+use mesh_exec_wave::wave::{Gate, wave};
+use mesh_exec_works::{cut_to, push_written, seconds_of};
 use mesh_house::{Changes, Warehouse, WhFail};
+use mesh_janitor::making::make_counted;
 use mesh_list::{Duplicate, Memory, Seq};
-use mesh_state_sync::making::make_counted;
-use mesh_values::{Kind, Rows, RowsList, sort_rows};
-use mesh_wave::wave::{Gate, wave};
-use mesh_works::{cut_to, push_written, seconds_of};
 use std::alloc::Global;
 use std::thread::Threads;
 

@@ -2,14 +2,14 @@
 ghost use Rattle.std.specs.Prelude.{◌≡◌, ◌++◌, ◌∷◌, [], IfOk, OnOk, Some, None, Ok};
 ghost use Rattle.std.specs.Option.{option_to_list};
 ghost use Rattle.mesh_base.specs.declared.jobs.Job.{Job};
-ghost use Rattle.mesh_scratch.specs.Scratch.{no_bounds};
+ghost use Rattle.mesh_spec_model.specs.Scratch.{no_bounds};
 ghost use Rattle.mesh_exec.specs.Jobs.{due_job, jobs_of, span_job};
 ghost use Rattle.mesh_exec.specs.Runs.{up_to};
 
 use crate::runs::{Run, last_end};
 use mesh_base::{Defn, Due, Job, Jobs, Node, Query};
+use mesh_base_values::{Bounds, Kind, Str};
 use mesh_list::{Duplicate, Memory, Seq, both, push_made};
-use mesh_values::{Bounds, Kind, Str};
 use std::alloc::Global;
 
 fn unit_job(pool: u32, q: &Query, time: &Str, start: i64, end: i64) -> Result<Job, Memory>

@@ -1,11 +1,11 @@
 // What the definitions give.
 ghost use Rattle.std.specs.Prelude.{◌≡◌, ◌++◌, []};
-ghost use Rattle.mesh_rules.specs.declared.plans.Plan.{Plan};
-ghost use Rattle.mesh_scratch.specs.Horizons.{Clock};
-ghost use Rattle.mesh_book.specs.declared.book.Book.{Book};
+ghost use Rattle.mesh_base.specs.declared.rules.plans.Plan.{Plan};
+ghost use Rattle.mesh_spec_model.specs.Horizons.{Clock};
+ghost use Rattle.mesh_house_book.specs.declared.book.Book.{Book};
 ghost use Rattle.mesh_house.specs.declared.world.World.{World};
 ghost use Rattle.mesh_house.specs.Step.{run};
-ghost use Rattle.mesh_changes.specs.Changes.{executes};
+ghost use Rattle.mesh_spec_changes.specs.Changes.{executes};
 ghost use Rattle.mesh_exec.specs.Executed.{executed};
 ghost use Rattle.mesh_exec.specs.Planned.{IsOf, opens_of, planned_models};
 

@@ -2,9 +2,9 @@
 ghost use Rattle.std.specs.Prelude.{◌≡◌, ◌<◌, ◌≤◌, ◌∷◌, [], IfOk, length, map, true};
 ghost use Rattle.mesh_list.specs.Counts.{risen};
 ghost use Rattle.mesh_house.specs.Runs.{Makes};
-ghost use Rattle.mesh_works.specs.Lost.{lost_part};
-ghost use Rattle.mesh_works.specs.Plain.{making, plain_models};
-ghost use Rattle.mesh_works.specs.Works.{are_fit, is_fit, part_of};
+ghost use Rattle.mesh_exec_works.specs.Lost.{lost_part};
+ghost use Rattle.mesh_exec_works.specs.Plain.{making, plain_models};
+ghost use Rattle.mesh_exec_works.specs.Works.{are_fit, is_fit, part_of};
 ghost use Rattle.mesh_exec.specs.Executed.{part_fills, part_filling};
 ghost use Rattle.mesh_exec.specs.Steps.{MakesNext, MakesPart, MakesParts, Tries};
 
@@ -13,11 +13,11 @@ use crate::fills::{added, fill_all};
 use crate::fronts::make_front;
 use crate::ready::ready_of;
 use mesh_base::{Entry, Inputs, Node, Pools};
+use mesh_exec_wave::wave::Gate;
+use mesh_exec_works::{Work, part_tables, pools_ahead, push_making};
 use mesh_house::{Warehouse, WhFail};
+use mesh_janitor::making::make_counted;
 use mesh_list::{Memory, Seq};
-use mesh_state_sync::making::make_counted;
-use mesh_wave::wave::Gate;
-use mesh_works::{Work, part_tables, pools_ahead, push_making};
 use std::alloc::Global;
 use std::thread::Threads;
 

@@ -1,12 +1,12 @@
 // Which models may be computed side by side.
 ghost use Rattle.std.specs.Prelude.{◌≡◌, ◌≤◌, length, IfOk};
-ghost use Rattle.mesh_due.specs.Marks.{is_computed};
+ghost use Rattle.mesh_spec_changes.specs.due.Marks.{is_computed};
 ghost use Rattle.mesh_exec.specs.Cuts.{AreRunsIf, IsReady};
 
 use crate::fills::is_computed;
 use crate::runs::{Runs, runs_of};
+use mesh_exec_works::Work;
 use mesh_list::{Memory, Seq};
-use mesh_works::Work;
 use std::alloc::Global;
 
 /// How many models may be computed side by side, and how many runs they may have.

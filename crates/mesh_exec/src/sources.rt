@@ -3,17 +3,17 @@ ghost use Rattle.std.specs.Prelude.{◌≡◌, IfOk, IsTrue, None, map};
 ghost use Rattle.std.specs.Option.{option_map};
 ghost use Rattle.mesh_house.specs.Sources.{are_plain};
 ghost use Rattle.mesh_layer.specs.Shows.{Finds};
-ghost use Rattle.mesh_scratch.specs.Sources.{has_shape, source_named};
-ghost use Rattle.mesh_works.specs.Works.{part_of};
+ghost use Rattle.mesh_spec_model.specs.Sources.{has_shape, source_named};
+ghost use Rattle.mesh_exec_works.specs.Works.{part_of};
 ghost use Rattle.mesh_exec.specs.Sources.{breach, breach_by, first_by_name, kind_of, lack_of, model_breach, first_lack, part_lack};
 
 use mesh_base::Decl;
+use mesh_base_values::{Columns, Name, Str, has_two_underscores};
+use mesh_exec_works::Work;
 use mesh_house::Warehouse;
 use mesh_layer::{ShowFault, has_shape};
 use mesh_list::{Duplicate, Memory};
-use mesh_tokens::FaultKind;
-use mesh_values::{Columns, Name, Str, has_two_underscores};
-use mesh_works::Work;
+use mesh_query_tokens::FaultKind;
 use std::alloc::Global;
 
 /// A source that isn't there, or is there with another shape.

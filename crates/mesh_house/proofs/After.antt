@@ -6,18 +6,18 @@ use Rattle.std.proofs.lemmas.Cmp.{tied_itself}
 use Rattle.std.specs.Ordering.{is_eq}
 use Rattle.mesh_list.specs.Keyed.{found}
 use Rattle.mesh_list.proofs.Found.{found-placed}
-use Rattle.mesh_values.specs.declared.values.Cell.{Cell}
-use Rattle.mesh_values.specs.declared.values.Column.{Column}
-use Rattle.mesh_values.specs.declared.values.Name.{Name}
-use Rattle.mesh_values.specs.Names.{name_cmp, has_two_underscores}
+use Rattle.mesh_base_values.specs.declared.values.Cell.{Cell}
+use Rattle.mesh_base_values.specs.declared.values.Column.{Column}
+use Rattle.mesh_base_values.specs.declared.values.Name.{Name}
+use Rattle.mesh_base_values.specs.Names.{name_cmp, has_two_underscores}
 use Rattle.mesh_house.specs.declared.objects.Body.TheVariants.{Rows}
 use Rattle.mesh_house.specs.declared.objects.Object.{Object}
 use Rattle.mesh_house.specs.declared.world.ViewOf.{ViewOf}
 use Rattle.mesh_house.specs.declared.world.World.{World}
 use Rattle.mesh_house.specs.declared.world.Change.TheVariants.{MakeTable, ReplaceRows, PointView}
-use Rattle.mesh_values.specs.NameOrder.{names_total, names_exact}
+use Rattle.mesh_base_values.specs.NameOrder.{names_total, names_exact}
 use Rattle.mesh_house.specs.Objects.{object_name, is_physical}
-use Rattle.mesh_book.specs.Changes.{make_table as table_made}
+use Rattle.mesh_house_book.specs.Changes.{make_table as table_made}
 use Rattle.mesh_house.specs.World.{view_name, source_at, as_table, object_at, kept_at, columns_of, body_of, target_of, head, body, view}
 use Rattle.mesh_house.specs.Step.{with_book, with_object, filled_at, step, run}
 

@@ -7,14 +7,14 @@ use Rattle.std.specs.Int.Signed.{le_z}
 use Rattle.std.specs.Cmp.{IsTotalOrder}
 use Rattle.std.proofs.lemmas.Cmp.{tied_itself}
 use Rattle.mesh_list.specs.Keyed.{found, exchanged}
-use Rattle.mesh_values.specs.declared.values.Cell.{Cell}
-use Rattle.mesh_values.specs.declared.values.Column.{Column}
-use Rattle.mesh_values.specs.declared.values.Name.{Name}
-use Rattle.mesh_values.specs.Names.{name_cmp}
-use Rattle.mesh_values.specs.NameOrder.{names_total, names_exact}
-use Rattle.mesh_book.proofs.Exchanged.{found_key}
-use Rattle.mesh_seconds.specs.Rows.{are_before}
-use Rattle.mesh_seconds.proofs.Before.{still_before, rewritten_before}
+use Rattle.mesh_base_values.specs.declared.values.Cell.{Cell}
+use Rattle.mesh_base_values.specs.declared.values.Column.{Column}
+use Rattle.mesh_base_values.specs.declared.values.Name.{Name}
+use Rattle.mesh_base_values.specs.Names.{name_cmp}
+use Rattle.mesh_base_values.specs.NameOrder.{names_total, names_exact}
+use Rattle.mesh_house_book.proofs.Exchanged.{found_key}
+use Rattle.mesh_time_days.specs.seconds.Rows.{are_before}
+use Rattle.mesh_time_days.proofs.seconds.Before.{still_before, rewritten_before}
 use Rattle.mesh_house.specs.declared.latest.Latest.{Latest}
 use Rattle.mesh_house.specs.declared.objects.Body.{Body}
 use Rattle.mesh_house.specs.declared.objects.Body.TheVariants.{Rows, Stored}

@@ -1,15 +1,15 @@
 -- What is to go out of a world is taken out, or one thing more is to go.
 use Rattle.std.proofs.Common.{◌≡◌, true, List, [], sym, ◌∙◌, ap}
 use Rattle.mesh_list.specs.Keyed.{placed, without, ascends}
-use Rattle.mesh_values.specs.declared.values.Name.{Name}
-use Rattle.mesh_values.specs.Names.{name_cmp}
-use Rattle.mesh_values.specs.NameOrder.{names_total, names_exact}
+use Rattle.mesh_base_values.specs.declared.values.Name.{Name}
+use Rattle.mesh_base_values.specs.Names.{name_cmp}
+use Rattle.mesh_base_values.specs.NameOrder.{names_total, names_exact}
 use Rattle.mesh_base.specs.declared.snapshots.Ref.{Ref}
 use Rattle.mesh_base.specs.declared.snapshots.Snapshot.{Snapshot}
 use Rattle.mesh_base.specs.Keys.{ref_cmp, refs_total, refs_exact, snapshot_ref}
-use Rattle.mesh_book.specs.declared.book.Book.{Book}
-use Rattle.mesh_book.specs.declared.versions.Version.{Version}
-use Rattle.mesh_book.specs.Changes.{version_object, forget_version, delete_snapshot}
+use Rattle.mesh_house_book.specs.declared.book.Book.{Book}
+use Rattle.mesh_house_book.specs.declared.versions.Version.{Version}
+use Rattle.mesh_house_book.specs.Changes.{version_object, forget_version, delete_snapshot}
 use Rattle.mesh_house.specs.declared.gone.Gone.{Gone}
 use Rattle.mesh_house.specs.declared.objects.Object.{Object}
 use Rattle.mesh_house.specs.declared.world.World.{World}

@@ -1,17 +1,17 @@
 -- A version that was changed is put back.
 use Rattle.std.proofs.Common.{◌≡◌, Some, None, Ok, Err, Result, OnOk, OnErr, refl, ◌∙◌, ap, sym}
 use Rattle.std.specs.declared.option.Option.{Option}
-use Rattle.mesh_values.specs.declared.values.Name.{Name}
-use Rattle.mesh_values.specs.Names.{name_cmp}
-use Rattle.mesh_values.specs.NameOrder.{names_total, names_exact}
+use Rattle.mesh_base_values.specs.declared.values.Name.{Name}
+use Rattle.mesh_base_values.specs.Names.{name_cmp}
+use Rattle.mesh_base_values.specs.NameOrder.{names_total, names_exact}
 use Rattle.mesh_list.specs.Keyed.{found}
-use Rattle.mesh_book.specs.declared.book.Book.{Book}
-use Rattle.mesh_book.specs.declared.versions.Version.{Version}
-use Rattle.mesh_book.specs.Changes.{version_object, at_version}
+use Rattle.mesh_house_book.specs.declared.book.Book.{Book}
+use Rattle.mesh_house_book.specs.declared.versions.Version.{Version}
+use Rattle.mesh_house_book.specs.Changes.{version_object, at_version}
 use Rattle.mesh_house.specs.declared.world.World.{World}
 use Rattle.mesh_house.specs.Step.{with_book}
 use Rattle.mesh_house.specs.Booked.{put_back}
-use Rattle.mesh_book.proofs.Exchanged.{exchanged_twice, exchanged_itself, found_key}
+use Rattle.mesh_house_book.proofs.Exchanged.{exchanged_twice, exchanged_itself, found_key}
 
 pub undone : (f : Version → Version) (b : Book) (name : Name) (o : Option Version) → ((v : Version) → (f v).object ≡ v.object) → found name_cmp version_object name b.versions ≡ o → at_version o (λ v. v) (at_version o f b) ≡ b
 undone f b name None kept is = refl

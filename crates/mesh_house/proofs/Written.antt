@@ -2,15 +2,15 @@
 use Rattle.std.proofs.Common.{◌≡◌, Bool, true, cond, ℕ, List, Some, None, Ok, Err, Result, OnOk, OnErr, ℤ, sym, ◌∙◌, ap}
 use Rattle.std.specs.declared.option.Option.{Option}
 use Rattle.mesh_list.specs.Keyed.{found, exchanged}
-use Rattle.mesh_values.specs.declared.values.Cell.{Cell}
-use Rattle.mesh_values.specs.declared.values.Name.{Name}
-use Rattle.mesh_values.specs.Names.{name_cmp}
-use Rattle.mesh_values.specs.NameOrder.{names_total, names_exact}
+use Rattle.mesh_base_values.specs.declared.values.Cell.{Cell}
+use Rattle.mesh_base_values.specs.declared.values.Name.{Name}
+use Rattle.mesh_base_values.specs.Names.{name_cmp}
+use Rattle.mesh_base_values.specs.NameOrder.{names_total, names_exact}
 use Rattle.mesh_house.specs.declared.objects.Object.{Object}
 use Rattle.mesh_house.specs.declared.world.World.{World}
 use Rattle.mesh_house.specs.Objects.{object_name, is_physical}
 use Rattle.mesh_house.specs.Step.{written_object, written_at, write_range}
-use Rattle.mesh_book.proofs.Exchanged.{exchanged_none, exchanged_itself, exchanged_twice, found_key}
+use Rattle.mesh_house_book.proofs.Exchanged.{exchanged_none, exchanged_itself, exchanged_twice, found_key}
 
 pub name_kept : {T E : Type 0} (r : Result T E) (new o : Object) (time : List ℕ) (first last : ℤ) (rows : List (List Cell)) → OnOk r (new ≡ written_object o time first last rows) → OnErr r (new ≡ o) → new.name ≡ o.name
 name_kept (Ok x) new o time first last rows ok err = ap object_name ok

@@ -1,11 +1,11 @@
 -- The book's part in the changes of a world.
 use Rattle.std.specs.Prelude.{Result, Ok, Err}
 use Rattle.std.specs.declared.option.Option.{Option}
-use Rattle.mesh_book.specs.declared.book.Book.{Book}
-use Rattle.mesh_book.specs.declared.versions.Version.{Version}
-use Rattle.mesh_book.specs.Changes.{raise_moment, put_snapshot, record_range, record_marks, set_pending, finalize, expire, forget_version, delete_snapshot, delete_env, at_version}
-use Rattle.mesh_moves.specs.Forgets.{forget_units}
-use Rattle.mesh_moves.specs.Renames.{migrate}
+use Rattle.mesh_house_book.specs.declared.book.Book.{Book}
+use Rattle.mesh_house_book.specs.declared.versions.Version.{Version}
+use Rattle.mesh_house_book.specs.Changes.{raise_moment, put_snapshot, record_range, record_marks, set_pending, finalize, expire, forget_version, delete_snapshot, delete_env, at_version}
+use Rattle.mesh_house_book.specs.moves.Forgets.{forget_units}
+use Rattle.mesh_house_book.specs.moves.Renames.{migrate}
 use Rattle.mesh_house.specs.declared.world.World.{World}
 use Rattle.mesh_house.specs.declared.world.Change.{Change}
 use Rattle.mesh_house.specs.declared.world.Change.TheVariants.{Moment, Load, PutSnapshot, MakeTable, MakeView, ReplaceRows, WriteRange, RecordRange, RecordMarks, SetPending, PointView, DropView, Finalize, Expire, ForgetVersion, DropObject, DeleteSnapshot, DeleteEnv, ForgetUnits, Migrate}

@@ -1,9 +1,9 @@
 -- What is known of the table that was written last: no row's second by a column is at or after a second.
 use Rattle.std.specs.Prelude.{ℕ, ℤ, Bool, true, false, List, Some, None, if◌then◌else◌}
 use Rattle.std.specs.declared.option.Option.{Option}
-use Rattle.mesh_values.specs.declared.values.Cell.{Cell}
-use Rattle.mesh_values.specs.declared.values.Column.{Column}
-use Rattle.mesh_seconds.specs.Rows.{are_before}
+use Rattle.mesh_base_values.specs.declared.values.Cell.{Cell}
+use Rattle.mesh_base_values.specs.declared.values.Column.{Column}
+use Rattle.mesh_time_days.specs.seconds.Rows.{are_before}
 use Rattle.mesh_house.specs.declared.latest.Latest.{Latest}
 use Rattle.mesh_house.specs.declared.objects.Body.{Body}
 use Rattle.mesh_house.specs.declared.objects.Body.TheVariants.{Rows, Stored}

@@ -1,8 +1,8 @@
 -- The names that objects have.
 use Rattle.std.specs.Prelude.{Bool, List}
 use Rattle.std.specs.List.{list_all}
-use Rattle.mesh_values.specs.declared.values.Name.{Name}
-use Rattle.mesh_values.specs.Names.{has_two_underscores}
+use Rattle.mesh_base_values.specs.declared.values.Name.{Name}
+use Rattle.mesh_base_values.specs.Names.{has_two_underscores}
 use Rattle.mesh_house.specs.declared.objects.Object.{Object}
 
 -- objects are found by their names

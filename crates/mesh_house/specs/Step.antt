@@ -2,16 +2,16 @@
 use Rattle.std.specs.Prelude.{ℕ, Bool, List, [], ◌∷◌, ◌++◌, Some, None, ℤ, if◌then◌else◌}
 use Rattle.std.specs.declared.option.Option.{Option}
 use Rattle.mesh_list.specs.Keyed.{placed, without, exchanged}
-use Rattle.mesh_values.specs.declared.values.Cell.{Cell}
-use Rattle.mesh_values.specs.declared.values.Column.{Column}
-use Rattle.mesh_values.specs.declared.values.Name.{Name}
-use Rattle.mesh_values.specs.declared.values.Pair.{Pair}
+use Rattle.mesh_base_values.specs.declared.values.Cell.{Cell}
+use Rattle.mesh_base_values.specs.declared.values.Column.{Column}
+use Rattle.mesh_base_values.specs.declared.values.Name.{Name}
+use Rattle.mesh_base_values.specs.declared.values.Pair.{Pair}
 use Rattle.mesh_base.specs.declared.definitions.Own.{Own}
-use Rattle.mesh_values.specs.Names.{name_cmp}
-use Rattle.mesh_book.specs.declared.book.Book.{Book}
-use Rattle.mesh_book.specs.Changes.{raise_moment, put_snapshot, make_table as table_made, make_view as view_made, record_range, record_marks, set_pending, finalize, expire, forget_version, delete_snapshot, delete_env}
-use Rattle.mesh_moves.specs.Forgets.{forget_units}
-use Rattle.mesh_moves.specs.Renames.{migrate}
+use Rattle.mesh_base_values.specs.Names.{name_cmp}
+use Rattle.mesh_house_book.specs.declared.book.Book.{Book}
+use Rattle.mesh_house_book.specs.Changes.{raise_moment, put_snapshot, make_table as table_made, make_view as view_made, record_range, record_marks, set_pending, finalize, expire, forget_version, delete_snapshot, delete_env}
+use Rattle.mesh_house_book.specs.moves.Forgets.{forget_units}
+use Rattle.mesh_house_book.specs.moves.Renames.{migrate}
 use Rattle.mesh_house.specs.declared.objects.Body.{Body}
 use Rattle.mesh_house.specs.declared.objects.Body.TheVariants.{Rows, Stored}
 use Rattle.mesh_house.specs.declared.objects.Object.{Object}
@@ -22,7 +22,7 @@ use Rattle.mesh_house.specs.declared.world.World.{World}
 use Rattle.mesh_house.specs.declared.world.Change.{Change}
 use Rattle.mesh_house.specs.declared.world.Change.TheVariants.{Moment, Load, PutSnapshot, MakeTable, MakeView, ReplaceRows, WriteRange, RecordRange, RecordMarks, SetPending, PointView, DropView, Finalize, Expire, ForgetVersion, DropObject, DeleteSnapshot, DeleteEnv, ForgetUnits, Migrate}
 use Rattle.mesh_house.specs.World.{view_name, object_at, source_at}
-use Rattle.mesh_seconds.specs.Rows.{rewritten}
+use Rattle.mesh_time_days.specs.seconds.Rows.{rewritten}
 
 -- the world with this book
 abbrev pub with_book : World → Book → World

@@ -2,13 +2,13 @@
 use Rattle.std.specs.Prelude.{List, [], Some, None, if◌then◌else◌}
 use Rattle.std.specs.declared.option.Option.{Option}
 use Rattle.mesh_list.specs.Keyed.{found}
-use Rattle.mesh_values.specs.declared.values.Cell.{Cell}
-use Rattle.mesh_values.specs.declared.values.Column.{Column}
-use Rattle.mesh_values.specs.declared.values.Name.{Name}
-use Rattle.mesh_values.specs.Names.{name_cmp}
-use Rattle.mesh_book.specs.declared.book.Book.{Book}
-use Rattle.mesh_book.specs.declared.versions.Version.{Version}
-use Rattle.mesh_book.specs.Changes.{empty_book, version_object}
+use Rattle.mesh_base_values.specs.declared.values.Cell.{Cell}
+use Rattle.mesh_base_values.specs.declared.values.Column.{Column}
+use Rattle.mesh_base_values.specs.declared.values.Name.{Name}
+use Rattle.mesh_base_values.specs.Names.{name_cmp}
+use Rattle.mesh_house_book.specs.declared.book.Book.{Book}
+use Rattle.mesh_house_book.specs.declared.versions.Version.{Version}
+use Rattle.mesh_house_book.specs.Changes.{empty_book, version_object}
 use Rattle.mesh_house.specs.declared.objects.Body.{Body}
 use Rattle.mesh_house.specs.declared.objects.Body.TheVariants.{Rows, Stored}
 use Rattle.mesh_house.specs.declared.objects.Object.{Object}

@@ -1,6 +1,6 @@
 // A world that leaves what goes for later, so that much of it goes in one pass.
 ghost use Rattle.std.specs.Prelude.{◌≡◌, IfOk, OnOk, OnErr};
-ghost use Rattle.mesh_book.specs.Changes.{delete_snapshot, forget_version};
+ghost use Rattle.mesh_house_book.specs.Changes.{delete_snapshot, forget_version};
 ghost use Rattle.mesh_house.specs.World.{head, body, view, book};
 ghost use Rattle.mesh_house.specs.Step.{drop_object, step, with_book, write_range};
 
@@ -10,9 +10,9 @@ use crate::latest::{Latest, settle_known, step, write};
 use crate::objects::Body;
 use crate::sources::SourceTables;
 use crate::world::{Change, World};
-use mesh_book::Book;
+use mesh_base_values::{Columns, Name, Rows, Str};
+use mesh_house_book::Book;
 use mesh_list::{Duplicate, Memory};
-use mesh_values::{Columns, Name, Rows, Str};
 use std::alloc::Global;
 use std::marker::Model;
 

@@ -4,8 +4,8 @@ ghost use Rattle.std.specs.Prelude.{◌≡◌, IfOk, Ok, Some};
 use crate::objects::{Body, Object};
 use crate::world::{ViewOf, World};
 use mesh_base::Own;
+use mesh_base_values::{Columns, Name, Pairs, Rows};
 use mesh_list::{Duplicate, Memory, both, together};
-use mesh_values::{Columns, Name, Pairs, Rows};
 
 /// A copy of what is there.
 pub(crate) fn some_copied<T: Duplicate>(item: &T) -> Result<Option<T>, Memory>

@@ -1,14 +1,14 @@
 // What is to go out of a world.
 ghost use Rattle.std.specs.Prelude.{◌≡◌, OnOk, OnErr};
-ghost use Rattle.mesh_book.specs.Changes.{delete_snapshot, forget_version};
+ghost use Rattle.mesh_house_book.specs.Changes.{delete_snapshot, forget_version};
 ghost use Rattle.mesh_house.specs.Gone.{MayGo, nothing_gone, settled, thinned};
 
 use crate::outside::{may_wait, thin};
 use crate::world::World;
 use mesh_base::Ref;
-use mesh_book::Book;
+use mesh_base_values::Name;
+use mesh_house_book::Book;
 use mesh_list::{Duplicate, Memory, Sorted};
-use mesh_values::Name;
 use std::alloc::Global;
 
 /// The keys of snapshots, versions and objects that are to go.

@@ -6,9 +6,9 @@ ghost use Rattle.mesh_house.specs.House.{Told, Changes, Reads};
 
 use crate::objects::Body;
 use crate::world::Change;
-use mesh_book::Book;
+use mesh_base_values::{Columns, Name};
+use mesh_house_book::Book;
 use mesh_list::Memory;
-use mesh_values::{Columns, Name};
 use std::alloc::Global;
 use thiserror::Error;
 

@@ -11,9 +11,9 @@ ghost use Rattle.mesh_house.specs.Step.{step, write_range};
 use crate::gone::{Gone, settle};
 use crate::objects::{Body, Object};
 use crate::world::{Change, World};
+use mesh_base_values::{Columns, Name, Rows, Str};
 use mesh_list::{Memory, Same, both};
-use mesh_seconds::are_before;
-use mesh_values::{Columns, Name, Rows, Str};
+use mesh_time_days::seconds::are_before;
 use std::alloc::Global;
 
 /// A table that has no row whose second by the column `time` is at or after `end`.

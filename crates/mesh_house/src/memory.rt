@@ -11,9 +11,9 @@ use crate::house::{Warehouse, WhFail};
 use crate::objects::Body;
 use crate::sources::SourceTables;
 use crate::world::{Change, World};
-use mesh_book::Book;
+use mesh_base_values::{Columns, Name};
+use mesh_house_book::Book;
 use mesh_list::{Memory, Seq};
-use mesh_values::{Columns, Name};
 use std::alloc::Global;
 
 // What was read or done, where there was memory for it.

@@ -1,17 +1,17 @@
 // The objects of a warehouse.
 ghost use Rattle.std.specs.Prelude.{◌≡◌, [], true, OnOk, OnErr, Some};
 ghost use Rattle.std.specs.Option.{option_copied};
-ghost use Rattle.mesh_values.specs.Names.{name_cmp};
+ghost use Rattle.mesh_base_values.specs.Names.{name_cmp};
 ghost use Rattle.mesh_list.specs.Keyed.{found, placed, exchanged, without, ascends};
-ghost use Rattle.mesh_values.specs.NameOrder.{names_exact, names_total};
+ghost use Rattle.mesh_base_values.specs.NameOrder.{names_exact, names_total};
 ghost use Rattle.mesh_house.specs.World.{rows_of};
 ghost use Rattle.mesh_house.specs.Objects.{object_name, is_physical, are_physical};
 ghost use Rattle.mesh_house.specs.Outside.{itself, outside};
 
 use crate::outside::thin;
 use mesh_base::Own;
+use mesh_base_values::{Columns, Name, Pairs, Rows};
 use mesh_list::{Duplicate, Keyed, Memory, Register, Same};
-use mesh_values::{Columns, Name, Pairs, Rows};
 use std::alloc::Global;
 use std::cmp::Ordering;
 use std::marker::Model;
@@ -96,7 +96,7 @@ impl Model for Objects {
     ghost use Rattle.std.specs.Prelude.{List, true, ◌≡◌};
     ghost use Rattle.std.specs.Coded.{codes};
     ghost use Rattle.mesh_base.specs.contracts.expressions.Expr as expr;
-    ghost use Rattle.mesh_values.specs.Names.{name_cmp};
+    ghost use Rattle.mesh_base_values.specs.Names.{name_cmp};
     ghost use Rattle.mesh_list.specs.Keyed.{ascends};
     ghost use Rattle.mesh_house.specs.declared.objects.Object.{Object};
     ghost use Rattle.mesh_house.specs.Objects.{are_physical, object_name};

@@ -6,8 +6,8 @@ use crate::copies::{some_copied, table_of};
 use crate::objects::Body;
 use crate::world::World;
 use mesh_base::Input;
+use mesh_base_values::{Columns, Name, has_two_underscores};
 use mesh_list::Memory;
-use mesh_values::{Columns, Name, has_two_underscores};
 
 // What a source keeps.
 fn source_body(source: &Input) -> Result<Option<Body>, Memory>

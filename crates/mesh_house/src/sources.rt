@@ -1,15 +1,15 @@
 // The sources of a warehouse: tables that are loaded, and that no model makes.
 ghost use Rattle.std.specs.Prelude.{◌≡◌, [], true, false, OnOk, OnErr};
 ghost use Rattle.std.specs.Option.{option_copied};
-ghost use Rattle.mesh_values.specs.Names.{name_cmp};
+ghost use Rattle.mesh_base_values.specs.Names.{name_cmp};
 ghost use Rattle.mesh_list.specs.Keyed.{found, placed, ascends};
 ghost use Rattle.mesh_base.specs.Keys.{input_name};
 ghost use Rattle.mesh_house.specs.Objects.{is_physical};
 ghost use Rattle.mesh_house.specs.Sources.{are_plain};
 
 use mesh_base::Input;
+use mesh_base_values::Name;
 use mesh_list::{Duplicate, Memory, Same, Sorted};
-use mesh_values::Name;
 use std::alloc::Global;
 use std::marker::Model;
 

@@ -1,8 +1,8 @@
 // What a change makes of a world.
 ghost use Rattle.std.specs.Prelude.{◌≡◌, [], ◌++◌, true, IfOk, OnOk, OnErr, IsOk, IsTrue};
 ghost use Rattle.std.specs.Option.{option_copied};
-ghost use Rattle.mesh_book.specs.Changes.{at_version, put_snapshot, record_marks, set_pending, delete_snapshot};
-ghost use Rattle.mesh_seconds.specs.Rows.{are_before, rewritten};
+ghost use Rattle.mesh_house_book.specs.Changes.{at_version, put_snapshot, record_marks, set_pending, delete_snapshot};
+ghost use Rattle.mesh_time_days.specs.seconds.Rows.{are_before, rewritten};
 ghost use Rattle.mesh_house.specs.Booked.{booked, put_back};
 ghost use Rattle.mesh_house.specs.Latest.{ends_body, ends_object};
 ghost use Rattle.mesh_house.specs.Objects.{is_physical};
@@ -14,11 +14,11 @@ use crate::objects::{Body, Object, Objects};
 use crate::sources::SourceTables;
 use crate::world::{Change, ViewOf, World};
 use mesh_base::{Input, Marks, Own, Ref, Refs, Snapshot};
-use mesh_book::{Book, Version};
+use mesh_base_values::{Column, Columns, Name, Pairs, Rows, Str, has_two_underscores};
+use mesh_house_book::moves::{forget_units, migrate};
+use mesh_house_book::{Book, Version};
 use mesh_list::{Duplicate, Memory, Seq, Sorted, both, together};
-use mesh_moves::{forget_units, migrate};
-use mesh_seconds::{add, rewrite};
-use mesh_values::{Column, Columns, Name, Pairs, Rows, Str, has_two_underscores};
+use mesh_time_days::seconds::{add, rewrite};
 use std::alloc::Global;
 use std::mem::drop;
 

@@ -1,13 +1,13 @@
 // What a warehouse has, and the changes that can be made to it.
-ghost use Rattle.mesh_values.specs.Names.{name_cmp};
-ghost use Rattle.mesh_values.specs.NameOrder.{names_exact, names_total};
+ghost use Rattle.mesh_base_values.specs.Names.{name_cmp};
+ghost use Rattle.mesh_base_values.specs.NameOrder.{names_exact, names_total};
 
 use crate::objects::Objects;
 use crate::sources::SourceTables;
 use mesh_base::{Forgets, Marks, Own, Refs, Renames, Snapshot};
-use mesh_book::Book;
+use mesh_base_values::{Columns, Name, Pairs, Rows, Str};
+use mesh_house_book::Book;
 use mesh_list::{Keyed, Seq, Sorted};
-use mesh_values::{Columns, Name, Pairs, Rows, Str};
 use std::cmp::Ordering;
 
 /// A view, and the object that it points at.

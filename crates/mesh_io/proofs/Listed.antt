@@ -17,7 +17,7 @@ use Rattle.std.proofs.lemmas.Slice.Eq.{starts_is}
 use Rattle.mesh_list.specs.Keyed.{found, ascends}
 use Rattle.mesh_list.proofs.Ascends.{ascends-placed}
 use Rattle.mesh_list.proofs.Found.{found-placed}
-use Rattle.mesh_values.specs.Names.{text_cmp}
+use Rattle.mesh_base_values.specs.Names.{text_cmp}
 use Rattle.mesh_io.specs.declared.files.File.{File}
 use Rattle.mesh_io.specs.Files.{path_of, content_of, bytes_at, after_slash, below, same_path, with_path, are_ascending, listing}
 

@@ -5,7 +5,7 @@ use Rattle.std.specs.Option.{option_map}
 use Rattle.std.specs.Ordering.{is_eq}
 use Rattle.std.specs.declared.option.Option.{Option}
 use Rattle.mesh_list.specs.Keyed.{found, placed, without, ascends}
-use Rattle.mesh_values.specs.Names.{text_cmp}
+use Rattle.mesh_base_values.specs.Names.{text_cmp}
 use Rattle.mesh_io.specs.declared.files.File.{File}
 
 -- the key that a file is found by

@@ -2,11 +2,11 @@
 ghost use Rattle.std.specs.Prelude.{◌≡◌, ◌++◌, ◌≤◌, IsTrue, length, take, OnOk, OnErr, IfOk};
 ghost use Rattle.std.specs.Option.{option_copied};
 ghost use Rattle.mesh_list.specs.Keyed.{found, placed};
-ghost use Rattle.mesh_values.specs.Names.{text_cmp};
+ghost use Rattle.mesh_base_values.specs.Names.{text_cmp};
 ghost use Rattle.mesh_io.specs.Files.{path_of, after_slash, below, same_path, listing, are_ascending, ListsExactly, are_distinct};
 
+use mesh_base_values::{Str, Strs};
 use mesh_list::{Duplicate, Memory, Same, Seq, both};
-use mesh_values::{Str, Strs};
 use std::alloc::Global;
 use std::cmp::Ordering;
 use std::mem;

@@ -10,8 +10,8 @@ use crate::calls::{Calls, Numbers};
 use crate::fails::IoFail;
 use crate::files::{File, Files, compare, find_file, first_bytes, list_below};
 use crate::outside::Folder;
+use mesh_base_values::{Str, Strs};
 use mesh_list::{Memory, Seq};
-use mesh_values::{Str, Strs};
 use std::alloc::Global;
 use std::marker::Model;
 

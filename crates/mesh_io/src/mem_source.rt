@@ -8,7 +8,7 @@ use crate::calls::{Calls, Numbers};
 use crate::fails::IoFail;
 use crate::files::first_bytes;
 use crate::outside::Source;
-use mesh_values::Str;
+use mesh_base_values::Str;
 use std::alloc::Global;
 use std::marker::Model;
 

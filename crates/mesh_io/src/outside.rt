@@ -5,7 +5,7 @@ ghost use Rattle.mesh_io.specs.Files.{bytes_at, listing};
 ghost use Rattle.mesh_io.specs.Told.{FolderTold, FolderAnswers, ClockTold, ClockAnswers, SourceTold, SourceTakes, SinkTold, SinkPuts};
 
 use crate::fails::IoFail;
-use mesh_values::{Str, Strs};
+use mesh_base_values::{Str, Strs};
 use std::alloc::Global;
 
 /// A folder of files, which a program only reads.

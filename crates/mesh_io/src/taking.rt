@@ -5,8 +5,8 @@ ghost use Rattle.mesh_io.specs.Told.{SourceGives, CountsFaults};
 
 use crate::fails::IoFail;
 use crate::outside::Source;
+use mesh_base_values::Str;
 use mesh_list::Seq;
-use mesh_values::Str;
 use std::alloc::Global;
 
 /// The first `most` bytes that the source has left, or all of them where they are fewer. It is asked at most `most`

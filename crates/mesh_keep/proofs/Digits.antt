@@ -7,7 +7,7 @@ use Rattle.std.proofs.Math.ListN.{get_or-eq_default}
 use Rattle.hex.specs.Hex.{encode_lower, encode_with, hex_digit_value, lower_digits}
 use Rattle.hex.proofs.HexLemmas.{IsDigits-lower_digits}
 use Rattle.mesh_canon_reading.proofs.Exact.{some_is}
-use Rattle.mesh_record_text.proofs.Words.{cons_is}
+use Rattle.mesh_keep_records.proofs.Words.{cons_is}
 
 no_digit : (a : ℕ) → 16 ≤ a → slice_index lower_digits a ≡ 0
 no_digit a h = get_or-eq_default lower_digits 0 {n = a} h

@@ -6,23 +6,23 @@ use Rattle.std.specs.Fmt.{decimal, signed_decimal}
 use Rattle.std.proofs.lemmas.Bool.{and_parts, lt-ltb, ltb-true}
 use Rattle.std.proofs.lemmas.List.{length-append}
 use Rattle.hex.specs.Hex.{encode_lower}
-use Rattle.mesh_values.specs.declared.values.Name.{Name}
+use Rattle.mesh_base_values.specs.declared.values.Name.{Name}
 use Rattle.mesh_base.specs.declared.snapshots.Env.{Env}
 use Rattle.mesh_base.specs.declared.snapshots.Ref.{Ref}
 use Rattle.mesh_base.specs.declared.snapshots.Snapshot.{Snapshot}
 use Rattle.mesh_base.specs.declared.jobs.Input.{Input}
-use Rattle.mesh_book.specs.declared.versions.Version.{Version}
+use Rattle.mesh_house_book.specs.declared.versions.Version.{Version}
 use Rattle.mesh_house.specs.declared.objects.Object.{Object}
 use Rattle.mesh_house.specs.declared.world.ViewOf.{ViewOf}
 use Rattle.mesh_canon_text.specs.Text.{list_of, list_text, members, spaced, text_of}
 use Rattle.mesh_canon_reading.specs.Fits.{is_own, text_fits}
 use Rattle.mesh_canon_reading.proofs.Lists.{spaced_one}
-use Rattle.mesh_record_text.specs.Keys.{env_key, snapshot_key, thing_key}
-use Rattle.mesh_record_text.specs.Parts.{bool_word, is_digest}
-use Rattle.mesh_record_text.specs.Records.{each_text, name_list, option_list, ref_list, snapshot_fits}
-use Rattle.mesh_record_text.proofs.Inside.{parts_fit}
-use Rattle.mesh_record_text.proofs.Tells.{first_fits, name_tells, same_parts, three_parts}
-use Rattle.mesh_record_text.proofs.Words.{cons_is}
+use Rattle.mesh_keep_records.specs.Keys.{env_key, snapshot_key, thing_key}
+use Rattle.mesh_keep_records.specs.Parts.{bool_word, is_digest}
+use Rattle.mesh_keep_records.specs.Records.{each_text, name_list, option_list, ref_list, snapshot_fits}
+use Rattle.mesh_keep_records.proofs.Inside.{parts_fit}
+use Rattle.mesh_keep_records.proofs.Tells.{first_fits, name_tells, same_parts, three_parts}
+use Rattle.mesh_keep_records.proofs.Words.{cons_is}
 use Rattle.mesh_keep.specs.Holds.{IsEnv, IsObject, IsSnapshot, IsSource, IsVersion, IsView}
 use Rattle.mesh_keep.proofs.Digits.{digits_one}
 

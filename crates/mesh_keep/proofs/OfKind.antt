@@ -11,7 +11,7 @@ use Rattle.std.proofs.lemmas.Cmp.{nat_cmp_total, tied_itself}
 use Rattle.mesh_list.specs.Keyed.{ascends, below_first, found}
 use Rattle.mesh_list.proofs.Ascends.{and_both, and_left, and_right}
 use Rattle.mesh_list.proofs.Each.{below_later, lt_is}
-use Rattle.mesh_values.specs.Names.{text_cmp}
+use Rattle.mesh_base_values.specs.Names.{text_cmp}
 use Rattle.mesh_keep.specs.declared.kept.Kept.{Kept}
 use Rattle.mesh_keep.specs.declared.kept.Place.{Place}
 use Rattle.mesh_keep.specs.declared.kept.Record.{Record}

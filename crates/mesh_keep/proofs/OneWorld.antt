@@ -3,19 +3,19 @@ use Rattle.std.proofs.Common.{◌≡◌, ℕ, true, List, Some, None, refl, ap}
 use Rattle.std.specs.declared.option.Option.{Option}
 use Rattle.std.proofs.lemmas.Map.Lookups.{exact_bytes}
 use Rattle.mesh_list.specs.Keyed.{found}
-use Rattle.mesh_values.specs.Names.{name_cmp, text_cmp}
-use Rattle.mesh_values.specs.NameOrder.{names_exact, names_total, texts_total}
+use Rattle.mesh_base_values.specs.Names.{name_cmp, text_cmp}
+use Rattle.mesh_base_values.specs.NameOrder.{names_exact, names_total, texts_total}
 use Rattle.mesh_base.specs.Keys.{env_name, input_name, ref_cmp, refs_exact, refs_total, snapshot_ref}
-use Rattle.mesh_book.specs.Changes.{version_object}
-use Rattle.mesh_moves.proofs.Sorting.{one_list}
+use Rattle.mesh_house_book.specs.Changes.{version_object}
+use Rattle.mesh_house_book.proofs.moves.Sorting.{one_list}
 use Rattle.mesh_house.specs.declared.world.World.{World}
 use Rattle.mesh_house.specs.Objects.{object_name}
 use Rattle.mesh_house.specs.World.{view_name}
 use Rattle.mesh_canon_reading.specs.Fits.{text_fits}
 use Rattle.mesh_canon_reading.proofs.Exact.{some_is}
-use Rattle.mesh_record_text.specs.declared.book_records.BookHead.{BookHead}
-use Rattle.mesh_record_text.specs.Keys.{env_key, head_key, snapshot_key, thing_key}
-use Rattle.mesh_record_text.proofs.Things.{env_tells, head_tells, object_tells, snapshot_tells, source_tells, version_tells, view_tells}
+use Rattle.mesh_keep_records.specs.declared.book_records.BookHead.{BookHead}
+use Rattle.mesh_keep_records.specs.Keys.{env_key, head_key, snapshot_key, thing_key}
+use Rattle.mesh_keep_records.proofs.Things.{env_tells, head_tells, object_tells, snapshot_tells, source_tells, version_tells, view_tells}
 use Rattle.mesh_keep.specs.declared.kept.Kept.{Kept}
 use Rattle.mesh_keep.specs.Places.{body_at}
 use Rattle.mesh_keep.specs.Holds.{Holds, IsEnv, IsHead, IsObject, IsSnapshot, IsSource, IsVersion, IsView, Keeps, Knows, head_of}

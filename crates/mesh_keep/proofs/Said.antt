@@ -5,17 +5,17 @@ use Rattle.std.specs.List.{list_all}
 use Rattle.std.specs.declared.option.Option.{Option}
 use Rattle.std.proofs.lemmas.Map.Lookups.{exact_bytes}
 use Rattle.mesh_list.specs.Keyed.{ascends}
-use Rattle.mesh_values.specs.declared.values.Name.{Name}
-use Rattle.mesh_values.specs.Names.{name_cmp, text_cmp}
-use Rattle.mesh_values.specs.NameOrder.{names_exact, names_total, texts_total}
+use Rattle.mesh_base_values.specs.declared.values.Name.{Name}
+use Rattle.mesh_base_values.specs.Names.{name_cmp, text_cmp}
+use Rattle.mesh_base_values.specs.NameOrder.{names_exact, names_total, texts_total}
 use Rattle.mesh_base.specs.declared.jobs.Input.{Input}
 use Rattle.mesh_base.specs.declared.snapshots.Env.{Env}
 use Rattle.mesh_base.specs.declared.snapshots.Ref.{Ref}
 use Rattle.mesh_base.specs.declared.snapshots.Snapshot.{Snapshot}
 use Rattle.mesh_base.specs.Keys.{env_name, input_name, ref_cmp, refs_exact, refs_total, snapshot_ref}
-use Rattle.mesh_book.specs.declared.book.Book.{Book}
-use Rattle.mesh_book.specs.declared.versions.Version.{Version}
-use Rattle.mesh_book.specs.Changes.{version_object}
+use Rattle.mesh_house_book.specs.declared.book.Book.{Book}
+use Rattle.mesh_house_book.specs.declared.versions.Version.{Version}
+use Rattle.mesh_house_book.specs.Changes.{version_object}
 use Rattle.mesh_house.specs.declared.objects.Object.{Object}
 use Rattle.mesh_house.specs.declared.world.ViewOf.{ViewOf}
 use Rattle.mesh_house.specs.declared.world.World.{World}
@@ -24,10 +24,10 @@ use Rattle.mesh_house.specs.World.{view_name}
 use Rattle.mesh_canon_words.specs.Words.{◌>>=◌}
 use Rattle.mesh_canon_reading.proofs.Exact.{some_is}
 use Rattle.mesh_canon_reading.proofs.Steps.{bound}
-use Rattle.mesh_record_text.specs.declared.book_records.BookHead.{BookHead}
-use Rattle.mesh_record_text.specs.Keys.{env_key, head_key, snapshot_key, thing_key}
-use Rattle.mesh_record_reading.specs.Reading.{env_in, head_in, object_in, snapshot_in, source_in, version_in, view_in}
-use Rattle.mesh_record_reading.proofs.Read.{env_read, head_read, object_read, snapshot_read, source_read, version_read, view_read}
+use Rattle.mesh_keep_records.specs.declared.book_records.BookHead.{BookHead}
+use Rattle.mesh_keep_records.specs.Keys.{env_key, head_key, snapshot_key, thing_key}
+use Rattle.mesh_keep_records.specs.reading.Reading.{env_in, head_in, object_in, snapshot_in, source_in, version_in, view_in}
+use Rattle.mesh_keep_records.proofs.reading.Read.{env_read, head_read, object_read, snapshot_read, source_read, version_read, view_read}
 use Rattle.mesh_keep.specs.declared.kept.Kept.{Kept}
 use Rattle.mesh_keep.specs.Holds.{Holds, IsEnv, IsHead, IsKey, IsListed, IsObject, IsSnapshot, IsSource, IsVersion, IsView, Keeps, Knows, all_known, head_of}
 use Rattle.mesh_keep.specs.Places.{body_at, kept_place, place_cmp}

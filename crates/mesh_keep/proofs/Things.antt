@@ -12,10 +12,10 @@ use Rattle.mesh_list.specs.Keyed.{ascends, below_first, found, placed}
 use Rattle.mesh_list.proofs.Ascends.{and_both, and_left, and_right, ascends-placed}
 use Rattle.mesh_list.proofs.Each.{each_found, found-behind}
 use Rattle.mesh_list.proofs.Found.{found-placed}
-use Rattle.mesh_values.specs.Names.{text_cmp}
-use Rattle.mesh_values.specs.NameOrder.{texts_total}
-use Rattle.mesh_values.specs.Picked.{same_text}
-use Rattle.mesh_moves.proofs.Sorting.{one_list}
+use Rattle.mesh_base_values.specs.Names.{text_cmp}
+use Rattle.mesh_base_values.specs.NameOrder.{texts_total}
+use Rattle.mesh_base_values.specs.Picked.{same_text}
+use Rattle.mesh_house_book.proofs.moves.Sorting.{one_list}
 use Rattle.mesh_house.proofs.Tested.{all-placed}
 use Rattle.mesh_canon_reading.specs.Fits.{text_fits}
 use Rattle.mesh_canon_reading.proofs.Exact.{some_is}

@@ -4,17 +4,17 @@ use Rattle.std.specs.Prelude.{◌≡◌, ◌⊎◌, ◌≤◌, ◌==◌, ◌&&�
 use Rattle.std.specs.List.{list_all}
 use Rattle.std.specs.declared.option.Option.{Option}
 use Rattle.mesh_list.specs.Keyed.{ascends, found}
-use Rattle.mesh_values.specs.declared.values.Name.{Name}
-use Rattle.mesh_values.specs.Names.{name_cmp, text_cmp}
-use Rattle.mesh_values.specs.Picked.{same_text}
+use Rattle.mesh_base_values.specs.declared.values.Name.{Name}
+use Rattle.mesh_base_values.specs.Names.{name_cmp, text_cmp}
+use Rattle.mesh_base_values.specs.Picked.{same_text}
 use Rattle.mesh_base.specs.declared.jobs.Input.{Input}
 use Rattle.mesh_base.specs.declared.snapshots.Env.{Env}
 use Rattle.mesh_base.specs.declared.snapshots.Ref.{Ref}
 use Rattle.mesh_base.specs.declared.snapshots.Snapshot.{Snapshot}
 use Rattle.mesh_base.specs.Keys.{env_name, input_name, ref_cmp, snapshot_ref}
-use Rattle.mesh_book.specs.declared.book.Book.{Book}
-use Rattle.mesh_book.specs.declared.versions.Version.{Version}
-use Rattle.mesh_book.specs.Changes.{version_object}
+use Rattle.mesh_house_book.specs.declared.book.Book.{Book}
+use Rattle.mesh_house_book.specs.declared.versions.Version.{Version}
+use Rattle.mesh_house_book.specs.Changes.{version_object}
 use Rattle.mesh_house.specs.declared.objects.Object.{Object}
 use Rattle.mesh_house.specs.declared.world.ViewOf.{ViewOf}
 use Rattle.mesh_house.specs.declared.world.World.{World}
@@ -22,9 +22,9 @@ use Rattle.mesh_house.specs.Objects.{are_physical, object_name}
 use Rattle.mesh_house.specs.Sources.{are_plain}
 use Rattle.mesh_house.specs.World.{view_name}
 use Rattle.mesh_canon_reading.specs.Fits.{text_fits}
-use Rattle.mesh_record_text.specs.declared.book_records.BookHead.{BookHead}
-use Rattle.mesh_record_text.specs.Keys.{env_key, head_key, snapshot_key, thing_key}
-use Rattle.mesh_record_text.specs.Records.{IsObjectText, IsSnapshotText, env_fits, env_text, head_fits, head_text, object_fits, snapshot_fits, source_fits, source_text, version_fits, version_text, view_text}
+use Rattle.mesh_keep_records.specs.declared.book_records.BookHead.{BookHead}
+use Rattle.mesh_keep_records.specs.Keys.{env_key, head_key, snapshot_key, thing_key}
+use Rattle.mesh_keep_records.specs.Records.{IsObjectText, IsSnapshotText, env_fits, env_text, head_fits, head_text, object_fits, snapshot_fits, source_fits, source_text, version_fits, version_text, view_text}
 use Rattle.mesh_keep.specs.declared.kept.Kept.{Kept}
 use Rattle.mesh_keep.specs.Places.{body_at}
 

@@ -8,8 +8,8 @@ use Rattle.std.specs.Cmp.{IsTotalOrder}
 use Rattle.std.proofs.lemmas.Cmp.{nat_cmp_total, on_total, then_total}
 use Rattle.std.proofs.lemmas.Map.Lookups.{CmpEqualImpliesEq, exact_bytes, exact_unsigned}
 use Rattle.mesh_list.specs.Keyed.{found, placed, without}
-use Rattle.mesh_values.specs.Names.{text_cmp}
-use Rattle.mesh_values.specs.NameOrder.{texts_total, then_equal}
+use Rattle.mesh_base_values.specs.Names.{text_cmp}
+use Rattle.mesh_base_values.specs.NameOrder.{texts_total, then_equal}
 use Rattle.mesh_keep.specs.declared.kept.Kept.{Kept}
 use Rattle.mesh_keep.specs.declared.kept.Place.{Place}
 use Rattle.mesh_keep.specs.declared.kept.Record.{Record}

@@ -3,24 +3,24 @@ use Rattle.std.specs.Prelude.{ℕ, Bool, true, ◌&&◌, not, List, [], ◌∷�
 use Rattle.std.specs.declared.option.Option.{Option}
 use Rattle.std.specs.declared.cmp.Ordering.{Ordering}
 use Rattle.mesh_list.specs.Keyed.{placed}
-use Rattle.mesh_values.specs.Names.{name_cmp, text_cmp}
-use Rattle.mesh_values.specs.Picked.{same_text}
+use Rattle.mesh_base_values.specs.Names.{name_cmp, text_cmp}
+use Rattle.mesh_base_values.specs.Picked.{same_text}
 use Rattle.mesh_base.specs.declared.jobs.Input.{Input}
 use Rattle.mesh_base.specs.declared.snapshots.Env.{Env}
 use Rattle.mesh_base.specs.declared.snapshots.Snapshot.{Snapshot}
 use Rattle.mesh_base.specs.Keys.{env_name, input_name, ref_cmp, snapshot_ref}
-use Rattle.mesh_book.specs.declared.book.Book.{Book}
-use Rattle.mesh_book.specs.declared.versions.Version.{Version}
-use Rattle.mesh_book.specs.Changes.{version_object}
+use Rattle.mesh_house_book.specs.declared.book.Book.{Book}
+use Rattle.mesh_house_book.specs.declared.versions.Version.{Version}
+use Rattle.mesh_house_book.specs.Changes.{version_object}
 use Rattle.mesh_house.specs.declared.objects.Object.{Object}
 use Rattle.mesh_house.specs.declared.world.ViewOf.{ViewOf}
 use Rattle.mesh_house.specs.declared.world.World.{World}
 use Rattle.mesh_house.specs.Objects.{is_physical, object_name}
 use Rattle.mesh_house.specs.World.{view_name}
 use Rattle.mesh_canon_words.specs.Words.{◌>>=◌}
-use Rattle.mesh_record_text.specs.declared.book_records.BookHead.{BookHead}
-use Rattle.mesh_record_text.specs.Keys.{env_key, head_key, snapshot_key, thing_key}
-use Rattle.mesh_record_reading.specs.Reading.{env_in, head_in, object_in, snapshot_in, source_in, version_in, view_in}
+use Rattle.mesh_keep_records.specs.declared.book_records.BookHead.{BookHead}
+use Rattle.mesh_keep_records.specs.Keys.{env_key, head_key, snapshot_key, thing_key}
+use Rattle.mesh_keep_records.specs.reading.Reading.{env_in, head_in, object_in, snapshot_in, source_in, version_in, view_in}
 use Rattle.mesh_keep.specs.declared.kept.Kept.{Kept}
 use Rattle.mesh_keep.specs.declared.kept.Record.{Record}
 use Rattle.mesh_keep.specs.Holds.{all_known}

@@ -5,8 +5,8 @@ ghost use Rattle.mesh_keep.specs.Keeping.{KeeperTold, Looks, Writing};
 ghost use Rattle.mesh_keep.specs.Places.{body_at, records_of};
 
 use crate::kept::{Records, Writes};
+use mesh_base_values::Str;
 use mesh_list::Memory;
-use mesh_values::Str;
 use std::alloc::Global;
 
 /// Why a call of a keeper stopped.

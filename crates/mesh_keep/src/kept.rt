@@ -2,8 +2,8 @@
 ghost use Rattle.std.specs.Prelude.{◌≡◌, IfOk};
 ghost use Rattle.mesh_keep.specs.Places.{as_record, kept_place, place_cmp, places_exact, places_total};
 
+use mesh_base_values::Str;
 use mesh_list::{Duplicate, Keyed, Memory, Seq, both};
-use mesh_values::Str;
 use std::cmp::Ordering;
 
 /// Where a record is kept.

@@ -2,8 +2,8 @@
 //! the relation between records and the world that they hold. Its contract: a keeper that tells its records tells them in
 //! order, answers what they are and makes all of a list of writes or none of it; records hold one world at most; and they
 //! hold a world exactly where it is the one that they say, which `specs/Said.antt` makes a function of them. It stands on
-//! `mesh_list`, `mesh_values`, `mesh_base`, `mesh_book`, `mesh_moves`, `mesh_house`, `mesh_canon_text`, `mesh_canon_words`,
-//! `mesh_canon_reading`, `mesh_record_text`, `mesh_record_reading` and `hex`.
+//! `mesh_list`, `mesh_base_values`, `mesh_base`, `mesh_house_book`, `mesh_house_book::moves`, `mesh_house`, `mesh_canon_text`, `mesh_canon_words`,
+//! `mesh_canon_reading`, `mesh_keep_records`, `mesh_keep_records::reading` and `hex`.
 #![tactic(auto)]
 
 mod fails;

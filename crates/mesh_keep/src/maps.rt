@@ -9,9 +9,9 @@ use crate::fails::{look_fails, write_fails};
 use crate::keeper::{KeepFail, Keeper};
 use crate::kept::{Kept, Place, Records, Writes};
 use crate::writing::{records_of, written};
+use mesh_base_values::Str;
 use mesh_house::Fails;
 use mesh_list::{Duplicate, Sorted};
-use mesh_values::Str;
 use std::alloc::Global;
 
 /// Records in memory.

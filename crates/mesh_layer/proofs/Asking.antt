@@ -2,18 +2,18 @@
 use Rattle.std.proofs.Common.{◌≡◌, ℕ, List, map, Some, None, Ok, Err, Result, IsTrue, refl, ap}
 use Rattle.std.specs.Option.{option_map, option_and_then}
 use Rattle.std.specs.declared.option.Option.{Option}
-use Rattle.mesh_values.specs.declared.values.Name.{Name}
+use Rattle.mesh_base_values.specs.declared.values.Name.{Name}
 use Rattle.mesh_base.specs.declared.jobs.Input.{Input}
 use Rattle.mesh_base.specs.declared.queries.Query.{Query}
-use Rattle.mesh_book.specs.declared.book.Book.{Book}
-use Rattle.mesh_meaning.specs.Sel.{Sel}
-use Rattle.mesh_scratch.specs.Scratch.{no_bounds}
+use Rattle.mesh_house_book.specs.declared.book.Book.{Book}
+use Rattle.mesh_spec_query.specs.Sel.{Sel}
+use Rattle.mesh_spec_model.specs.Scratch.{no_bounds}
 use Rattle.mesh_house.specs.declared.world.World.{World}
 use Rattle.mesh_house.specs.House.{Told}
 use Rattle.mesh_house.specs.Sources.{are_plain}
 use Rattle.mesh_house.specs.World.{view}
-use Rattle.mesh_shown.specs.Shown.{each_there, object_rows}
-use Rattle.mesh_changes.specs.Environments.{view_in}
+use Rattle.mesh_spec_changes.specs.shown.Shown.{each_there, object_rows}
+use Rattle.mesh_spec_changes.specs.Environments.{view_in}
 use Rattle.mesh_layer.specs.declared.faults.ShowFault.{ShowFault}
 use Rattle.mesh_layer.specs.Asked.{asked, asked_models, lost_asked, lost_model, lost_table, lost_view, shown_behind, shown_view, table_behind, view_table}
 use Rattle.mesh_layer.specs.Lost.{first_of, lost_object}

@@ -3,24 +3,24 @@ use Rattle.std.proofs.Common.{◌≡◌, ◌≢◌, ℕ, zero, suc, ◌+◌, ◌
 use Rattle.std.proofs.lemmas.List.{take_more}
 use Rattle.std.specs.Option.{option_map, option_and_then}
 use Rattle.std.specs.declared.option.Option.{Option}
-use Rattle.mesh_values.specs.declared.values.Cell.{Cell}
-use Rattle.mesh_values.specs.declared.values.Column.{Column}
-use Rattle.mesh_values.specs.declared.values.Name.{Name}
-use Rattle.mesh_values.specs.declared.values.Pair.{Pair}
+use Rattle.mesh_base_values.specs.declared.values.Cell.{Cell}
+use Rattle.mesh_base_values.specs.declared.values.Column.{Column}
+use Rattle.mesh_base_values.specs.declared.values.Name.{Name}
+use Rattle.mesh_base_values.specs.declared.values.Pair.{Pair}
 use Rattle.mesh_base.specs.declared.jobs.Input.{Input}
 use Rattle.mesh_base.specs.declared.definitions.Defn.{Defn}
 use Rattle.mesh_base.specs.declared.definitions.Defn.TheVariants.{Seed, Sql}
 use Rattle.mesh_base.specs.declared.definitions.Own.{Own}
 use Rattle.mesh_base.specs.declared.queries.Query.{Query}
-use Rattle.mesh_rules.specs.Seen.{or_no_columns}
-use Rattle.mesh_meaning.specs.Sel.{Sel}
-use Rattle.mesh_scratch.specs.Sources.{inputs}
-use Rattle.mesh_scratch.specs.Scratch.{no_bounds}
+use Rattle.mesh_base.specs.rules.Seen.{or_no_columns}
+use Rattle.mesh_spec_query.specs.Sel.{Sel}
+use Rattle.mesh_spec_model.specs.Sources.{inputs}
+use Rattle.mesh_spec_model.specs.Scratch.{no_bounds}
 use Rattle.mesh_house.specs.declared.objects.Body.{Body}
 use Rattle.mesh_house.specs.declared.objects.Body.TheVariants.{Rows, Stored}
 use Rattle.mesh_house.specs.declared.world.World.{World}
 use Rattle.mesh_house.specs.World.{object_at, body_of, columns_of, rows_of}
-use Rattle.mesh_shown.specs.Shown.{body_rows, each_there, is_query_there, rows_through, stored_relations, stored_rows, target_table}
+use Rattle.mesh_spec_changes.specs.shown.Shown.{body_rows, each_there, is_query_there, rows_through, stored_relations, stored_rows, target_table}
 use Rattle.mesh_layer.specs.declared.known.Found.{Found}
 use Rattle.mesh_layer.specs.Lost.{first_of, lost_behind, lost_among_tables, lost_in, lost_through, stored_query}
 use Rattle.mesh_layer.specs.Read.{IsFound, body_through}

@@ -4,14 +4,14 @@ use Rattle.std.specs.Prelude.{◌||◌}
 use Rattle.std.specs.Option.{is_some, option_map}
 use Rattle.std.specs.Ordering.{is_eq}
 use Rattle.std.specs.declared.option.Option.{Option}
-use Rattle.mesh_values.specs.declared.values.Column.{Column}
-use Rattle.mesh_values.specs.declared.values.Name.{Name}
-use Rattle.mesh_values.specs.declared.values.Pair.{Pair}
-use Rattle.mesh_values.specs.Names.{name_cmp}
+use Rattle.mesh_base_values.specs.declared.values.Column.{Column}
+use Rattle.mesh_base_values.specs.declared.values.Name.{Name}
+use Rattle.mesh_base_values.specs.declared.values.Pair.{Pair}
+use Rattle.mesh_base_values.specs.Names.{name_cmp}
 use Rattle.mesh_base.specs.declared.definitions.Decl.{Decl}
 use Rattle.mesh_base.specs.declared.definitions.Own.{Own}
-use Rattle.mesh_rules.specs.Relations.{is_declared, relation_columns, source_relation}
-use Rattle.mesh_shown.specs.Shown.{stored_relations, target_relation}
+use Rattle.mesh_base.specs.rules.Relations.{is_declared, relation_columns, source_relation}
+use Rattle.mesh_spec_changes.specs.shown.Shown.{stored_relations, target_relation}
 use Rattle.mesh_layer.specs.Read.{is_target}
 
 either : (b : Bool) (c : List Column) (o : Option (List Column)) (rest : Bool) → is_some o ≡ rest → is_some (cond b (Some c) o) ≡ (b || rest)

@@ -3,22 +3,22 @@ use Rattle.std.specs.Prelude.{ℕ, List, [], map, Some, None}
 use Rattle.std.specs.List.{filter}
 use Rattle.std.specs.Option.{option_map, option_and_then}
 use Rattle.std.specs.declared.option.Option.{Option}
-use Rattle.mesh_values.specs.declared.values.Cell.{Cell}
-use Rattle.mesh_values.specs.declared.values.Name.{Name}
+use Rattle.mesh_base_values.specs.declared.values.Cell.{Cell}
+use Rattle.mesh_base_values.specs.declared.values.Name.{Name}
 use Rattle.mesh_base.specs.Keys.{ref_name}
 use Rattle.mesh_base.specs.declared.definitions.Defn.TheVariants.{Sql}
 use Rattle.mesh_base.specs.declared.jobs.Input.{Input}
 use Rattle.mesh_base.specs.declared.queries.Query.{Query}
 use Rattle.mesh_base.specs.declared.snapshots.Env.{Env}
 use Rattle.mesh_base.specs.declared.snapshots.Ref.{Ref}
-use Rattle.mesh_book.specs.declared.book.Book.{Book}
-use Rattle.mesh_rules.specs.Proper.{defn_names, is_among}
-use Rattle.mesh_meaning.specs.Sel.{Sel}
-use Rattle.mesh_scratch.specs.Scratch.{no_bounds}
+use Rattle.mesh_house_book.specs.declared.book.Book.{Book}
+use Rattle.mesh_base.specs.rules.Proper.{defn_names, is_among}
+use Rattle.mesh_spec_query.specs.Sel.{Sel}
+use Rattle.mesh_spec_model.specs.Scratch.{no_bounds}
 use Rattle.mesh_house.specs.declared.world.World.{World}
 use Rattle.mesh_house.specs.World.{view}
-use Rattle.mesh_shown.specs.Shown.{each_there, object_rows, target_table}
-use Rattle.mesh_changes.specs.Environments.{env_at, view_in}
+use Rattle.mesh_spec_changes.specs.shown.Shown.{each_there, object_rows, target_table}
+use Rattle.mesh_spec_changes.specs.Environments.{env_at, view_in}
 use Rattle.mesh_layer.specs.Lost.{first_of, lost_object}
 
 -- what the object of that name shows, where there is one to look at

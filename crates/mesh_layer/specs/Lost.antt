@@ -2,8 +2,8 @@
 -- there, or that stands behind too many stored queries. A stored query is judged before its targets, which come in order.
 use Rattle.std.specs.Prelude.{ℕ, zero, suc, if◌then◌else◌, List, [], ◌∷◌, map, Some, None}
 use Rattle.std.specs.declared.option.Option.{Option}
-use Rattle.mesh_values.specs.declared.values.Name.{Name}
-use Rattle.mesh_values.specs.declared.values.Pair.{Pair}
+use Rattle.mesh_base_values.specs.declared.values.Name.{Name}
+use Rattle.mesh_base_values.specs.declared.values.Pair.{Pair}
 use Rattle.mesh_base.specs.declared.definitions.Defn.{Defn}
 use Rattle.mesh_base.specs.declared.definitions.Defn.TheVariants.{Seed, Sql}
 use Rattle.mesh_base.specs.declared.definitions.Own.{Own}
@@ -12,7 +12,7 @@ use Rattle.mesh_house.specs.declared.objects.Body.{Body}
 use Rattle.mesh_house.specs.declared.objects.Body.TheVariants.{Rows, Stored}
 use Rattle.mesh_house.specs.declared.world.World.{World}
 use Rattle.mesh_house.specs.World.{object_at, body_of}
-use Rattle.mesh_shown.specs.Shown.{is_query_there, stored_relations}
+use Rattle.mesh_spec_changes.specs.shown.Shown.{is_query_there, stored_relations}
 
 -- the query of a stored definition, where all that it names is there
 abbrev pub stored_query : Own → List Pair → Defn → Option Query

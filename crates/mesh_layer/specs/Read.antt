@@ -4,20 +4,20 @@ use Rattle.std.specs.List.{list_any}
 use Rattle.std.specs.Ordering.{is_eq}
 use Rattle.std.specs.declared.option.Option.{Option}
 use Rattle.mesh_list.specs.Keyed.{found}
-use Rattle.mesh_values.specs.declared.values.Cell.{Cell}
-use Rattle.mesh_values.specs.declared.values.Column.{Column}
-use Rattle.mesh_values.specs.declared.values.Name.{Name}
-use Rattle.mesh_values.specs.declared.values.Pair.{Pair}
-use Rattle.mesh_values.specs.Names.{name_cmp}
-use Rattle.mesh_values.specs.Picked.{picked_rows}
-use Rattle.mesh_rules.specs.Seen.{or_no_columns}
-use Rattle.mesh_scratch.specs.Sources.{has_shape}
+use Rattle.mesh_base_values.specs.declared.values.Cell.{Cell}
+use Rattle.mesh_base_values.specs.declared.values.Column.{Column}
+use Rattle.mesh_base_values.specs.declared.values.Name.{Name}
+use Rattle.mesh_base_values.specs.declared.values.Pair.{Pair}
+use Rattle.mesh_base_values.specs.Names.{name_cmp}
+use Rattle.mesh_base_values.specs.Picked.{picked_rows}
+use Rattle.mesh_base.specs.rules.Seen.{or_no_columns}
+use Rattle.mesh_spec_model.specs.Sources.{has_shape}
 use Rattle.mesh_house.specs.declared.objects.Body.{Body}
 use Rattle.mesh_house.specs.declared.objects.Body.TheVariants as body
 use Rattle.mesh_house.specs.declared.world.World.{World}
 use Rattle.mesh_house.specs.Sources.{are_plain}
 use Rattle.mesh_house.specs.World.{object_at, columns_of, rows_of}
-use Rattle.mesh_shown.specs.Shown.{body_rows, rows_through}
+use Rattle.mesh_spec_changes.specs.shown.Shown.{body_rows, rows_through}
 use Rattle.mesh_layer.specs.declared.kept.Kept.{Kept}
 use Rattle.mesh_layer.specs.declared.kept.Kept.TheVariants as kept
 use Rattle.mesh_layer.specs.declared.known.Entry.{Entry}

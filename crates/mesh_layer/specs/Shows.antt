@@ -2,7 +2,7 @@
 use Rattle.std.specs.Prelude.{◌≡◌, ◌≤◌, IsTrue, Some, None, Result, IfOk, IsErrOf}
 use Rattle.std.specs.declared.option.Option.{Option}
 use Rattle.mesh_list.specs.Counts.{Rose}
-use Rattle.mesh_values.specs.declared.values.Name.{Name}
+use Rattle.mesh_base_values.specs.declared.values.Name.{Name}
 use Rattle.mesh_house.specs.declared.house.WhFail.{WhFail}
 use Rattle.mesh_house.specs.declared.house.WhFail.TheVariants as house
 use Rattle.mesh_house.specs.declared.world.World.{World}

@@ -3,9 +3,9 @@ ghost use Rattle.std.specs.Prelude.{◌≡◌, ◌⊎◌};
 ghost use Rattle.mesh_layer.specs.Shows.{of_house};
 ghost use Rattle.mesh_layer.specs.declared.faults.ShowFault.TheVariants as fault;
 
+use mesh_base_values::Name;
 use mesh_house::WhFail;
 use mesh_list::{Duplicate, Memory};
-use mesh_values::Name;
 
 /// An object or a view dangles, the warehouse failed, or memory ran out.
 #[derive(Drop)]

@@ -1,8 +1,8 @@
 // What a warehouse keeps under a name, read so that little of it lies on the stack.
 ghost use Rattle.std.specs.Prelude.{◌≡◌, IfOk, List, Some, None};
 ghost use Rattle.std.specs.Option.{option_copied, option_map};
-ghost use Rattle.mesh_values.specs.declared.values.Cell.{Cell};
-ghost use Rattle.mesh_values.specs.declared.values.Column.{Column};
+ghost use Rattle.mesh_base_values.specs.declared.values.Cell.{Cell};
+ghost use Rattle.mesh_base_values.specs.declared.values.Column.{Column};
 ghost use Rattle.mesh_house.specs.declared.objects.Body.TheVariants as body;
 ghost use Rattle.mesh_house.specs.House.{Reads};
 ghost use Rattle.mesh_house.specs.World.{body, body_of, head, object_at, rows_of};
@@ -10,9 +10,9 @@ ghost use Rattle.mesh_layer.specs.declared.kept.Kept.TheVariants as kept;
 ghost use Rattle.mesh_layer.specs.Read.{kept_of, read_rows};
 
 use crate::sources::read_rows;
+use mesh_base_values::{Column, Name, Rows, has_two_underscores};
 use mesh_house::{Body, Warehouse, WhFail};
 use mesh_list::{Boxed, Memory, Seq};
-use mesh_values::{Column, Name, Rows, has_two_underscores};
 use std::alloc::Global;
 
 /// The rows of a table, or the body of a stored query in a box.

@@ -1,12 +1,12 @@
 // The objects whose rows are known, so that each is computed once.
 ghost use Rattle.std.specs.Prelude.{◌≡◌, ◌≤◌, [], IfOk, IfSome, OnOk};
-ghost use Rattle.mesh_values.specs.Names.{name_cmp};
-ghost use Rattle.mesh_values.specs.NameOrder.{names_exact, names_total};
+ghost use Rattle.mesh_base_values.specs.Names.{name_cmp};
+ghost use Rattle.mesh_base_values.specs.NameOrder.{names_exact, names_total};
 ghost use Rattle.mesh_house.specs.declared.world.World.{World};
 ghost use Rattle.mesh_layer.specs.Read.{AreKnown, IsFound};
 
+use mesh_base_values::{Columns, Name, Rows};
 use mesh_list::{Duplicate, Keyed, Memory, Sorted, both};
-use mesh_values::{Columns, Name, Rows};
 use std::cmp::Ordering;
 
 /// An object's columns and rows, and how many stored queries stand behind one another there at most.

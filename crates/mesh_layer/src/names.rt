@@ -3,14 +3,14 @@ ghost use Rattle.std.specs.Prelude.{◌≡◌, IfOk, map};
 ghost use Rattle.std.specs.List.{filter};
 ghost use Rattle.mesh_base.specs.Keys.{ref_name};
 ghost use Rattle.mesh_base.specs.declared.definitions.Defn.TheVariants.{Sql};
-ghost use Rattle.mesh_rules.specs.Proper.{defn_names, is_among};
+ghost use Rattle.mesh_base.specs.rules.Proper.{defn_names, is_among};
 ghost use Rattle.mesh_layer.specs.Asked.{asked_models};
 
+use mesh_base::rules::is_named;
 use mesh_base::{Query, Ref};
-use mesh_book::Book;
+use mesh_base_values::{Names, Str};
+use mesh_house_book::Book;
 use mesh_list::{Duplicate, Memory, Seq, push_made};
-use mesh_rules::is_named;
-use mesh_values::{Names, Str};
 use std::alloc::Global;
 
 /// Those of some models that a query names.

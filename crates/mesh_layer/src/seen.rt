@@ -1,15 +1,15 @@
 // Whether all that a stored query names is there: its sources, its targets and earlier CTEs.
 ghost use Rattle.std.specs.Prelude.{◌≡◌, ◌||◌, [], slice_get};
 ghost use Rattle.std.specs.Option.{is_some, option_copied};
-ghost use Rattle.mesh_rules.specs.Relations.{is_declared, relation_columns};
-ghost use Rattle.mesh_rules.specs.Seen.{rel_columns, are_there};
-ghost use Rattle.mesh_shown.specs.Shown.{stored_relations, selects_there, ctes_there, is_query_there};
+ghost use Rattle.mesh_base.specs.rules.Relations.{is_declared, relation_columns};
+ghost use Rattle.mesh_base.specs.rules.Seen.{rel_columns, are_there};
+ghost use Rattle.mesh_spec_changes.specs.shown.Shown.{stored_relations, selects_there, ctes_there, is_query_there};
 ghost use Rattle.mesh_layer.specs.Lost.{stored_query};
 ghost use Rattle.mesh_layer.specs.Read.{is_target};
 
+use mesh_base::rules::is_declared;
 use mesh_base::{Defn, FromItem, Own, Query, Rel, Select, Selects};
-use mesh_rules::is_declared;
-use mesh_values::{Name, Pair};
+use mesh_base_values::{Name, Pair};
 
 fn is_target(targets: &[Pair], name: &Name) -> bool
     ensures { result ≡ is_target targets.now name.now }

@@ -1,7 +1,7 @@
 // What is shown of a warehouse.
 ghost use Rattle.std.specs.Prelude.{◌≡◌, IsTrue, Some, map};
 ghost use Rattle.mesh_house.specs.Sources.{are_plain};
-ghost use Rattle.mesh_shown.specs.Shown.{each_there, object_rows};
+ghost use Rattle.mesh_spec_changes.specs.shown.Shown.{each_there, object_rows};
 ghost use Rattle.mesh_layer.specs.Asked.{asked, lost_asked, lost_model, lost_view, shown_view, view_table};
 ghost use Rattle.mesh_layer.specs.Lost.{first_of, lost_object};
 ghost use Rattle.mesh_layer.specs.Read.{AreKnown, Given};
@@ -13,11 +13,11 @@ use crate::names::asked_models;
 use crate::views::view_in;
 use crate::walk::{object_behind, rows_behind, table_of};
 use mesh_base::{Input, Inputs, Query};
-use mesh_book::Book;
+use mesh_base_values::{Bounds, Name, Rows, Str};
 use mesh_eval::exact_rows;
 use mesh_house::Warehouse;
+use mesh_house_book::Book;
 use mesh_list::Seq;
-use mesh_values::{Bounds, Name, Rows, Str};
 use std::alloc::Global;
 
 /// How many stored queries may stand one behind the other.

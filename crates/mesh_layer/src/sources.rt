@@ -2,9 +2,9 @@
 ghost use Rattle.std.specs.Prelude.{◌≡◌, IsTrue, IfOk, map, None};
 ghost use Rattle.std.specs.List.{find};
 ghost use Rattle.std.specs.Option.{option_copied};
-ghost use Rattle.mesh_values.specs.Picked.{same_text, picked_rows};
-ghost use Rattle.mesh_values.specs.declared.values.Column.{Column};
-ghost use Rattle.mesh_scratch.specs.Sources.{is_of_type, has_shape, declared_rows, declared, source_named};
+ghost use Rattle.mesh_base_values.specs.Picked.{same_text, picked_rows};
+ghost use Rattle.mesh_base_values.specs.declared.values.Column.{Column};
+ghost use Rattle.mesh_spec_model.specs.Sources.{is_of_type, has_shape, declared_rows, declared, source_named};
 ghost use Rattle.mesh_house.specs.Sources.{are_plain};
 ghost use Rattle.mesh_layer.specs.Places.{place_of, places_of, cell_at, row_at, rows_at, is_at, are_in_order, are_wide};
 ghost use Rattle.mesh_layer.specs.Read.{read_rows};
@@ -13,9 +13,11 @@ ghost use Rattle.mesh_layer.specs.Shows.{Finds};
 use crate::faults::ShowFault;
 use crate::kept::{kept_at, table_rows};
 use mesh_base::{Decl, Input, Inputs};
+use mesh_base_values::{
+    Cell, ColType, Column, Columns, Row, Rows, Str, has_two_underscores, same_text,
+};
 use mesh_house::Warehouse;
 use mesh_list::{Duplicate, Memory, Seq, both, push_made};
-use mesh_values::{Cell, ColType, Column, Columns, Row, Rows, Str, has_two_underscores, same_text};
 use std::alloc::Global;
 
 /// Where the column of that name stands.

@@ -1,9 +1,9 @@
 // The names of an environment's views.
 ghost use Rattle.std.specs.Prelude.{◌≡◌, ◌++◌, codes, IfOk};
-ghost use Rattle.mesh_changes.specs.Environments.{view_in};
+ghost use Rattle.mesh_spec_changes.specs.Environments.{view_in};
 
+use mesh_base_values::{Name, Str, same_text};
 use mesh_list::{Duplicate, Memory, Seq};
-use mesh_values::{Name, Str, same_text};
 use std::alloc::Global;
 
 fn schema_in(alloc: Global, env: &Str, schema: &Str) -> Result<Str, Memory>

@@ -2,17 +2,17 @@
 // before it goes deeper, and once it is back, stands in functions that are not inlined.
 ghost use Rattle.std.specs.Prelude.{◌≡◌, ◌≤◌, ◌<◌, ◌+◌, ◌^◌, ℕ, List, ◌++◌, ◌∷◌, [], IfOk, OnOk, IsTrue, map, Some, None};
 ghost use Rattle.std.specs.Option.{option_map};
-ghost use Rattle.mesh_values.specs.declared.values.Cell.{Cell};
-ghost use Rattle.mesh_values.specs.declared.values.Pair.{Pair};
-ghost use Rattle.mesh_meaning.specs.Sel.{Sel};
-ghost use Rattle.mesh_rules.specs.Seen.{or_no_columns};
-ghost use Rattle.mesh_scratch.specs.Sources.{inputs};
-ghost use Rattle.mesh_scratch.specs.Scratch.{no_bounds};
+ghost use Rattle.mesh_base_values.specs.declared.values.Cell.{Cell};
+ghost use Rattle.mesh_base_values.specs.declared.values.Pair.{Pair};
+ghost use Rattle.mesh_spec_query.specs.Sel.{Sel};
+ghost use Rattle.mesh_base.specs.rules.Seen.{or_no_columns};
+ghost use Rattle.mesh_spec_model.specs.Sources.{inputs};
+ghost use Rattle.mesh_spec_model.specs.Scratch.{no_bounds};
 ghost use Rattle.mesh_house.specs.declared.objects.Body.TheVariants as body;
 ghost use Rattle.mesh_house.specs.House.{Reads};
 ghost use Rattle.mesh_house.specs.Sources.{are_plain};
 ghost use Rattle.mesh_house.specs.World.{object_at, body_of, columns_of};
-ghost use Rattle.mesh_shown.specs.Shown.{each_there, rows_through, target_table};
+ghost use Rattle.mesh_spec_changes.specs.shown.Shown.{each_there, rows_through, target_table};
 ghost use Rattle.mesh_layer.specs.declared.kept.Kept.TheVariants as kept;
 ghost use Rattle.mesh_layer.specs.Lost.{first_of, lost_in, lost_through};
 ghost use Rattle.mesh_layer.specs.Read.{AreKnown, Given, IsFound, body_through, kept_of};
@@ -24,10 +24,10 @@ use crate::known::{Found, Known, keep, known_at};
 use crate::seen::stored_query;
 use crate::sources::source_tables;
 use mesh_base::{Input, Inputs, Own, Query};
+use mesh_base_values::{Bounds, Columns, Name, Pair, Rows, has_two_underscores};
 use mesh_eval::exact_rows;
 use mesh_house::{Body, Warehouse, WhFail};
 use mesh_list::{Duplicate, Memory, Seq};
-use mesh_values::{Bounds, Columns, Name, Pair, Rows, has_two_underscores};
 use std::alloc::Global;
 
 fn or_no_columns(alloc: Global, columns: Option<Columns>) -> Columns

@@ -10,7 +10,7 @@ use Rattle.std.proofs.lemmas.Grind.{flat_map-append}
 use Rattle.std.proofs.lemmas.List.Sorted.{Contains-permutation, IsPermutation-sym}
 use Rattle.std.proofs.lemmas.Map.Lookups.{CmpEqualImpliesEq}
 use Rattle.std.proofs.lemmas.Map.Views.{btree_set_contains_from_list, btree_set_contains_iff}
-use Rattle.mesh_laws.proofs.Has.{Has, Has_from, Has_to, Has_left, Has_right, Has_cases, Has_flat, Has_flat_from, Has_map, Has_map_from}
+use Rattle.mesh_law_query.proofs.Has.{Has, Has_from, Has_to, Has_left, Has_right, Has_cases, Has_flat, Has_flat_from, Has_map, Has_map_from}
 use Rattle.mesh_lineage.specs.Alike.{IsAlike}
 
 -- what stands in one list stands in another

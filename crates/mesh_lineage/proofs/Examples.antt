@@ -2,12 +2,12 @@
 use Rattle.std.proofs.Common.{◌≡◌, ℕ, pos, Bool, true, false, not, cond, ◌&&◌, ◌||◌, List, [], ◌∷◌, ◌++◌, refl, ap, ap₂, ◌∙◌}
 use Rattle.std.specs.Prelude.{codes, nat_eq}
 use Rattle.std.specs.declared.option.Option.TheVariants.{Some, None}
-use Rattle.mesh_values.specs.Crons.{CronSets}
-use Rattle.mesh_values.specs.declared.kinds.Kind.{Kind}
-use Rattle.mesh_values.specs.declared.kinds.Kind.TheVariants as kind
-use Rattle.mesh_values.specs.declared.times.Unit.TheVariants as unit
-use Rattle.mesh_values.specs.declared.values.ColType.TheVariants as type
-use Rattle.mesh_values.specs.declared.values.Name.{Name}
+use Rattle.mesh_base_values.specs.Crons.{CronSets}
+use Rattle.mesh_base_values.specs.declared.kinds.Kind.{Kind}
+use Rattle.mesh_base_values.specs.declared.kinds.Kind.TheVariants as kind
+use Rattle.mesh_base_values.specs.declared.times.Unit.TheVariants as unit
+use Rattle.mesh_base_values.specs.declared.values.ColType.TheVariants as type
+use Rattle.mesh_base_values.specs.declared.values.Name.{Name}
 use Rattle.mesh_base.specs.declared.definitions.Decl.{Decl}
 use Rattle.mesh_base.specs.declared.definitions.Defn.TheVariants as defn
 use Rattle.mesh_base.specs.declared.definitions.Own.{Own}
@@ -21,8 +21,8 @@ use Rattle.mesh_base.specs.declared.queries.Join.{Join}
 use Rattle.mesh_base.specs.declared.queries.Join.TheVariants as join
 use Rattle.mesh_base.specs.declared.queries.Rel.TheVariants as rel
 use Rattle.mesh_base.specs.declared.queries.Select.{Select}
-use Rattle.mesh_scratch.specs.Closures.{Closure, Model, Alone, With}
-use Rattle.mesh_steady.specs.Steady.{are_ends, are_ends_here, bounds, is_column, is_column_here}
+use Rattle.mesh_spec_model.specs.Closures.{Closure, Model, Alone, With}
+use Rattle.mesh_spec_changes.specs.steady.Steady.{are_ends, are_ends_here, bounds, is_column, is_column_here}
 use Rattle.mesh_lineage.specs.Joinable.{binds, binds_parts, has_macro, is_bound_here, is_joinable, macro_here, when_macro}
 use Rattle.mesh_lineage.specs.Reaches.{bounds_parts}
 use Rattle.mesh_lineage.specs.Unsteady.{breakers, unsteady}

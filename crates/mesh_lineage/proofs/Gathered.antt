@@ -8,8 +8,8 @@ use Rattle.mesh_base.specs.declared.expressions.Expr.{Expr}
 use Rattle.mesh_base.specs.declared.queries.FromItem.{FromItem}
 use Rattle.mesh_base.specs.declared.queries.Item.{Item}
 use Rattle.mesh_base.specs.declared.queries.Select.{Select}
-use Rattle.mesh_meaning.specs.Named.{Place, columns}
-use Rattle.mesh_laws.specs.Reads.{expressions, on_of}
+use Rattle.mesh_spec_query.specs.Named.{Place, columns}
+use Rattle.mesh_law_query.specs.Reads.{expressions, on_of}
 
 abbrev of : List Expr → List Place
 of es = flat_map columns es

@@ -9,18 +9,18 @@ use Rattle.std.proofs.lemmas.List.Folds.{list_all-append}
 use Rattle.std.proofs.lemmas.List.Sums.{fold-append}
 use Rattle.std.proofs.lemmas.Option.{slice_get-map}
 use Rattle.std.proofs.lemmas.Grind.{flat_map-append}
-use Rattle.mesh_values.specs.Kinds.{is_incremental}
-use Rattle.mesh_values.specs.Names.{name_cmp}
-use Rattle.mesh_values.specs.declared.kinds.Kind.{Kind}
-use Rattle.mesh_values.specs.declared.kinds.Kind.TheVariants.{Full, View, Seed, Incremental}
-use Rattle.mesh_values.specs.declared.values.Name.{Name}
+use Rattle.mesh_base_values.specs.Kinds.{is_incremental}
+use Rattle.mesh_base_values.specs.Names.{name_cmp}
+use Rattle.mesh_base_values.specs.declared.kinds.Kind.{Kind}
+use Rattle.mesh_base_values.specs.declared.kinds.Kind.TheVariants.{Full, View, Seed, Incremental}
+use Rattle.mesh_base_values.specs.declared.values.Name.{Name}
 use Rattle.mesh_base.specs.declared.definitions.Decl.{Decl}
 use Rattle.mesh_base.specs.declared.definitions.Own.{Own}
 use Rattle.mesh_base.specs.declared.queries.FromItem.{FromItem}
 use Rattle.mesh_base.specs.declared.queries.Select.{Select}
 use Rattle.mesh_base.specs.declared.snapshots.Node.{Node}
-use Rattle.mesh_scratch.specs.Closures.{Closure, Closures, Model, Alone, With, ancestors, closures, each_of, own_of, parents_at, standing, with_model, with_parent}
-use Rattle.mesh_steady.specs.Steady.{has_timed_source, is_found_parent_bound, is_parent_bound, is_relation_bound, is_source_bound, is_timeless, parent_named, source_declared}
+use Rattle.mesh_spec_model.specs.Closures.{Closure, Closures, Model, Alone, With, ancestors, closures, each_of, own_of, parents_at, standing, with_model, with_parent}
+use Rattle.mesh_spec_changes.specs.steady.Steady.{has_timed_source, is_found_parent_bound, is_parent_bound, is_relation_bound, is_source_bound, is_timeless, parent_named, source_declared}
 use Rattle.mesh_lineage.specs.declared.reaches.Bound.TheVariants.{Free, Never}
 use Rattle.mesh_lineage.specs.declared.reaches.Link.{Link}
 use Rattle.mesh_lineage.specs.Unsteady.{breakers, breakers_as, defn_breakers, least, lesser, may_read, pair_with, parents_reached, timed_names, timed_reached, unsteady_pair}

@@ -15,12 +15,12 @@ use Rattle.mesh_list.specs.Keyed.{ascends, below_first, found, placed, put_by}
 use Rattle.mesh_list.proofs.Ascends.{and_both, and_left, and_right, ascends-placed}
 use Rattle.mesh_list.proofs.Each.{found-above, found-behind, found-itself, lt_is}
 use Rattle.mesh_list.proofs.Found.{found-placed}
-use Rattle.mesh_values.specs.declared.values.Name.{Name}
-use Rattle.mesh_values.specs.Names.{name_cmp, text_cmp}
-use Rattle.mesh_values.specs.NameOrder.{names_exact, names_total, texts_total, then_equal}
+use Rattle.mesh_base_values.specs.declared.values.Name.{Name}
+use Rattle.mesh_base_values.specs.Names.{name_cmp, text_cmp}
+use Rattle.mesh_base_values.specs.NameOrder.{names_exact, names_total, texts_total, then_equal}
 use Rattle.mesh_base.specs.declared.definitions.Reading.{Reading}
-use Rattle.mesh_laws.specs.Reads.{in_order, reading_cmp, reading_itself}
-use Rattle.mesh_laws.proofs.Has.{Has}
+use Rattle.mesh_law_query.specs.Reads.{in_order, reading_cmp, reading_itself}
+use Rattle.mesh_law_query.proofs.Has.{Has}
 use Rattle.mesh_lineage.specs.Alike.{IsAlike}
 use Rattle.mesh_lineage.specs.Pairs.{as_reading, as_readings}
 use Rattle.mesh_lineage.proofs.Alike.{Within, back, map_alike, set_alike, there}

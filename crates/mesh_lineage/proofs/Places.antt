@@ -9,10 +9,10 @@ use Rattle.std.proofs.lemmas.List.Elements.{filter-append}
 use Rattle.std.proofs.lemmas.List.Folds.{list_all-append}
 use Rattle.std.proofs.lemmas.Grind.{flat_map-append}
 use Rattle.mesh_list.specs.Keyed.{found}
-use Rattle.mesh_values.specs.Names.{name_cmp}
-use Rattle.mesh_values.specs.declared.values.Name.{Name}
+use Rattle.mesh_base_values.specs.Names.{name_cmp}
+use Rattle.mesh_base_values.specs.declared.values.Name.{Name}
 use Rattle.mesh_base.specs.declared.definitions.Decl.{Decl}
-use Rattle.mesh_steady.specs.Steady.{is_timed_source}
+use Rattle.mesh_spec_changes.specs.steady.Steady.{is_timed_source}
 use Rattle.mesh_lineage.specs.declared.reaches.Near.{Near}
 use Rattle.mesh_lineage.specs.declared.reaches.Reach.{Reach}
 use Rattle.mesh_lineage.specs.Unsteady.{decl_name, least, lesser, timed_names_of}

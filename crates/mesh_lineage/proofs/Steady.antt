@@ -2,10 +2,10 @@
 use Rattle.std.proofs.Common.{◌≡◌, ℕ, suc, Bool, true, false, not, cond, ◌&&◌, ◌||◌, List, [], ◌∷◌, ◌++◌, map, refl, sym, ap, ap₂, ◌∙◌}
 use Rattle.std.specs.Prelude.{filter, ◌↔◌}
 use Rattle.std.specs.List.{flat_map, list_all, list_any}
-use Rattle.mesh_values.specs.Kinds.{is_incremental}
-use Rattle.mesh_values.specs.declared.kinds.Kind.{Kind}
-use Rattle.mesh_values.specs.declared.kinds.Kind.TheVariants.{Full, View, Seed, Incremental}
-use Rattle.mesh_values.specs.declared.values.Name.{Name}
+use Rattle.mesh_base_values.specs.Kinds.{is_incremental}
+use Rattle.mesh_base_values.specs.declared.kinds.Kind.{Kind}
+use Rattle.mesh_base_values.specs.declared.kinds.Kind.TheVariants.{Full, View, Seed, Incremental}
+use Rattle.mesh_base_values.specs.declared.values.Name.{Name}
 use Rattle.mesh_base.specs.declared.definitions.Decl.{Decl}
 use Rattle.mesh_base.specs.declared.definitions.Defn.{Defn}
 use Rattle.mesh_base.specs.declared.definitions.Defn.TheVariants as defn
@@ -14,8 +14,8 @@ use Rattle.mesh_base.specs.declared.queries.FromItem.{FromItem}
 use Rattle.mesh_base.specs.declared.queries.Rel.{Rel}
 use Rattle.mesh_base.specs.declared.queries.Rel.TheVariants.{Named, Cte}
 use Rattle.mesh_base.specs.declared.queries.Select.{Select}
-use Rattle.mesh_scratch.specs.Closures.{Closure, Closures, Model, Alone, With, own_of}
-use Rattle.mesh_steady.specs.Steady.{are_items_bound, are_selects_bound, has_timed_source, is_defn_bound, is_item_bound, is_steady, is_steady_as, is_timed_source, parents_reach_timed, reaches_timed}
+use Rattle.mesh_spec_model.specs.Closures.{Closure, Closures, Model, Alone, With, own_of}
+use Rattle.mesh_spec_changes.specs.steady.Steady.{are_items_bound, are_selects_bound, has_timed_source, is_defn_bound, is_item_bound, is_steady, is_steady_as, is_timed_source, parents_reach_timed, reaches_timed}
 use Rattle.mesh_lineage.specs.Unsteady.{breakers, breakers_as, decl_name, defn_breakers, item_breakers, items_breakers, may_read, parents_reached, select_breakers, selects_breakers, timed_names_of, timed_reached}
 
 -- there is no name

@@ -3,7 +3,7 @@ use Rattle.std.proofs.Common.{◌≡◌, ℕ, Bool, List, refl, sym, ap, ◌∙�
 use Rattle.mesh_base.specs.declared.expressions.Expr.{Expr, map-Expr, out-Expr, roll-out-Expr, para-roll-Expr}
 use Rattle.mesh_base.specs.declared.expressions.Expr.TheOpen.{Expr-F, Literal, Col, Macro, Binary, Neg, Not, IsNull, Between, OneOf, Cast, Call, Case, CountAll, Agg}
 use Rattle.mesh_base.specs.declared.expressions.When.{When, para-When}
-use Rattle.mesh_steady.specs.Steady.{bounds, bounds_here, when_bounds}
+use Rattle.mesh_spec_changes.specs.steady.Steady.{bounds, bounds_here, when_bounds}
 use Rattle.mesh_lineage.specs.Reaches.{bounds_parts}
 
 abbrev with_bounds : ℕ → List ℕ → Expr-F Expr When → Expr-F (Expr × Bool) (When × Bool)

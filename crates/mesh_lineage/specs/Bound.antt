@@ -2,10 +2,10 @@
 use Rattle.std.specs.Prelude.{◌≡◌, ℕ, Bool, ◌&&◌, ◌||◌, nat_eq, List}
 use Rattle.std.specs.List.{list_any}
 use Rattle.std.specs.declared.option.Option.{Option}
-use Rattle.mesh_values.specs.Picked.{same_text}
+use Rattle.mesh_base_values.specs.Picked.{same_text}
 use Rattle.mesh_base.specs.declared.expressions.Expr.{Expr}
-use Rattle.mesh_meaning.specs.Named.{Place}
-use Rattle.mesh_steady.specs.Steady.{bounds_in}
+use Rattle.mesh_spec_query.specs.Named.{Place}
+use Rattle.mesh_spec_changes.specs.steady.Steady.{bounds_in}
 
 -- this column is one of some
 abbrev pub has_place : List Place → ℕ → List ℕ → Bool

@@ -3,9 +3,9 @@
 use Rattle.std.specs.Prelude.{ℕ, Bool, true, false, not, ◌&&◌, ◌||◌, if◌then◌else◌, List, [], ◌∷◌, Some, None}
 use Rattle.std.specs.List.{find, list_any}
 use Rattle.std.specs.declared.option.Option.{Option}
-use Rattle.mesh_values.specs.Picked.{same_text}
-use Rattle.mesh_values.specs.declared.kinds.Kind.{Kind}
-use Rattle.mesh_values.specs.declared.kinds.Kind.TheVariants.{Incremental}
+use Rattle.mesh_base_values.specs.Picked.{same_text}
+use Rattle.mesh_base_values.specs.declared.kinds.Kind.{Kind}
+use Rattle.mesh_base_values.specs.declared.kinds.Kind.TheVariants.{Incremental}
 use Rattle.mesh_base.specs.declared.definitions.Defn.{Defn}
 use Rattle.mesh_base.specs.declared.definitions.Defn.TheVariants.{Sql}
 use Rattle.mesh_base.specs.declared.definitions.Own.{Own}
@@ -15,7 +15,7 @@ use Rattle.mesh_base.specs.declared.expressions.When.{When, fold-When}
 use Rattle.mesh_base.specs.declared.queries.FromItem.{FromItem}
 use Rattle.mesh_base.specs.declared.queries.Item.{Item}
 use Rattle.mesh_base.specs.declared.queries.Select.{Select}
-use Rattle.mesh_steady.specs.Steady.{are_ends, is_and, is_column}
+use Rattle.mesh_spec_changes.specs.steady.Steady.{are_ends, is_and, is_column}
 
 -- a macro stands in an expression: one node, with the answer for each part
 abbrev pub macro_here : Expr-F Bool Bool → Bool

@@ -1,7 +1,7 @@
 -- FROM items' places with columns whose names lie elsewhere.
 use Rattle.std.specs.Prelude.{◌≡◌, ◌<◌, ℕ, List, map, slice_index_or}
 use Rattle.std.specs.Borrow.{Bor}
-use Rattle.mesh_meaning.specs.Named.{Place}
+use Rattle.mesh_spec_query.specs.Named.{Place}
 
 abbrev pub place_of : ℕ × Bor (List ℕ) → Place
 place_of (item, name) = (item, name.now)

@@ -1,7 +1,7 @@
 -- A column of a relation as a pair, which has the order of readings, and two names as a pair.
 use Rattle.std.specs.Prelude.{ℕ, List, map}
-use Rattle.mesh_values.specs.declared.values.Name.{Name}
-use Rattle.mesh_values.specs.declared.values.Pair.{Pair}
+use Rattle.mesh_base_values.specs.declared.values.Name.{Name}
+use Rattle.mesh_base_values.specs.declared.values.Pair.{Pair}
 use Rattle.mesh_base.specs.declared.definitions.Reading.{Reading}
 
 abbrev pub as_reading : Name × List ℕ → Reading

@@ -4,11 +4,11 @@ use Rattle.std.specs.List.{flat_map, list_all, slice_get}
 use Rattle.std.specs.Option.{option_to_list}
 use Rattle.std.specs.declared.option.Option.{Option}
 use Rattle.mesh_list.specs.Keyed.{found}
-use Rattle.mesh_values.specs.Kinds.{is_incremental}
-use Rattle.mesh_values.specs.Names.{name_cmp}
-use Rattle.mesh_values.specs.declared.kinds.Kind.{Kind}
-use Rattle.mesh_values.specs.declared.kinds.Kind.TheVariants.{Full, View, Seed, Incremental}
-use Rattle.mesh_values.specs.declared.values.Name.{Name}
+use Rattle.mesh_base_values.specs.Kinds.{is_incremental}
+use Rattle.mesh_base_values.specs.Names.{name_cmp}
+use Rattle.mesh_base_values.specs.declared.kinds.Kind.{Kind}
+use Rattle.mesh_base_values.specs.declared.kinds.Kind.TheVariants.{Full, View, Seed, Incremental}
+use Rattle.mesh_base_values.specs.declared.values.Name.{Name}
 use Rattle.mesh_base.specs.declared.definitions.Decl.{Decl}
 use Rattle.mesh_base.specs.declared.definitions.Own.{Own}
 use Rattle.mesh_base.specs.declared.expressions.Expr.{Expr}
@@ -17,9 +17,9 @@ use Rattle.mesh_base.specs.declared.expressions.When.{When}
 use Rattle.mesh_base.specs.declared.queries.FromItem.{FromItem}
 use Rattle.mesh_base.specs.declared.queries.Select.{Select}
 use Rattle.mesh_base.specs.declared.snapshots.Node.{Node}
-use Rattle.mesh_values.specs.declared.values.Pair.{Pair}
-use Rattle.mesh_scratch.specs.Closures.{Closure, own_of}
-use Rattle.mesh_steady.specs.Steady.{are_ends, bounds, has_timed_source, is_and, is_bound, is_column, is_timeless}
+use Rattle.mesh_base_values.specs.declared.values.Pair.{Pair}
+use Rattle.mesh_spec_model.specs.Closures.{Closure, own_of}
+use Rattle.mesh_spec_changes.specs.steady.Steady.{are_ends, bounds, has_timed_source, is_and, is_bound, is_column, is_timeless}
 use Rattle.mesh_lineage.specs.declared.reaches.Bound.{Bound}
 use Rattle.mesh_lineage.specs.declared.reaches.Bound.TheVariants.{Free, Never, By}
 use Rattle.mesh_lineage.specs.declared.reaches.Link.{Link}

@@ -1,7 +1,7 @@
 // FROM items that are bound to the unit.
 ghost use Rattle.std.specs.Prelude.{◌≡◌, IfOk, OnOk};
 ghost use Rattle.mesh_base.specs.declared.expressions.Expr.{out-Expr};
-ghost use Rattle.mesh_steady.specs.Steady.{bounds, bounds_in, is_bound, is_column};
+ghost use Rattle.mesh_spec_changes.specs.steady.Steady.{bounds, bounds_in, is_bound, is_column};
 ghost use Rattle.mesh_lineage.specs.Bound.{AreBound, Gains, has_place};
 ghost use Rattle.mesh_lineage.specs.Named.{places_of};
 ghost use Rattle.mesh_lineage.specs.Reaches.{bounds_parts};
@@ -9,8 +9,8 @@ ghost use Rattle.mesh_lineage.specs.Reaches.{bounds_parts};
 use crate::ends::{are_ends, is_and, is_column};
 use crate::named::{Named, both_done};
 use mesh_base::{Expr, FromItem, Join, Select};
+use mesh_base_values::{Str, same_text};
 use mesh_list::Memory;
-use mesh_values::{Str, same_text};
 use std::alloc::Global;
 
 // A condition has, among the conjuncts at its top, one that binds this column to the unit. The right side is looked at

@@ -9,8 +9,8 @@ ghost use Rattle.mesh_lineage.specs.Reaches.{bound_test, link_named, link_test, 
 use crate::bounds::{Filtered, bound_by, is_bound};
 use crate::reaches::{Bound, Link, Near, Reach, lesser, reach_at};
 use mesh_base::{Decl, Defn, FromItem, Own, Rel, Select, Selects};
+use mesh_base_values::Name;
 use mesh_list::{Duplicate, Memory, Register, together};
-use mesh_values::Name;
 use std::alloc::Global;
 
 /// What a query may name.

@@ -1,7 +1,7 @@
 // The columns that expressions name.
 ghost use Rattle.std.specs.Prelude.{◌≡◌, ◌++◌, OnOk, map};
 ghost use Rattle.std.specs.List.{flat_map};
-ghost use Rattle.mesh_meaning.specs.Named.{columns, when_columns};
+ghost use Rattle.mesh_spec_query.specs.Named.{columns, when_columns};
 
 use crate::named::{Named, both_done};
 use mesh_base::{Expr, When};

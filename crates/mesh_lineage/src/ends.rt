@@ -1,10 +1,10 @@
 // The conjunct that binds a column to the unit.
 ghost use Rattle.std.specs.Prelude.{◌≡◌};
 ghost use Rattle.mesh_base.specs.declared.expressions.Expr.{out-Expr};
-ghost use Rattle.mesh_steady.specs.Steady.{are_ends, are_ends_by, is_and, is_column, is_end_of};
+ghost use Rattle.mesh_spec_changes.specs.steady.Steady.{are_ends, are_ends_by, is_and, is_column, is_end_of};
 
 use mesh_base::{Expr, Op, Var};
-use mesh_values::{Str, same_text};
+use mesh_base_values::{Str, same_text};
 
 pub(crate) fn is_and(op: Op) -> bool
     ensures { result ≡ is_and op }

@@ -7,8 +7,8 @@ ghost use Rattle.mesh_lineage.specs.Joinable.{binds, binds_in, binds_parts, is_b
 use crate::ends::{are_ends, is_and, is_column};
 use crate::macros::{has_macro, has_macro_elsewhere};
 use mesh_base::{Defn, Expr, Item, Own, Query, Select};
+use mesh_base_values::{Kind, Str, same_text};
 use mesh_list::Memory;
-use mesh_values::{Kind, Str, same_text};
 
 // Just one conjunct at the top of a condition has macros, and it binds this column to the unit.
 #[tactic(auto, using(crate::proofs::Bindings::binds_out))]

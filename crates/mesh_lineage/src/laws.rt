@@ -1,7 +1,7 @@
 // What the definitions give.
 ghost use Rattle.std.specs.Prelude.{◌≡◌, true, ◌↔◌, []};
-ghost use Rattle.mesh_scratch.specs.Closures.{Closure};
-ghost use Rattle.mesh_steady.specs.Steady.{is_steady};
+ghost use Rattle.mesh_spec_model.specs.Closures.{Closure};
+ghost use Rattle.mesh_spec_changes.specs.steady.Steady.{is_steady};
 ghost use Rattle.mesh_lineage.specs.Unsteady.{breakers};
 
 /// A model is steady exactly where no name breaks the rule.

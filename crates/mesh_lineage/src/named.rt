@@ -3,8 +3,8 @@ ghost use Rattle.std.specs.Prelude.{◌≡◌, ◌++◌, ◌∷◌, [], Ok, OnOk
 ghost use Rattle.mesh_lineage.specs.Alike.{IsAlike};
 ghost use Rattle.mesh_lineage.specs.Named.{places_of};
 
+use mesh_base_values::Str;
 use mesh_list::Memory;
-use mesh_values::Str;
 use std::alloc::Global;
 use std::marker::Model;
 
@@ -29,7 +29,7 @@ pub(crate) fn both_done(first: Result<(), Memory>, second: Result<(), Memory>) -
 
 impl<'a> Model for Named<'a> {
     ghost use Rattle.std.specs.Prelude.{List};
-    ghost use Rattle.mesh_meaning.specs.Named.{Place};
+    ghost use Rattle.mesh_spec_query.specs.Named.{Place};
     ghost use Rattle.mesh_lineage.specs.Named.{places_of};
 
     ghost Value = { List Place };

@@ -1,12 +1,12 @@
 // Readings, each once.
 ghost use Rattle.std.specs.Prelude.{◌≡◌, IfOk};
-ghost use Rattle.mesh_laws.specs.Reads.{in_order, reading_cmp, reading_itself};
+ghost use Rattle.mesh_law_query.specs.Reads.{in_order, reading_cmp, reading_itself};
 ghost use Rattle.mesh_list.specs.Keyed.{ascends};
 ghost use Rattle.mesh_lineage.specs.Pairs.{as_readings};
 
 use mesh_base::{Reading, Reads};
+use mesh_base_values::{Name, Str};
 use mesh_list::{Memory, Seq};
-use mesh_values::{Name, Str};
 use std::alloc::Global;
 use std::cmp::Ordering;
 use std::collections::BTreeSet;

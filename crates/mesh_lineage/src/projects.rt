@@ -1,17 +1,17 @@
 // The models of a project that aren't steady.
 ghost use Rattle.std.specs.Prelude.{◌≡◌, ◌++◌, ◌∷◌, [], IfOk, OnOk};
 ghost use Rattle.std.specs.List.{flat_map};
-ghost use Rattle.mesh_scratch.specs.Closures.{closures};
+ghost use Rattle.mesh_spec_model.specs.Closures.{closures};
 ghost use Rattle.mesh_lineage.specs.Pairs.{as_pairs};
 ghost use Rattle.mesh_lineage.specs.Unsteady.{by_name, defn_breakers, least, pair_with, unsteady, unsteady_pair};
 ghost use Rattle.mesh_lineage.specs.Reaches.{incremental_breaker, may_read_links, near_links, node_breaker, node_pair, node_reach, reaches_at};
 
 use crate::breakers::{Links, defn_breaker, links_of};
 use crate::reaches::{Reach, copied, reach_of, timed_of};
+use mesh_base::rules::Project;
 use mesh_base::{Node, Own};
+use mesh_base_values::{Kind, Name, Pair, Pairs};
 use mesh_list::{Duplicate, Memory, Seq};
-use mesh_rules::Project;
-use mesh_values::{Kind, Name, Pair, Pairs};
 use std::alloc::Global;
 use std::collections::BTreeMap;
 

@@ -2,15 +2,15 @@
 ghost use Rattle.std.specs.Prelude.{◌≡◌, ◌&&◌, ◌∷◌, [], IfOk};
 ghost use Rattle.std.specs.List.{slice_get};
 ghost use Rattle.std.specs.Option.{option_copied, option_to_list};
-ghost use Rattle.mesh_values.specs.Names.{name_cmp};
-ghost use Rattle.mesh_values.specs.NameOrder.{names_total, names_exact};
-ghost use Rattle.mesh_steady.specs.Steady.{has_timed_source};
+ghost use Rattle.mesh_base_values.specs.Names.{name_cmp};
+ghost use Rattle.mesh_base_values.specs.NameOrder.{names_total, names_exact};
+ghost use Rattle.mesh_spec_changes.specs.steady.Steady.{has_timed_source};
 ghost use Rattle.mesh_lineage.specs.Unsteady.{least, lesser, timed_names, timed_names_of};
 ghost use Rattle.mesh_lineage.specs.Reaches.{are_timeless, least_reached, model_bound, reach_over, reaches_at, timed_over, timeless_over};
 
 use mesh_base::{Decl, Own};
+use mesh_base_values::{Kind, Name, Str, is_incremental};
 use mesh_list::{Duplicate, Keyed, Memory, together};
-use mesh_values::{Kind, Name, Str, is_incremental};
 use std::cmp::Ordering;
 
 /// How an incremental model may read a relation: as it is, not at all, or bound to the unit by this column.

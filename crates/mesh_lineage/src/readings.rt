@@ -2,8 +2,8 @@
 ghost use Rattle.std.specs.Prelude.{◌≡◌, ◌<◌, ◌++◌, IfOk, OnOk, IsTrue, map, flat_map, length};
 ghost use Rattle.std.specs.Option.{option_to_list};
 ghost use Rattle.mesh_base.specs.declared.queries.Item.{Item};
-ghost use Rattle.mesh_meaning.specs.Named.{columns};
-ghost use Rattle.mesh_laws.specs.Reads.{expressions, on_of, query_readings, reading_at, readings, rel_reading, select_readings, selects_readings};
+ghost use Rattle.mesh_spec_query.specs.Named.{columns};
+ghost use Rattle.mesh_law_query.specs.Reads.{expressions, on_of, query_readings, reading_at, readings, rel_reading, select_readings, selects_readings};
 ghost use Rattle.mesh_lineage.specs.Alike.{IsAlike};
 ghost use Rattle.mesh_lineage.specs.Named.{IsAgain, place_of, places_of};
 
@@ -13,8 +13,8 @@ use crate::once::in_order;
 use mesh_base::{
     Defn, Expr, FromItem, Froms, Item, Own, Query, Reading, Reads, Rel, Select, Selects,
 };
+use mesh_base_values::{Str, same_text};
 use mesh_list::{Memory, Seq, both};
-use mesh_values::{Str, same_text};
 use std::alloc::Global;
 
 fn add_items_columns<'a>(items: &'a [Item], places: &mut Named<'a>) -> Result<(), Memory>

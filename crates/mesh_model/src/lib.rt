@@ -1,7 +1,15 @@
-//! What a model's file says: the type alone, so that names and types can be resolved without the readers of text. It
-//! stands on `mesh_list`, `mesh_values`, `mesh_tokens` and `mesh_surface`.
+//! The files of models. Its contract: `read_model` gives what the definition `model_of` says of a file's tokens: the
+//! MODEL statement, the query behind it and what follows from absent properties, or the first fault of the text. The
+//! query is read as `mesh_query` promises. It stands on `mesh_list`, `mesh_base_values`, `mesh_time`, `mesh_query_tokens`, `mesh_model_statement::model`,
+//! `mesh_query` and `mesh_model_statement`.
 #![tactic(auto)]
 
+mod behind;
+mod finished;
+mod laws;
+mod lexed;
 mod model;
+mod read;
 
-pub use model::ModelText;
+pub use laws::models_are_complete;
+pub use read::read_model;

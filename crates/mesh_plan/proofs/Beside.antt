@@ -7,30 +7,30 @@ use Rattle.std.specs.declared.option.Option.{Option}
 use Rattle.std.proofs.lemmas.Cmp.{tied_itself}
 use Rattle.mesh_list.specs.Keyed.{found}
 use Rattle.mesh_list.proofs.Ascends.{and_left}
-use Rattle.mesh_values.specs.Names.{name_cmp, text_cmp}
-use Rattle.mesh_values.specs.NameOrder.{names_exact, names_total}
-use Rattle.mesh_values.specs.declared.values.Name.{Name}
+use Rattle.mesh_base_values.specs.Names.{name_cmp, text_cmp}
+use Rattle.mesh_base_values.specs.NameOrder.{names_exact, names_total}
+use Rattle.mesh_base_values.specs.declared.values.Name.{Name}
 use Rattle.mesh_base.specs.Keys.{env_name, ref_name, snapshot_ref}
 use Rattle.mesh_base.specs.declared.snapshots.Env.{Env}
 use Rattle.mesh_base.specs.declared.snapshots.Ref.{Ref}
 use Rattle.mesh_base.specs.declared.snapshots.Snapshot.{Snapshot}
-use Rattle.mesh_book.specs.declared.book.Book.{Book}
-use Rattle.mesh_book.specs.WellFormed.{are_kept, is_kept, is_well_formed_book, snapshot_at}
-use Rattle.mesh_book.proofs.Exchanged.{found_key}
-use Rattle.mesh_scratch.specs.Closures.{own_of}
-use Rattle.mesh_laws.proofs.Finding.{one_passes}
-use Rattle.mesh_laws.proofs.Has.{Has}
-use Rattle.mesh_versions.specs.category.Stated.{stated as stated_all, stated_name, stated_with}
-use Rattle.mesh_reuse.specs.Categories.{Stated}
-use Rattle.mesh_listed.specs.Closing.{closed, closing}
-use Rattle.mesh_listed.specs.Listed.{as_node, entries, is_list_fit, listed}
-use Rattle.mesh_listed.proofs.Books.{fits, its_ref, kept_at}
-use Rattle.mesh_listed.proofs.Entries.{entry_of, env_lists_fit, is_entry, one_of_name}
-use Rattle.mesh_listed.proofs.Projects.{closures_are}
-use Rattle.mesh_changes.specs.Environments.{env_at}
-use Rattle.mesh_changes.specs.Planning.{stated}
-use Rattle.mesh_versions.specs.versions.Clashes.{compared_in}
-use Rattle.mesh_versions.proofs.versions.Without.{all_at}
+use Rattle.mesh_house_book.specs.declared.book.Book.{Book}
+use Rattle.mesh_house_book.specs.WellFormed.{are_kept, is_kept, is_well_formed_book, snapshot_at}
+use Rattle.mesh_house_book.proofs.Exchanged.{found_key}
+use Rattle.mesh_spec_model.specs.Closures.{own_of}
+use Rattle.mesh_law_query.proofs.Finding.{one_passes}
+use Rattle.mesh_law_query.proofs.Has.{Has}
+use Rattle.mesh_category.specs.category.Stated.{stated as stated_all, stated_name, stated_with}
+use Rattle.mesh_spec_changes.specs.reuse.Categories.{Stated}
+use Rattle.mesh_spec_changes.specs.listed.Closing.{closed, closing}
+use Rattle.mesh_spec_changes.specs.listed.Listed.{as_node, entries, is_list_fit, listed}
+use Rattle.mesh_spec_changes.proofs.listed.Books.{fits, its_ref, kept_at}
+use Rattle.mesh_spec_changes.proofs.listed.Entries.{entry_of, env_lists_fit, is_entry, one_of_name}
+use Rattle.mesh_spec_changes.proofs.listed.Projects.{closures_are}
+use Rattle.mesh_spec_changes.specs.Environments.{env_at}
+use Rattle.mesh_spec_changes.specs.Planning.{stated}
+use Rattle.mesh_category.specs.versions.Clashes.{compared_in}
+use Rattle.mesh_category.proofs.versions.Without.{all_at}
 
 same_names : (a b : Name) → is_eq (name_cmp a b) ≡ true → a ≡ b
 same_names a b e = names_exact a b ((Equal-is (name_cmp a b)).0 e)

@@ -4,9 +4,9 @@ use Rattle.std.specs.List.{slice_get}
 use Rattle.std.specs.Option.{option_map}
 use Rattle.std.specs.declared.option.Option.{Option}
 use Rattle.mesh_base.specs.declared.snapshots.Node.{Node}
-use Rattle.mesh_scratch.specs.Closures.{Closure, closures}
-use Rattle.mesh_scratch.specs.Horizons.{Clock, horizon}
-use Rattle.mesh_marks.specs.Long.{first_too_long, is_too_long}
+use Rattle.mesh_spec_model.specs.Closures.{Closure, closures}
+use Rattle.mesh_spec_model.specs.Horizons.{Clock, horizon}
+use Rattle.mesh_plan_due.specs.Long.{first_too_long, is_too_long}
 use Rattle.mesh_plan.specs.Intervals.{IsLongest}
 use Rattle.mesh_plan.proofs.Models.{closures_long}
 

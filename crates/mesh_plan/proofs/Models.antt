@@ -4,23 +4,23 @@ use Rattle.std.specs.List.{AllByRecursion, AllZip, slice_get}
 use Rattle.std.specs.Option.{option_map}
 use Rattle.std.specs.declared.option.Option.{Option}
 use Rattle.std.proofs.lemmas.List.{length-map}
-use Rattle.mesh_values.specs.declared.values.Name.{Name}
+use Rattle.mesh_base_values.specs.declared.values.Name.{Name}
 use Rattle.mesh_base.specs.declared.plans.Category.{Category}
 use Rattle.mesh_base.specs.declared.plans.Entry.{Entry}
 use Rattle.mesh_base.specs.declared.snapshots.Node.{Node}
 use Rattle.mesh_base.specs.declared.snapshots.Ref.{Ref}
-use Rattle.mesh_book.specs.declared.book.Book.{Book}
-use Rattle.mesh_book.specs.WellFormed.{is_well_formed_book}
-use Rattle.mesh_scratch.specs.Closures.{Closure, closures, own_of}
-use Rattle.mesh_scratch.proofs.Listed.{one_each}
-use Rattle.mesh_versions.specs.category.Stated.{HaveCategories, IsCategoryAmong, stated as stated_all, stated_with}
-use Rattle.mesh_reuse.specs.Categories.{HasCategory, Stated}
-use Rattle.mesh_listed.specs.Listed.{is_list_fit, listed}
-use Rattle.mesh_due.specs.Plans.{Planned, planned, planned_by}
-use Rattle.mesh_due.specs.Versions.{version}
-use Rattle.mesh_changes.specs.Planning.{HasObject, compared_list, stated}
-use Rattle.mesh_versions.specs.versions.Clashes.{compared_in, versions}
-use Rattle.mesh_versions.proofs.versions.Steps.{have_as_many, take_got, versions_long}
+use Rattle.mesh_house_book.specs.declared.book.Book.{Book}
+use Rattle.mesh_house_book.specs.WellFormed.{is_well_formed_book}
+use Rattle.mesh_spec_model.specs.Closures.{Closure, closures, own_of}
+use Rattle.mesh_spec_model.proofs.Listed.{one_each}
+use Rattle.mesh_category.specs.category.Stated.{HaveCategories, IsCategoryAmong, stated as stated_all, stated_with}
+use Rattle.mesh_spec_changes.specs.reuse.Categories.{HasCategory, Stated}
+use Rattle.mesh_spec_changes.specs.listed.Listed.{is_list_fit, listed}
+use Rattle.mesh_spec_changes.specs.due.Plans.{Planned, planned, planned_by}
+use Rattle.mesh_spec_changes.specs.due.Versions.{version}
+use Rattle.mesh_spec_changes.specs.Planning.{HasObject, compared_list, stated}
+use Rattle.mesh_category.specs.versions.Clashes.{compared_in, versions}
+use Rattle.mesh_category.proofs.versions.Steps.{have_as_many, take_got, versions_long}
 use Rattle.mesh_plan.specs.Entries.{AreEntries, entries_of, entry_of}
 use Rattle.mesh_plan.proofs.Beside.{counterpart_is}
 

@@ -11,28 +11,28 @@ use Rattle.mesh_base.specs.declared.snapshots.Env.{Env}
 use Rattle.mesh_base.specs.declared.snapshots.Node.{Node}
 use Rattle.mesh_base.specs.declared.snapshots.Ref.{Ref}
 use Rattle.mesh_base.specs.declared.snapshots.Snapshot.{Snapshot}
-use Rattle.mesh_rules.specs.Proper.{ProjectNodes}
-use Rattle.mesh_rules.specs.declared.plans.Plan.{Plan}
-use Rattle.mesh_book.specs.declared.book.Book.{Book}
-use Rattle.mesh_book.specs.WellFormed.{is_well_formed_book, snapshot_at}
-use Rattle.mesh_scratch.specs.Closures.{Closure, closures}
-use Rattle.mesh_scratch.specs.Horizons.{Clock, Shows}
-use Rattle.mesh_laws.proofs.Has.{Has, Has_from, Has_map_from}
-use Rattle.mesh_laws.proofs.Zips.{zip_append}
-use Rattle.mesh_listed.specs.Closing.{closing}
-use Rattle.mesh_listed.specs.Listed.{as_node, entries, is_list_fit, listed}
-use Rattle.mesh_listed.proofs.Books.{fits}
-use Rattle.mesh_listed.proofs.Entries.{is_entry}
-use Rattle.mesh_listed.proofs.Projects as projects
-use Rattle.mesh_due.specs.Dues.{again, dues}
-use Rattle.mesh_due.specs.Plans.{Planned, planned, planned_by}
-use Rattle.mesh_due.specs.Versions.{node_ref}
-use Rattle.mesh_changes.specs.Environments.{env_at}
-use Rattle.mesh_changes.specs.Planning.{IsKept}
-use Rattle.mesh_marks.specs.Long.{first_too_long}
-use Rattle.mesh_versions.specs.declared.versions.faults.PlanFault.{PlanFault}
-use Rattle.mesh_versions.specs.declared.versions.faults.PlanFault.TheVariants.{Model, Moment, EnvUnknown, EnvPending, Memory}
-use Rattle.mesh_versions.proofs.versions.Steps.{take_got}
+use Rattle.mesh_base.specs.rules.Proper.{ProjectNodes}
+use Rattle.mesh_base.specs.declared.rules.plans.Plan.{Plan}
+use Rattle.mesh_house_book.specs.declared.book.Book.{Book}
+use Rattle.mesh_house_book.specs.WellFormed.{is_well_formed_book, snapshot_at}
+use Rattle.mesh_spec_model.specs.Closures.{Closure, closures}
+use Rattle.mesh_spec_model.specs.Horizons.{Clock, Shows}
+use Rattle.mesh_law_query.proofs.Has.{Has, Has_from, Has_map_from}
+use Rattle.mesh_law_query.proofs.Zips.{zip_append}
+use Rattle.mesh_spec_changes.specs.listed.Closing.{closing}
+use Rattle.mesh_spec_changes.specs.listed.Listed.{as_node, entries, is_list_fit, listed}
+use Rattle.mesh_spec_changes.proofs.listed.Books.{fits}
+use Rattle.mesh_spec_changes.proofs.listed.Entries.{is_entry}
+use Rattle.mesh_spec_changes.proofs.listed.Projects as projects
+use Rattle.mesh_spec_changes.specs.due.Dues.{again, dues}
+use Rattle.mesh_spec_changes.specs.due.Plans.{Planned, planned, planned_by}
+use Rattle.mesh_spec_changes.specs.due.Versions.{node_ref}
+use Rattle.mesh_spec_changes.specs.Environments.{env_at}
+use Rattle.mesh_spec_changes.specs.Planning.{IsKept}
+use Rattle.mesh_plan_due.specs.Long.{first_too_long}
+use Rattle.mesh_category.specs.declared.versions.faults.PlanFault.{PlanFault}
+use Rattle.mesh_category.specs.declared.versions.faults.PlanFault.TheVariants.{Model, Moment, EnvUnknown, EnvPending, Memory}
+use Rattle.mesh_category.proofs.versions.Steps.{take_got}
 use Rattle.mesh_plan.specs.Entries.{IsRecorded}
 use Rattle.mesh_plan.specs.Intervals.{RefusesUnits}
 use Rattle.mesh_plan.specs.Running.{IsRunOf, RefusesRunOf}

@@ -3,28 +3,28 @@ use Rattle.std.proofs.Common.{◌≡◌, ℕ, ℤ, true, false, inl, inr, List, 
 use Rattle.std.specs.Int.Signed.{lt_z}
 use Rattle.std.specs.declared.option.Option.{Option}
 use Rattle.std.proofs.lemmas.Int.{ints}
-use Rattle.mesh_values.specs.declared.values.Pair.{Pair}
+use Rattle.mesh_base_values.specs.declared.values.Pair.{Pair}
 use Rattle.mesh_base.specs.declared.forgets.Forget.{Forget}
 use Rattle.mesh_base.specs.declared.forgets.Restate.{Restate}
 use Rattle.mesh_base.specs.declared.plans.Due.{Due}
 use Rattle.mesh_base.specs.declared.plans.Entry.{Entry}
 use Rattle.mesh_base.specs.declared.snapshots.Node.{Node}
 use Rattle.mesh_base.specs.declared.snapshots.Ref.{Ref}
-use Rattle.mesh_rules.specs.Proper.{ProjectNodes}
-use Rattle.mesh_rules.specs.declared.plans.Plan.{Plan}
-use Rattle.mesh_book.specs.declared.book.Book.{Book}
-use Rattle.mesh_book.specs.WellFormed.{is_well_formed_book}
-use Rattle.mesh_scratch.specs.Closures.{closures}
-use Rattle.mesh_scratch.specs.Horizons.{Clock, Shows}
+use Rattle.mesh_base.specs.rules.Proper.{ProjectNodes}
+use Rattle.mesh_base.specs.declared.rules.plans.Plan.{Plan}
+use Rattle.mesh_house_book.specs.declared.book.Book.{Book}
+use Rattle.mesh_house_book.specs.WellFormed.{is_well_formed_book}
+use Rattle.mesh_spec_model.specs.Closures.{closures}
+use Rattle.mesh_spec_model.specs.Horizons.{Clock, Shows}
 use Rattle.mesh_lineage.specs.Unsteady.{unsteady}
-use Rattle.mesh_listed.specs.Listed.{is_list_fit}
-use Rattle.mesh_due.specs.Dues.{again, dues}
-use Rattle.mesh_due.specs.Plans.{planned}
-use Rattle.mesh_changes.specs.Planning.{IsPlan, compared_list}
-use Rattle.mesh_marks.specs.Long.{first_too_long}
-use Rattle.mesh_versions.specs.declared.versions.faults.PlanFault.{PlanFault}
-use Rattle.mesh_versions.specs.declared.versions.faults.PlanFault.TheVariants.{Model, Moment, EnvUnknown, EnvPending, Memory}
-use Rattle.mesh_versions.proofs.versions.Without.{none_clashes}
+use Rattle.mesh_spec_changes.specs.listed.Listed.{is_list_fit}
+use Rattle.mesh_spec_changes.specs.due.Dues.{again, dues}
+use Rattle.mesh_spec_changes.specs.due.Plans.{planned}
+use Rattle.mesh_spec_changes.specs.Planning.{IsPlan, compared_list}
+use Rattle.mesh_plan_due.specs.Long.{first_too_long}
+use Rattle.mesh_category.specs.declared.versions.faults.PlanFault.{PlanFault}
+use Rattle.mesh_category.specs.declared.versions.faults.PlanFault.TheVariants.{Model, Moment, EnvUnknown, EnvPending, Memory}
+use Rattle.mesh_category.proofs.versions.Without.{none_clashes}
 use Rattle.mesh_plan.specs.Intervals.{RefusesUnits}
 use Rattle.mesh_plan.specs.Plans.{IsPlanOf, RefusesEntries, RefusesPlan, Unclashed, promised, removed}
 use Rattle.mesh_plan.proofs.Models.{as_many, closures_are, nodes_are, objects_are}

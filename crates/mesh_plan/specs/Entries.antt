@@ -1,24 +1,24 @@
 -- The objects of a project's models beside their categories, and the models that are gone.
 use Rattle.std.specs.Prelude.{◌≡◌, List, [], ◌∷◌, map, Some, None, if◌then◌else◌}
 use Rattle.std.specs.declared.option.Option.{Option}
-use Rattle.mesh_values.specs.declared.values.Name.{Name}
-use Rattle.mesh_values.specs.declared.values.Pair.{Pair}
+use Rattle.mesh_base_values.specs.declared.values.Name.{Name}
+use Rattle.mesh_base_values.specs.declared.values.Pair.{Pair}
 use Rattle.mesh_base.specs.declared.plans.Category.{Category}
 use Rattle.mesh_base.specs.declared.plans.Category.TheVariants.{Unchanged}
 use Rattle.mesh_base.specs.declared.plans.Entry.{Entry}
 use Rattle.mesh_base.specs.declared.snapshots.Node.{Node}
 use Rattle.mesh_base.specs.declared.snapshots.Ref.{Ref}
 use Rattle.mesh_base.specs.declared.snapshots.Snapshot.{Snapshot}
-use Rattle.mesh_rules.specs.Proper.{has_node}
-use Rattle.mesh_book.specs.declared.book.Book.{Book}
-use Rattle.mesh_book.specs.WellFormed.{snapshot_at}
+use Rattle.mesh_base.specs.rules.Proper.{has_node}
+use Rattle.mesh_house_book.specs.declared.book.Book.{Book}
+use Rattle.mesh_house_book.specs.WellFormed.{snapshot_at}
 use Rattle.mesh_house.specs.World.{version_of}
-use Rattle.mesh_versions.specs.category.Stated.{HaveCategories}
-use Rattle.mesh_listed.specs.Listed.{listed}
-use Rattle.mesh_due.specs.Plans.{is_made}
-use Rattle.mesh_due.specs.Versions.{node_ref}
-use Rattle.mesh_versions.specs.versions.Clashes.{versions}
-use Rattle.mesh_printed.specs.plans.PlanText.{kind_word}
+use Rattle.mesh_category.specs.category.Stated.{HaveCategories}
+use Rattle.mesh_spec_changes.specs.listed.Listed.{listed}
+use Rattle.mesh_spec_changes.specs.due.Plans.{is_made}
+use Rattle.mesh_spec_changes.specs.due.Versions.{node_ref}
+use Rattle.mesh_category.specs.versions.Clashes.{versions}
+use Rattle.mesh_cli_print.specs.plans.PlanText.{kind_word}
 
 -- a model's entry: its category, its object, and whether that is made
 abbrev pub entry_of : Book → Category → Name → Entry

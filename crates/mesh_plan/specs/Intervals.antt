@@ -3,15 +3,15 @@ use Rattle.std.specs.Prelude.{◌≡◌, ℕ, ℤ, List, codes, map}
 use Rattle.std.specs.List.{slice_get}
 use Rattle.std.specs.declared.option.Option.{Option}
 use Rattle.std.specs.declared.option.Option.TheVariants.{None, Some}
-use Rattle.mesh_values.specs.declared.values.Name.{Name}
+use Rattle.mesh_base_values.specs.declared.values.Name.{Name}
 use Rattle.mesh_base.specs.declared.snapshots.Node.{Node}
-use Rattle.mesh_tokens.specs.declared.faults.FaultKind.{FaultKind}
-use Rattle.mesh_tokens.specs.declared.faults.FaultKind.TheVariants.{TooLarge}
-use Rattle.mesh_scratch.specs.Closures.{closures}
-use Rattle.mesh_scratch.specs.Horizons.{Clock, Shows, horizon}
-use Rattle.mesh_marks.specs.Long.{first_too_long}
-use Rattle.mesh_versions.specs.declared.versions.faults.PlanFault.{PlanFault}
-use Rattle.mesh_versions.specs.declared.versions.faults.PlanFault.TheVariants.{Model, Moment, EnvUnknown, EnvPending, Memory}
+use Rattle.mesh_query_tokens.specs.declared.faults.FaultKind.{FaultKind}
+use Rattle.mesh_query_tokens.specs.declared.faults.FaultKind.TheVariants.{TooLarge}
+use Rattle.mesh_spec_model.specs.Closures.{closures}
+use Rattle.mesh_spec_model.specs.Horizons.{Clock, Shows, horizon}
+use Rattle.mesh_plan_due.specs.Long.{first_too_long}
+use Rattle.mesh_category.specs.declared.versions.faults.PlanFault.{PlanFault}
+use Rattle.mesh_category.specs.declared.versions.faults.PlanFault.TheVariants.{Model, Moment, EnvUnknown, EnvPending, Memory}
 
 -- what is said of a model that has more units than may be
 abbrev pub too_many : FaultKind

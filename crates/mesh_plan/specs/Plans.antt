@@ -3,29 +3,29 @@ use Rattle.std.specs.Prelude.{◌≡◌, ◌⊎◌, ℕ, ℤ, true, false, List,
 use Rattle.std.specs.List.{All, flat_map}
 use Rattle.std.specs.declared.option.Option.{Option}
 use Rattle.std.specs.Int.Signed.{lt_z}
-use Rattle.mesh_values.specs.declared.values.Name.{Name}
-use Rattle.mesh_values.specs.declared.values.Pair.{Pair}
+use Rattle.mesh_base_values.specs.declared.values.Name.{Name}
+use Rattle.mesh_base_values.specs.declared.values.Pair.{Pair}
 use Rattle.mesh_base.specs.declared.forgets.Restate.{Restate}
 use Rattle.mesh_base.specs.declared.plans.Category.{Category}
 use Rattle.mesh_base.specs.declared.plans.Entry.{Entry}
 use Rattle.mesh_base.specs.declared.snapshots.Node.{Node}
 use Rattle.mesh_base.specs.declared.snapshots.Ref.{Ref}
-use Rattle.mesh_tokens.specs.declared.faults.FaultKind.{FaultKind}
-use Rattle.mesh_rules.specs.declared.plans.Plan.{Plan}
-use Rattle.mesh_book.specs.declared.book.Book.{Book}
-use Rattle.mesh_scratch.specs.Closures.{closures}
-use Rattle.mesh_scratch.specs.Horizons.{Clock, Shows}
-use Rattle.mesh_versions.specs.category.Stated.{HaveCategories}
+use Rattle.mesh_query_tokens.specs.declared.faults.FaultKind.{FaultKind}
+use Rattle.mesh_base.specs.declared.rules.plans.Plan.{Plan}
+use Rattle.mesh_house_book.specs.declared.book.Book.{Book}
+use Rattle.mesh_spec_model.specs.Closures.{closures}
+use Rattle.mesh_spec_model.specs.Horizons.{Clock, Shows}
+use Rattle.mesh_category.specs.category.Stated.{HaveCategories}
 use Rattle.mesh_lineage.specs.Unsteady.{unsteady}
-use Rattle.mesh_listed.specs.Listed.{listed}
-use Rattle.mesh_due.specs.Dues.{dues}
-use Rattle.mesh_due.specs.Plans.{planned}
-use Rattle.mesh_changes.specs.Changes.{Plan as Promised}
-use Rattle.mesh_changes.specs.Planning.{IsPlan, compared_list}
-use Rattle.mesh_marks.specs.Long.{first_too_long}
-use Rattle.mesh_versions.specs.declared.versions.faults.PlanFault.{PlanFault}
-use Rattle.mesh_versions.specs.declared.versions.faults.PlanFault.TheVariants.{Model, Moment, EnvUnknown, EnvPending, Memory}
-use Rattle.mesh_versions.specs.versions.Clashes.{IsAlone, IsFirstClash}
+use Rattle.mesh_spec_changes.specs.listed.Listed.{listed}
+use Rattle.mesh_spec_changes.specs.due.Dues.{dues}
+use Rattle.mesh_spec_changes.specs.due.Plans.{planned}
+use Rattle.mesh_spec_changes.specs.Changes.{Plan as Promised}
+use Rattle.mesh_spec_changes.specs.Planning.{IsPlan, compared_list}
+use Rattle.mesh_plan_due.specs.Long.{first_too_long}
+use Rattle.mesh_category.specs.declared.versions.faults.PlanFault.{PlanFault}
+use Rattle.mesh_category.specs.declared.versions.faults.PlanFault.TheVariants.{Model, Moment, EnvUnknown, EnvPending, Memory}
+use Rattle.mesh_category.specs.versions.Clashes.{IsAlone, IsFirstClash}
 use Rattle.mesh_plan.specs.Entries.{AreEntries, gone_of}
 use Rattle.mesh_plan.specs.Intervals.{IsTooLong}
 

@@ -4,17 +4,17 @@ use Rattle.std.specs.List.{AllZip}
 use Rattle.std.specs.declared.option.Option.{Option}
 use Rattle.std.specs.Int.Signed.{lt_z}
 use Rattle.mesh_base.specs.declared.snapshots.Env.{Env}
-use Rattle.mesh_rules.specs.declared.plans.Plan.{Plan}
-use Rattle.mesh_book.specs.declared.book.Book.{Book}
-use Rattle.mesh_scratch.specs.Closures.{closures}
-use Rattle.mesh_scratch.specs.Horizons.{Clock, Shows}
-use Rattle.mesh_listed.specs.Listed.{listed}
-use Rattle.mesh_due.specs.Dues.{dues}
-use Rattle.mesh_due.specs.Plans.{planned}
-use Rattle.mesh_changes.specs.Planning.{IsRunPlan}
-use Rattle.mesh_marks.specs.Long.{first_too_long}
-use Rattle.mesh_versions.specs.declared.versions.faults.PlanFault.{PlanFault}
-use Rattle.mesh_versions.specs.declared.versions.faults.PlanFault.TheVariants.{Model, Moment, EnvUnknown, EnvPending, Memory}
+use Rattle.mesh_base.specs.declared.rules.plans.Plan.{Plan}
+use Rattle.mesh_house_book.specs.declared.book.Book.{Book}
+use Rattle.mesh_spec_model.specs.Closures.{closures}
+use Rattle.mesh_spec_model.specs.Horizons.{Clock, Shows}
+use Rattle.mesh_spec_changes.specs.listed.Listed.{listed}
+use Rattle.mesh_spec_changes.specs.due.Dues.{dues}
+use Rattle.mesh_spec_changes.specs.due.Plans.{planned}
+use Rattle.mesh_spec_changes.specs.Planning.{IsRunPlan}
+use Rattle.mesh_plan_due.specs.Long.{first_too_long}
+use Rattle.mesh_category.specs.declared.versions.faults.PlanFault.{PlanFault}
+use Rattle.mesh_category.specs.declared.versions.faults.PlanFault.TheVariants.{Model, Moment, EnvUnknown, EnvPending, Memory}
 use Rattle.mesh_plan.specs.Entries.{IsRecorded}
 use Rattle.mesh_plan.specs.Intervals.{IsTooLong}
 use Rattle.mesh_plan.specs.Plans.{promised}

@@ -1,14 +1,14 @@
 // The list that a project is compared with.
 ghost use Rattle.std.specs.Prelude.{◌≡◌, [], codes, true, IfOk};
-ghost use Rattle.mesh_book.specs.WellFormed.{is_well_formed_book};
-ghost use Rattle.mesh_changes.specs.Environments.{prod};
-ghost use Rattle.mesh_changes.specs.Planning.{compared_list};
-ghost use Rattle.mesh_listed.specs.Listed.{is_list_fit};
+ghost use Rattle.mesh_house_book.specs.WellFormed.{is_well_formed_book};
+ghost use Rattle.mesh_spec_changes.specs.Environments.{prod};
+ghost use Rattle.mesh_spec_changes.specs.Planning.{compared_list};
+ghost use Rattle.mesh_spec_changes.specs.listed.Listed.{is_list_fit};
 
 use mesh_base::Refs;
-use mesh_book::Book;
+use mesh_base_values::Str;
+use mesh_house_book::Book;
 use mesh_list::{Memory, Seq};
-use mesh_values::Str;
 use std::alloc::Global;
 
 /// The name of production.

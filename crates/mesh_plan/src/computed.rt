@@ -2,23 +2,23 @@
 ghost use Rattle.std.specs.Prelude.{◌≡◌, true, length, map, IfOk, IfErr, OnOk, None, Some};
 ghost use Rattle.std.specs.List.{slice_get};
 ghost use Rattle.std.specs.Option.{option_copied};
-ghost use Rattle.mesh_rules.specs.Proper.{is_proper};
-ghost use Rattle.mesh_days.specs.Moments.{IsMoment};
-ghost use Rattle.mesh_scratch.specs.Closures.{closures};
-ghost use Rattle.mesh_scratch.specs.Horizons.{Clock, Shows, horizon};
-ghost use Rattle.mesh_due.specs.Dues.{again, dues};
-ghost use Rattle.mesh_due.specs.Plans.{planned};
-ghost use Rattle.mesh_marks.specs.Long.{first_too_long};
+ghost use Rattle.mesh_base.specs.rules.Proper.{is_proper};
+ghost use Rattle.mesh_time_days.specs.Moments.{IsMoment};
+ghost use Rattle.mesh_spec_model.specs.Closures.{closures};
+ghost use Rattle.mesh_spec_model.specs.Horizons.{Clock, Shows, horizon};
+ghost use Rattle.mesh_spec_changes.specs.due.Dues.{again, dues};
+ghost use Rattle.mesh_spec_changes.specs.due.Plans.{planned};
+ghost use Rattle.mesh_plan_due.specs.Long.{first_too_long};
 ghost use Rattle.mesh_plan.specs.Intervals.{IsLongest, RefusesUnits, too_many};
-ghost use Rattle.mesh_versions.specs.declared.versions.faults.PlanFault.TheVariants.{Model};
+ghost use Rattle.mesh_category.specs.declared.versions.faults.PlanFault.TheVariants.{Model};
 
 use mesh_base::{Dues, Entry, Forgets, Node, Restate};
-use mesh_book::Book;
+use mesh_base_values::MOST_INTERVALS;
+use mesh_category::versions::PlanFault;
+use mesh_house_book::Book;
 use mesh_list::{Duplicate, Memory, Seq};
-use mesh_marks::{Horizons, agains, dues, first_too_long, horizons_of};
-use mesh_tokens::FaultKind;
-use mesh_values::MOST_INTERVALS;
-use mesh_versions::versions::PlanFault;
+use mesh_plan_due::{Horizons, agains, dues, first_too_long, horizons_of};
+use mesh_query_tokens::FaultKind;
 use std::alloc::Global;
 
 /// What is forgotten, and what is due.

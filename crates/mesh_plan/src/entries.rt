@@ -1,22 +1,22 @@
 // The entries of a project's models.
 ghost use Rattle.std.specs.Prelude.{◌≡◌, ◌<◌, true, length, map, IfOk, IfErr, OnOk, Some};
 ghost use Rattle.std.specs.List.{All, slice_get};
-ghost use Rattle.mesh_book.specs.WellFormed.{is_well_formed_book};
+ghost use Rattle.mesh_house_book.specs.WellFormed.{is_well_formed_book};
 ghost use Rattle.mesh_house.specs.World.{version_of};
-ghost use Rattle.mesh_versions.specs.category.Stated.{HaveCategories};
-ghost use Rattle.mesh_listed.specs.Listed.{is_list_fit, listed};
-ghost use Rattle.mesh_due.specs.Plans.{is_made};
-ghost use Rattle.mesh_versions.specs.versions.Clashes.{IsAlone, versions};
+ghost use Rattle.mesh_category.specs.category.Stated.{HaveCategories};
+ghost use Rattle.mesh_spec_changes.specs.listed.Listed.{is_list_fit, listed};
+ghost use Rattle.mesh_spec_changes.specs.due.Plans.{is_made};
+ghost use Rattle.mesh_category.specs.versions.Clashes.{IsAlone, versions};
 ghost use Rattle.mesh_plan.specs.Entries.{entries_of, entry_of};
 ghost use Rattle.mesh_plan.specs.Plans.{RefusesEntries, Unclashed};
 
+use mesh_base::rules::Project;
 use mesh_base::{Categories, Category, Entries, Entry, Refs};
-use mesh_book::Book;
+use mesh_base_values::{Name, Names};
+use mesh_category::category::categories_beside;
+use mesh_category::versions::{PlanFault, project_of, versions};
+use mesh_house_book::Book;
 use mesh_list::{Duplicate, Memory, Seq};
-use mesh_rules::Project;
-use mesh_values::{Name, Names};
-use mesh_versions::category::categories_beside;
-use mesh_versions::versions::{PlanFault, project_of, versions};
 use std::alloc::Global;
 
 fn is_made(b: &Book, object: &Name) -> bool

@@ -2,19 +2,19 @@
 ghost use Rattle.std.specs.Prelude.{◌≡◌, ◌++◌, List, [], IfOk, OnOk};
 ghost use Rattle.std.specs.BTreeSet.{contains};
 ghost use Rattle.std.specs.Option.{option_copied};
-ghost use Rattle.mesh_values.specs.Names.{name_cmp};
-ghost use Rattle.mesh_values.specs.declared.values.Name.{Name};
+ghost use Rattle.mesh_base_values.specs.Names.{name_cmp};
+ghost use Rattle.mesh_base_values.specs.declared.values.Name.{Name};
 ghost use Rattle.mesh_base.specs.declared.snapshots.Node.{Node};
-ghost use Rattle.mesh_rules.specs.Proper.{has_node};
-ghost use Rattle.mesh_printed.specs.plans.PlanText.{kind_word};
+ghost use Rattle.mesh_base.specs.rules.Proper.{has_node};
+ghost use Rattle.mesh_cli_print.specs.plans.PlanText.{kind_word};
 ghost use Rattle.mesh_plan.specs.Entries.{gone_as, gone_of};
 ghost use Rattle.mesh_plan.specs.Plans.{removed};
 
 use mesh_base::{Node, Ref, Snapshot};
-use mesh_book::Book;
+use mesh_base_values::{Kind, Name, Pair, Pairs};
+use mesh_cli_print::plans::kind_word;
+use mesh_house_book::Book;
 use mesh_list::{Duplicate, Memory, Seq};
-use mesh_printed::plans::kind_word;
-use mesh_values::{Kind, Name, Pair, Pairs};
 use std::alloc::Global;
 use std::collections::BTreeSet;
 

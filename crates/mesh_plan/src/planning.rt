@@ -2,25 +2,25 @@
 ghost use Rattle.std.specs.Prelude.{◌≡◌, true, false, IfOk, IfErr};
 ghost use Rattle.std.specs.Int.Signed.{lt_z};
 ghost use Rattle.std.specs.Option.{option_copied};
-ghost use Rattle.mesh_book.specs.WellFormed.{is_well_formed_book};
-ghost use Rattle.mesh_changes.specs.Planning.{compared_list};
-ghost use Rattle.mesh_days.specs.Moments.{IsMoment};
-ghost use Rattle.mesh_listed.specs.Listed.{is_list_fit};
+ghost use Rattle.mesh_house_book.specs.WellFormed.{is_well_formed_book};
+ghost use Rattle.mesh_spec_changes.specs.Planning.{compared_list};
+ghost use Rattle.mesh_time_days.specs.Moments.{IsMoment};
+ghost use Rattle.mesh_spec_changes.specs.listed.Listed.{is_list_fit};
 ghost use Rattle.mesh_lineage.specs.Unsteady.{unsteady};
-ghost use Rattle.mesh_scratch.specs.Closures.{closures};
+ghost use Rattle.mesh_spec_model.specs.Closures.{closures};
 ghost use Rattle.mesh_plan.specs.Plans.{IsPlanOf, RefusesPlan, Unclashed, removed};
 
 use crate::compared::{compared_list, prod};
 use crate::computed::{Computed, compute};
 use crate::entries::entries;
 use crate::gone::removed;
+use mesh_base::rules::{Plan, Project};
 use mesh_base::{Entries, Refs, Restate};
-use mesh_book::Book;
+use mesh_base_values::{Pairs, Str};
+use mesh_category::versions::PlanFault;
+use mesh_house_book::Book;
 use mesh_lineage::unsteady;
 use mesh_list::{Duplicate, Memory, Seq, both};
-use mesh_rules::{Plan, Project};
-use mesh_values::{Pairs, Str};
-use mesh_versions::versions::PlanFault;
 use std::alloc::Global;
 
 // The models that are gone, and those that aren't steady.

@@ -3,21 +3,21 @@ ghost use Rattle.std.specs.Prelude.{◌≡◌, [], true, false, IfOk, IfErr, IsS
 ghost use Rattle.std.specs.List.{AllZip, Contains};
 ghost use Rattle.std.specs.Int.Signed.{lt_z};
 ghost use Rattle.mesh_base.specs.declared.snapshots.Node.{Node};
-ghost use Rattle.mesh_book.specs.WellFormed.{is_well_formed_book, snapshot_at};
-ghost use Rattle.mesh_changes.specs.Environments.{env_at};
-ghost use Rattle.mesh_days.specs.Moments.{IsMoment};
-ghost use Rattle.mesh_due.specs.Versions.{node_ref};
+ghost use Rattle.mesh_house_book.specs.WellFormed.{is_well_formed_book, snapshot_at};
+ghost use Rattle.mesh_spec_changes.specs.Environments.{env_at};
+ghost use Rattle.mesh_time_days.specs.Moments.{IsMoment};
+ghost use Rattle.mesh_spec_changes.specs.due.Versions.{node_ref};
 ghost use Rattle.mesh_plan.specs.Entries.{IsRecorded};
 ghost use Rattle.mesh_plan.specs.Running.{IsRunIn, IsRunOf, RefusesRun, RefusesRunOf};
 
 use crate::computed::{Computed, compute};
 use crate::entries::entry_of;
+use mesh_base::rules::{Plan, Project};
 use mesh_base::{Category, Entries, Entry, Env, Node, Ref};
-use mesh_book::Book;
+use mesh_base_values::Str;
+use mesh_category::versions::{PlanFault, project_of};
+use mesh_house_book::Book;
 use mesh_list::{Duplicate, Memory, Seq};
-use mesh_rules::{Plan, Project};
-use mesh_values::Str;
-use mesh_versions::versions::{PlanFault, project_of};
 use std::alloc::Global;
 
 fn node_ref(node: &Node) -> Result<Ref, Memory>

@@ -1,10 +1,10 @@
 -- What a run is made of, and how many nodes are left behind its parts.
 use Rattle.std.proofs.Common.{◌≡◌, ℕ, ℤ, ◌+◌, List, [], ◌∷◌, Bool, true, false, ◌⊎◌, inl, inr, refl}
-use Rattle.mesh_tokens.specs.declared.tokens.Token.{Token}
-use Rattle.mesh_grammar.specs.Signs.{place, IsDay}
-use Rattle.mesh_grammar.specs.Rules.{Rule, Tree}
-use Rattle.mesh_grammar.specs.Plans.{Plan, done, stuck, accept, peek, note, read, nest, day, star, plan}
-use Rattle.mesh_grammar.specs.Machine.{begins, are_star, begins_star, Runs, ends, accepts, rejects, sees, misses, notes, reads, nests, days, stars, starless, Cause, syntax, nesting, Fails, fails_here, fails_deep, fails_day, fails_behind_day, fails_after, fails_without, fails_seen, fails_missed, fails_noted, fails_first, fails_then, fails_inside, fails_behind, fails_starred, fails_starless}
+use Rattle.mesh_query_tokens.specs.declared.tokens.Token.{Token}
+use Rattle.mesh_query_grammar.specs.Signs.{place, IsDay}
+use Rattle.mesh_query_grammar.specs.Rules.{Rule, Tree}
+use Rattle.mesh_query_grammar.specs.Plans.{Plan, done, stuck, accept, peek, note, read, nest, day, star, plan}
+use Rattle.mesh_query_grammar.specs.Machine.{begins, are_star, begins_star, Runs, ends, accepts, rejects, sees, misses, notes, reads, nests, days, stars, starless, Cause, syntax, nesting, Fails, fails_here, fails_deep, fails_day, fails_behind_day, fails_after, fails_without, fails_seen, fails_missed, fails_noted, fails_first, fails_then, fails_inside, fails_behind, fails_starred, fails_starless}
 use Rattle.mesh_query.specs.Counts.{is_node, less, inside, entered, left_behind, left_at}
 
 -- how many nodes are left, by how many there were

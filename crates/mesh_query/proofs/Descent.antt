@@ -3,29 +3,29 @@ use Rattle.std.proofs.Common.{◌≡◌, ℕ, ℤ, ◌+◌, ◌-◌, ◌<◌, �
 use Rattle.std.specs.Str.{bytes_eq}
 use Rattle.std.proofs.lemmas.List.{drop_more, drop_all, drop-drop}
 use Rattle.std.proofs.lemmas.Bool.{cases_lt, cases_Bool, or_parts}
-use Rattle.mesh_tokens.specs.declared.tokens.Token.{Token}
-use Rattle.mesh_tokens.specs.declared.tokens.TokenKind.{TokenKind}
-use Rattle.mesh_tokens.specs.declared.tokens.TokenKind.TheVariants.{Number}
-use Rattle.mesh_values.specs.declared.values.ColType.{ColType}
-use Rattle.mesh_surface.specs.declared.signs.AddSign.{AddSign}
-use Rattle.mesh_surface.specs.declared.signs.MulSign.{MulSign}
-use Rattle.mesh_surface.specs.declared.expressions.AddStep.{AddStep, roll-AddStep}
-use Rattle.mesh_surface.specs.declared.expressions.MulExpr.{MulExpr}
-use Rattle.mesh_surface.specs.declared.expressions.MulStep.{MulStep, roll-MulStep}
-use Rattle.mesh_surface.specs.declared.expressions.Unary.{Unary}
-use Rattle.mesh_surface.specs.declared.expressions.Primary.{Primary}
-use Rattle.mesh_surface.specs.declared.signs.Function.{Function}
-use Rattle.mesh_surface.specs.declared.signs.Function.TheVariants as the_function
-use Rattle.mesh_grammar.specs.Signs.{place, Next, IsDay, IsName, IsSign, IsType, add_text, mul_text}
-use Rattle.mesh_grammar.specs.Words.{is_reserved}
-use Rattle.mesh_grammar.specs.Rules.{Rule, Tree, product, signed, more_sums, more_products, more_casts, value, named, arguments}
-use Rattle.mesh_grammar.specs.Plans.{Plan, done, stuck, accept, peek, read, nest, day, star, plan, said, kind_is_word, is_word, is_sign, is_text, is_name, call_plan, is_number, is_macro, is_any, negated, ends_items, begins_join, column_plan, named_plan, literal_plan}
-use Rattle.mesh_grammar.specs.Machine.{begins, begins_star, are_star, days, stars, Cause, syntax, nesting, reads, ends, fails_here, fails_deep, fails_day, fails_behind_day, fails_first, fails_then, fails_inside, fails_starred}
-use Rattle.mesh_grammar.proofs.Heads.{name_at}
-use Rattle.mesh_grammar.proofs.Takes.{name_taken, sign_taken}
-use Rattle.mesh_words.specs.declared.fault.Fault.{Fault}
-use Rattle.mesh_words.specs.declared.fault.Fault.TheVariants as fault
-use Rattle.mesh_words.specs.Answers.{IsNot}
+use Rattle.mesh_query_tokens.specs.declared.tokens.Token.{Token}
+use Rattle.mesh_query_tokens.specs.declared.tokens.TokenKind.{TokenKind}
+use Rattle.mesh_query_tokens.specs.declared.tokens.TokenKind.TheVariants.{Number}
+use Rattle.mesh_base_values.specs.declared.values.ColType.{ColType}
+use Rattle.mesh_query_grammar.specs.declared.surface.signs.AddSign.{AddSign}
+use Rattle.mesh_query_grammar.specs.declared.surface.signs.MulSign.{MulSign}
+use Rattle.mesh_query_grammar.specs.declared.surface.expressions.AddStep.{AddStep, roll-AddStep}
+use Rattle.mesh_query_grammar.specs.declared.surface.expressions.MulExpr.{MulExpr}
+use Rattle.mesh_query_grammar.specs.declared.surface.expressions.MulStep.{MulStep, roll-MulStep}
+use Rattle.mesh_query_grammar.specs.declared.surface.expressions.Unary.{Unary}
+use Rattle.mesh_query_grammar.specs.declared.surface.expressions.Primary.{Primary}
+use Rattle.mesh_query_grammar.specs.declared.surface.signs.Function.{Function}
+use Rattle.mesh_query_grammar.specs.declared.surface.signs.Function.TheVariants as the_function
+use Rattle.mesh_query_grammar.specs.Signs.{place, Next, IsDay, IsName, IsSign, IsType, add_text, mul_text}
+use Rattle.mesh_query_grammar.specs.Words.{is_reserved}
+use Rattle.mesh_query_grammar.specs.Rules.{Rule, Tree, product, signed, more_sums, more_products, more_casts, value, named, arguments}
+use Rattle.mesh_query_grammar.specs.Plans.{Plan, done, stuck, accept, peek, read, nest, day, star, plan, said, kind_is_word, is_word, is_sign, is_text, is_name, call_plan, is_number, is_macro, is_any, negated, ends_items, begins_join, column_plan, named_plan, literal_plan}
+use Rattle.mesh_query_grammar.specs.Machine.{begins, begins_star, are_star, days, stars, Cause, syntax, nesting, reads, ends, fails_here, fails_deep, fails_day, fails_behind_day, fails_first, fails_then, fails_inside, fails_starred}
+use Rattle.mesh_query_grammar.proofs.Heads.{name_at}
+use Rattle.mesh_query_grammar.proofs.Takes.{name_taken, sign_taken}
+use Rattle.mesh_query_grammar.specs.declared.lookahead.fault.Fault.{Fault}
+use Rattle.mesh_query_grammar.specs.declared.lookahead.fault.Fault.TheVariants as fault
+use Rattle.mesh_query_grammar.specs.lookahead.Answers.{IsNot}
 use Rattle.mesh_query.specs.Counts.{is_node, less, inside, entered, left_behind, left_at, Goes, Reads, GoesWrong}
 use Rattle.mesh_query.specs.Answers.{Failed, Onward, IsNoDay, function_in, kind_calls}
 use Rattle.mesh_query.specs.Rests.{one_alone, word_plan}

@@ -2,32 +2,32 @@
 use Rattle.std.proofs.Common.{◌≡◌, ℕ, ℤ, ◌+◌, List, Bool, Option, Some, None, length, map, ap, sym, ◌∙◌}
 use Rattle.std.specs.List.{sum}
 use Rattle.std.specs.Option.{option_map}
-use Rattle.mesh_values.specs.declared.values.ColType.{ColType}
-use Rattle.mesh_surface.specs.declared.signs.Function.{Function}
-use Rattle.mesh_surface.specs.declared.signs.Cmp.{Cmp}
-use Rattle.mesh_surface.specs.declared.signs.AddSign.{AddSign}
-use Rattle.mesh_surface.specs.declared.signs.MulSign.{MulSign}
-use Rattle.mesh_surface.specs.declared.expressions.Args.TheOpen.{Star, Distinct, List as Values, Not, NotExpr::Plain, Number, Text, Date, Truth, Null, Macro, Column, Call, Group, Case, Cast, Nothing, Compare, IsNull, Between, OneOf, Minus, Unary::Plain}
-use Rattle.mesh_surface.specs.declared.expressions.OrExpr.{OrExpr, roll-OrExpr, fold-roll-OrExpr}
-use Rattle.mesh_surface.specs.declared.expressions.AndExpr.{AndExpr, roll-AndExpr, fold-roll-AndExpr}
-use Rattle.mesh_surface.specs.declared.expressions.NotExpr.{NotExpr, fold-roll-NotExpr}
-use Rattle.mesh_surface.specs.declared.expressions.NotExpr.TheVariants as the_not
-use Rattle.mesh_surface.specs.declared.expressions.Pred.{Pred, roll-Pred, fold-roll-Pred}
-use Rattle.mesh_surface.specs.declared.expressions.Test.{Test, fold-roll-Test}
-use Rattle.mesh_surface.specs.declared.expressions.Test.TheVariants as the_test
-use Rattle.mesh_surface.specs.declared.expressions.CatExpr.{CatExpr, roll-CatExpr, fold-roll-CatExpr}
-use Rattle.mesh_surface.specs.declared.expressions.AddExpr.{AddExpr, roll-AddExpr, fold-roll-AddExpr}
-use Rattle.mesh_surface.specs.declared.expressions.AddStep.{AddStep, roll-AddStep, fold-roll-AddStep}
-use Rattle.mesh_surface.specs.declared.expressions.MulExpr.{MulExpr, roll-MulExpr, fold-roll-MulExpr}
-use Rattle.mesh_surface.specs.declared.expressions.MulStep.{MulStep, roll-MulStep, fold-roll-MulStep}
-use Rattle.mesh_surface.specs.declared.expressions.Unary.{Unary, fold-roll-Unary}
-use Rattle.mesh_surface.specs.declared.expressions.Unary.TheVariants as the_unary
-use Rattle.mesh_surface.specs.declared.expressions.Post.{Post, roll-Post, fold-roll-Post}
-use Rattle.mesh_surface.specs.declared.expressions.Primary.{Primary, fold-roll-Primary}
-use Rattle.mesh_surface.specs.declared.expressions.Primary.TheVariants as the_primary
-use Rattle.mesh_surface.specs.declared.expressions.Arm.{Arm, roll-Arm, fold-roll-Arm}
-use Rattle.mesh_surface.specs.declared.expressions.Args.{Args, fold-roll-Args}
-use Rattle.mesh_surface.specs.declared.expressions.Args.TheVariants as the_args
+use Rattle.mesh_base_values.specs.declared.values.ColType.{ColType}
+use Rattle.mesh_query_grammar.specs.declared.surface.signs.Function.{Function}
+use Rattle.mesh_query_grammar.specs.declared.surface.signs.Cmp.{Cmp}
+use Rattle.mesh_query_grammar.specs.declared.surface.signs.AddSign.{AddSign}
+use Rattle.mesh_query_grammar.specs.declared.surface.signs.MulSign.{MulSign}
+use Rattle.mesh_query_grammar.specs.declared.surface.expressions.Args.TheOpen.{Star, Distinct, List as Values, Not, NotExpr::Plain, Number, Text, Date, Truth, Null, Macro, Column, Call, Group, Case, Cast, Nothing, Compare, IsNull, Between, OneOf, Minus, Unary::Plain}
+use Rattle.mesh_query_grammar.specs.declared.surface.expressions.OrExpr.{OrExpr, roll-OrExpr, fold-roll-OrExpr}
+use Rattle.mesh_query_grammar.specs.declared.surface.expressions.AndExpr.{AndExpr, roll-AndExpr, fold-roll-AndExpr}
+use Rattle.mesh_query_grammar.specs.declared.surface.expressions.NotExpr.{NotExpr, fold-roll-NotExpr}
+use Rattle.mesh_query_grammar.specs.declared.surface.expressions.NotExpr.TheVariants as the_not
+use Rattle.mesh_query_grammar.specs.declared.surface.expressions.Pred.{Pred, roll-Pred, fold-roll-Pred}
+use Rattle.mesh_query_grammar.specs.declared.surface.expressions.Test.{Test, fold-roll-Test}
+use Rattle.mesh_query_grammar.specs.declared.surface.expressions.Test.TheVariants as the_test
+use Rattle.mesh_query_grammar.specs.declared.surface.expressions.CatExpr.{CatExpr, roll-CatExpr, fold-roll-CatExpr}
+use Rattle.mesh_query_grammar.specs.declared.surface.expressions.AddExpr.{AddExpr, roll-AddExpr, fold-roll-AddExpr}
+use Rattle.mesh_query_grammar.specs.declared.surface.expressions.AddStep.{AddStep, roll-AddStep, fold-roll-AddStep}
+use Rattle.mesh_query_grammar.specs.declared.surface.expressions.MulExpr.{MulExpr, roll-MulExpr, fold-roll-MulExpr}
+use Rattle.mesh_query_grammar.specs.declared.surface.expressions.MulStep.{MulStep, roll-MulStep, fold-roll-MulStep}
+use Rattle.mesh_query_grammar.specs.declared.surface.expressions.Unary.{Unary, fold-roll-Unary}
+use Rattle.mesh_query_grammar.specs.declared.surface.expressions.Unary.TheVariants as the_unary
+use Rattle.mesh_query_grammar.specs.declared.surface.expressions.Post.{Post, roll-Post, fold-roll-Post}
+use Rattle.mesh_query_grammar.specs.declared.surface.expressions.Primary.{Primary, fold-roll-Primary}
+use Rattle.mesh_query_grammar.specs.declared.surface.expressions.Primary.TheVariants as the_primary
+use Rattle.mesh_query_grammar.specs.declared.surface.expressions.Arm.{Arm, roll-Arm, fold-roll-Arm}
+use Rattle.mesh_query_grammar.specs.declared.surface.expressions.Args.{Args, fold-roll-Args}
+use Rattle.mesh_query_grammar.specs.declared.surface.expressions.Args.TheVariants as the_args
 use Rattle.mesh_query.specs.Sizes.{operators, some_nodes, nodes_of, and_nodes, not_nodes, pred_nodes, test_nodes, cat_nodes, sum_nodes, add_nodes, product_nodes, mul_nodes, unary_nodes, post_nodes, value_nodes, arm_nodes, args_nodes, args_here, not_here, value_here, test_here, unary_here, sum_here, add_here, and_here, arm_here, cat_here, product_here, mul_here, or_here, post_here, pred_here}
 
 pub or_layer : (at : ℕ) (xs : List AndExpr) → nodes_of (roll-OrExpr (record { at = at; parts = xs })) ≡ operators (map and_nodes xs) + sum (map and_nodes xs)

@@ -1,19 +1,19 @@
 -- What is made of a phrase that has been read.
 use Rattle.std.proofs.Common.{◌≡◌, ℕ, ◌+◌, ◌-◌, ◌<◌, ◌≤◌, List, codes, Bool, Result, Ok, Err, MatchResult, drop, refl, sym, subst, arith}
-use Rattle.mesh_tokens.specs.declared.tokens.Token.{Token}
-use Rattle.mesh_tokens.specs.declared.tokens.TokenKind.TheVariants.{Sign}
-use Rattle.mesh_values.specs.declared.values.ColType.{ColType}
-use Rattle.mesh_grammar.specs.Signs.{IsSign, IsType}
-use Rattle.mesh_grammar.specs.Rules.{Rule, Tree, cast}
-use Rattle.mesh_grammar.specs.Plans.{Plan, accept, stuck, nest, is_sign, is_type, type_named}
-use Rattle.mesh_words.specs.Answers.{IsNot}
-use Rattle.mesh_words.specs.Places.{Takes}
+use Rattle.mesh_query_tokens.specs.declared.tokens.Token.{Token}
+use Rattle.mesh_query_tokens.specs.declared.tokens.TokenKind.TheVariants.{Sign}
+use Rattle.mesh_base_values.specs.declared.values.ColType.{ColType}
+use Rattle.mesh_query_grammar.specs.Signs.{IsSign, IsType}
+use Rattle.mesh_query_grammar.specs.Rules.{Rule, Tree, cast}
+use Rattle.mesh_query_grammar.specs.Plans.{Plan, accept, stuck, nest, is_sign, is_type, type_named}
+use Rattle.mesh_query_grammar.specs.lookahead.Answers.{IsNot}
+use Rattle.mesh_query_grammar.specs.lookahead.Places.{Takes}
 use Rattle.mesh_query.specs.Counts.{is_node, less, inside, entered, Reads}
 use Rattle.mesh_query.specs.Answers.{Failed, Onward, IsUnopened}
 use Rattle.mesh_query.proofs.Steps.{past_sign, past_type, counted, has_nested}
 use Rattle.mesh_query.proofs.Descent.{lacks, too_deep, fails_nested}
-use Rattle.mesh_words.specs.declared.fault.Fault.{Fault}
-use Rattle.mesh_words.specs.declared.fault.Fault.TheVariants as fault
+use Rattle.mesh_query_grammar.specs.declared.lookahead.fault.Fault.{Fault}
+use Rattle.mesh_query_grammar.specs.declared.lookahead.fault.Fault.TheVariants as fault
 
 -- what is made of a phrase that has been read
 pub with_read : {A : Type 0} (Q P : A → Type 0) (F : Fault → Type 0) (r : Result A Fault) {G : Type 0} → MatchResult r Q (λ f. ⊥) → MatchResult r P F → ((x : A) → Q x → P x → G) → G

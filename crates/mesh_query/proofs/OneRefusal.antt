@@ -1,15 +1,15 @@
 -- Tokens are refused in one way, and what is a query of the depth that is allowed for want of memory alone, or because an
 -- expression is too large.
 use Rattle.std.proofs.Common.{◌≡◌, ◌+◌, ℕ, List, [], ◌∷◌, ◌++◌, codes, true, false, Some, ◌⊎◌, inl, inr, refl, ap, sym, ◌∙◌, arith}
-use Rattle.mesh_tokens.specs.declared.tokens.Token.{Token}
-use Rattle.mesh_tokens.specs.declared.faults.FaultKind.TheVariants.{Syntax, TooLarge}
-use Rattle.mesh_tokens.specs.declared.faults.ReadFault.{ReadFault}
-use Rattle.mesh_tokens.specs.declared.faults.ReadFault.TheVariants.{Fault, Memory}
-use Rattle.mesh_words.specs.Places.{deepest}
-use Rattle.mesh_surface.specs.declared.queries.Surface.{Surface}
-use Rattle.mesh_grammar.specs.Grammar.{query, Spells}
-use Rattle.mesh_grammar.specs.Machine.{next, Cause, syntax, nesting}
-use Rattle.mesh_grammar.proofs.Faults.{as_read, one_tree, one_longest}
+use Rattle.mesh_query_tokens.specs.declared.tokens.Token.{Token}
+use Rattle.mesh_query_tokens.specs.declared.faults.FaultKind.TheVariants.{Syntax, TooLarge}
+use Rattle.mesh_query_tokens.specs.declared.faults.ReadFault.{ReadFault}
+use Rattle.mesh_query_tokens.specs.declared.faults.ReadFault.TheVariants.{Fault, Memory}
+use Rattle.mesh_query_grammar.specs.lookahead.Places.{deepest}
+use Rattle.mesh_query_grammar.specs.declared.surface.queries.Surface.{Surface}
+use Rattle.mesh_query_grammar.specs.Grammar.{query, Spells}
+use Rattle.mesh_query_grammar.specs.Machine.{next, Cause, syntax, nesting}
+use Rattle.mesh_query_grammar.proofs.Faults.{as_read, one_tree, one_longest}
 use Rattle.mesh_query.specs.Refusals.{end_of, IsNoQuery, IsTooDeep, IsTooLarge, IsCrowded, StopsAt, StopsFirst, IsLimit, IsRefusal}
 use Rattle.mesh_query.specs.Sizes.{is_within, most_nodes}
 use Rattle.mesh_query.proofs.Descent.{both}

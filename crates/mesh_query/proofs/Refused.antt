@@ -1,18 +1,18 @@
 -- From the answers of the descent to what is refused, and that what is read is the only tree.
 use Rattle.std.proofs.Common.{◌≡◌, ◌⊎◌, false, ℕ, ◌+◌, ◌<◌, [], ◌∷◌, ◌++◌, codes, inl, inr, List, length, drop, take, get_or, refl, ap, subst, sym, ◌∙◌, append_assoc}
 use Rattle.std.proofs.lemmas.List.{drop_more, take_more, take-append-drop, append_cancel_right}
-use Rattle.mesh_tokens.specs.declared.tokens.Token.{Token}
-use Rattle.mesh_tokens.specs.declared.tokens.TokenKind.TheVariants.{Number}
-use Rattle.mesh_tokens.specs.declared.faults.FaultKind.TheVariants.{Syntax, TooLarge}
-use Rattle.mesh_tokens.specs.declared.faults.ReadFault.{ReadFault}
-use Rattle.mesh_tokens.specs.declared.faults.ReadFault.TheVariants.{Fault, Memory}
-use Rattle.mesh_words.specs.declared.fault.Fault.{Fault as TokenFault}
-use Rattle.mesh_words.specs.declared.fault.Fault.TheVariants as fault
-use Rattle.mesh_words.specs.Places.{deepest}
-use Rattle.mesh_surface.specs.declared.queries.Surface.{Surface}
-use Rattle.mesh_grammar.specs.Rules.{query as the_query}
-use Rattle.mesh_grammar.specs.Machine.{next, syntax, nesting}
-use Rattle.mesh_grammar.proofs.Faults.{failed, too_deep, left_over}
+use Rattle.mesh_query_tokens.specs.declared.tokens.Token.{Token}
+use Rattle.mesh_query_tokens.specs.declared.tokens.TokenKind.TheVariants.{Number}
+use Rattle.mesh_query_tokens.specs.declared.faults.FaultKind.TheVariants.{Syntax, TooLarge}
+use Rattle.mesh_query_tokens.specs.declared.faults.ReadFault.{ReadFault}
+use Rattle.mesh_query_tokens.specs.declared.faults.ReadFault.TheVariants.{Fault, Memory}
+use Rattle.mesh_query_grammar.specs.declared.lookahead.fault.Fault.{Fault as TokenFault}
+use Rattle.mesh_query_grammar.specs.declared.lookahead.fault.Fault.TheVariants as fault
+use Rattle.mesh_query_grammar.specs.lookahead.Places.{deepest}
+use Rattle.mesh_query_grammar.specs.declared.surface.queries.Surface.{Surface}
+use Rattle.mesh_query_grammar.specs.Rules.{query as the_query}
+use Rattle.mesh_query_grammar.specs.Machine.{next, syntax, nesting}
+use Rattle.mesh_query_grammar.proofs.Faults.{failed, too_deep, left_over}
 use Rattle.mesh_query.specs.Answers.{Failed}
 use Rattle.mesh_query.specs.Refusals.{end_of, IsTooDeep, IsTooLarge, IsCrowded, StopsFirst, IsLimit, IsAmiss, IsRefusal}
 use Rattle.mesh_query.specs.Sizes.{most_nodes}

@@ -1,17 +1,17 @@
 -- Steps of the descent, and how it ends.
 use Rattle.std.proofs.Common.{◌≡◌, ℕ, ◌+◌, List, ◌∷◌, Bool, true, false, refl, ap, sym, ◌∙◌, subst}
-use Rattle.mesh_values.specs.declared.values.ColType.{ColType}
-use Rattle.mesh_tokens.specs.declared.tokens.Token.{Token}
-use Rattle.mesh_tokens.specs.declared.tokens.TokenKind.{TokenKind}
-use Rattle.mesh_tokens.specs.declared.tokens.TokenKind.TheVariants.{Ident, Sign}
-use Rattle.mesh_surface.specs.declared.signs.Cmp.{Cmp}
-use Rattle.mesh_surface.specs.declared.signs.AddSign.{AddSign}
-use Rattle.mesh_surface.specs.declared.signs.MulSign.{MulSign}
-use Rattle.mesh_grammar.specs.Signs.{place, IsWord, IsSign, IsName, IsType, cmp_text, add_text, mul_text}
-use Rattle.mesh_grammar.specs.Rules.{Rule, Tree}
-use Rattle.mesh_grammar.specs.Plans.{Plan, done, accept, peek, note, read, nest, star, plan, said, type_named, is_word, is_sign, is_name, is_type, is_cmp, is_add, is_mul, cmp_said, add_said, mul_said}
-use Rattle.mesh_grammar.specs.Machine.{begins, begins_star, ends, accepts, rejects, sees, misses, notes, reads, nests, starless, fails_after, fails_without, fails_seen, fails_missed, fails_noted, fails_then, fails_behind, fails_starless}
-use Rattle.mesh_grammar.proofs.Takes.{word_taken, sign_taken, name_taken, type_taken, cmp_taken, add_taken, mul_taken}
+use Rattle.mesh_base_values.specs.declared.values.ColType.{ColType}
+use Rattle.mesh_query_tokens.specs.declared.tokens.Token.{Token}
+use Rattle.mesh_query_tokens.specs.declared.tokens.TokenKind.{TokenKind}
+use Rattle.mesh_query_tokens.specs.declared.tokens.TokenKind.TheVariants.{Ident, Sign}
+use Rattle.mesh_query_grammar.specs.declared.surface.signs.Cmp.{Cmp}
+use Rattle.mesh_query_grammar.specs.declared.surface.signs.AddSign.{AddSign}
+use Rattle.mesh_query_grammar.specs.declared.surface.signs.MulSign.{MulSign}
+use Rattle.mesh_query_grammar.specs.Signs.{place, IsWord, IsSign, IsName, IsType, cmp_text, add_text, mul_text}
+use Rattle.mesh_query_grammar.specs.Rules.{Rule, Tree}
+use Rattle.mesh_query_grammar.specs.Plans.{Plan, done, accept, peek, note, read, nest, star, plan, said, type_named, is_word, is_sign, is_name, is_type, is_cmp, is_add, is_mul, cmp_said, add_said, mul_said}
+use Rattle.mesh_query_grammar.specs.Machine.{begins, begins_star, ends, accepts, rejects, sees, misses, notes, reads, nests, starless, fails_after, fails_without, fails_seen, fails_missed, fails_noted, fails_then, fails_behind, fails_starless}
+use Rattle.mesh_query_grammar.proofs.Takes.{word_taken, sign_taken, name_taken, type_taken, cmp_taken, add_taken, mul_taken}
 use Rattle.mesh_query.specs.Counts.{is_node, less, inside, entered, left_behind, left_at, Goes, Reads, GoesWrong}
 use Rattle.mesh_query.specs.Answers.{Onward}
 

@@ -1,15 +1,15 @@
 -- Reading tokens ends in one way: one place, one cause and one number of nodes that are left.
 use Rattle.std.proofs.Common.{◌≡◌, ℕ, ℤ, ◌+◌, List, [], ◌∷◌, Bool, true, false, ◌⊎◌, inl, inr, refl, ap, sym, ◌∙◌, subst, arith}
-use Rattle.mesh_tokens.specs.declared.tokens.Token.{Token}
-use Rattle.mesh_grammar.specs.Signs.{IsDay}
-use Rattle.mesh_grammar.specs.Rules.{Rule, Tree}
-use Rattle.mesh_grammar.specs.Plans.{Plan, plan}
-use Rattle.mesh_grammar.specs.Machine.{begins, are_star, begins_star, Runs, ends, accepts, rejects, sees, misses, notes, reads, nests, days, stars, starless, Cause, syntax, nesting, Fails, fails_here, fails_deep, fails_day, fails_behind_day, fails_after, fails_without, fails_seen, fails_missed, fails_noted, fails_first, fails_then, fails_inside, fails_behind, fails_starred, fails_starless}
-use Rattle.mesh_tokens.specs.declared.tokens.TokenKind.TheVariants.{Text}
-use Rattle.mesh_days.specs.Moments.{IsDayText}
-use Rattle.mesh_days.proofs.TextLaws.{one_day}
-use Rattle.mesh_grammar.proofs.Runs.{refused, Deep}
-use Rattle.mesh_grammar.proofs.Endings.{all}
+use Rattle.mesh_query_tokens.specs.declared.tokens.Token.{Token}
+use Rattle.mesh_query_grammar.specs.Signs.{IsDay}
+use Rattle.mesh_query_grammar.specs.Rules.{Rule, Tree}
+use Rattle.mesh_query_grammar.specs.Plans.{Plan, plan}
+use Rattle.mesh_query_grammar.specs.Machine.{begins, are_star, begins_star, Runs, ends, accepts, rejects, sees, misses, notes, reads, nests, days, stars, starless, Cause, syntax, nesting, Fails, fails_here, fails_deep, fails_day, fails_behind_day, fails_after, fails_without, fails_seen, fails_missed, fails_noted, fails_first, fails_then, fails_inside, fails_behind, fails_starred, fails_starless}
+use Rattle.mesh_query_tokens.specs.declared.tokens.TokenKind.TheVariants.{Text}
+use Rattle.mesh_time_days.specs.Moments.{IsDayText}
+use Rattle.mesh_time_days.proofs.TextLaws.{one_day}
+use Rattle.mesh_query_grammar.proofs.Runs.{refused, Deep}
+use Rattle.mesh_query_grammar.proofs.Endings.{all}
 use Rattle.mesh_query.specs.Counts.{is_node, less, inside, entered, left_behind, left_at}
 use Rattle.mesh_query.proofs.Counted.{Count, Like, Run, Twice, Took, TookStar, parts, Fault, First, Then, FailsBehind, FailsBehindStar, Here, faults}
 use Rattle.mesh_query.proofs.Descent.{both}

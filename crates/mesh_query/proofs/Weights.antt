@@ -7,24 +7,24 @@ use Rattle.std.proofs.lemmas.Bool.Decides.{leb_tells}
 use Rattle.std.proofs.lemmas.List.{length-append, length-map}
 use Rattle.std.proofs.lemmas.List.Folds.{list_all-append}
 use Rattle.std.proofs.lemmas.List.Sums.{sum-map, sum_by-append}
-use Rattle.mesh_tokens.specs.declared.tokens.Token.{Token}
-use Rattle.mesh_values.specs.declared.values.ColType.{ColType}
-use Rattle.mesh_tokens.specs.declared.tokens.TokenKind.{TokenKind}
-use Rattle.mesh_tokens.specs.declared.tokens.TokenKind.TheVariants.{Ident, Sign, Number, Text, Macro}
-use Rattle.mesh_surface.specs.declared.expressions.OrExpr.{OrExpr}
-use Rattle.mesh_surface.specs.declared.expressions.Primary.{Primary}
-use Rattle.mesh_surface.specs.declared.queries.Surface.{Surface}
-use Rattle.mesh_surface.specs.declared.queries.SurfaceJoin.{SurfaceJoin}
-use Rattle.mesh_surface.specs.declared.queries.SurfaceJoin.TheVariants as the_join
-use Rattle.mesh_surface.specs.declared.queries.SurfaceRel.{SurfaceRel}
-use Rattle.mesh_surface.specs.declared.signs.Function.{Function}
-use Rattle.mesh_surface.specs.declared.signs.Function.TheVariants as the_function
-use Rattle.mesh_grammar.specs.Words.{function_of}
-use Rattle.mesh_grammar.specs.Signs.{place}
-use Rattle.mesh_grammar.specs.Rules.{Rule, Tree, expr, more_ors, conjunction, more_ands, negation, pred, tested, ranged, cat, more_cats, sum as a_sum, more_sums, product, more_products, signed, post, more_casts, value, named, group, case, cast, operand, arms, more_arms, arm, otherwise, arguments, exprs, more_exprs, item, items, more_items, alias, qualified, relation, relations, more_joins, join, joined, source, condition, keys, select, selected, union, more_selects, cte, cte_list, more_ctes, ctes, query}
-use Rattle.mesh_grammar.specs.Plans.{Plan, done, stuck, accept, peek, note, read, nest, day, star, plan, call_plan, column_plan, named_plan, arguments_plan, on_plan, is_word, is_sign, is_cmp, kind_is_word, kind_is_sign, kind_is_type, type_named, said, amount, cmp_said, add_said, mul_said}
+use Rattle.mesh_query_tokens.specs.declared.tokens.Token.{Token}
+use Rattle.mesh_base_values.specs.declared.values.ColType.{ColType}
+use Rattle.mesh_query_tokens.specs.declared.tokens.TokenKind.{TokenKind}
+use Rattle.mesh_query_tokens.specs.declared.tokens.TokenKind.TheVariants.{Ident, Sign, Number, Text, Macro}
+use Rattle.mesh_query_grammar.specs.declared.surface.expressions.OrExpr.{OrExpr}
+use Rattle.mesh_query_grammar.specs.declared.surface.expressions.Primary.{Primary}
+use Rattle.mesh_query_grammar.specs.declared.surface.queries.Surface.{Surface}
+use Rattle.mesh_query_grammar.specs.declared.surface.queries.SurfaceJoin.{SurfaceJoin}
+use Rattle.mesh_query_grammar.specs.declared.surface.queries.SurfaceJoin.TheVariants as the_join
+use Rattle.mesh_query_grammar.specs.declared.surface.queries.SurfaceRel.{SurfaceRel}
+use Rattle.mesh_query_grammar.specs.declared.surface.signs.Function.{Function}
+use Rattle.mesh_query_grammar.specs.declared.surface.signs.Function.TheVariants as the_function
+use Rattle.mesh_query_grammar.specs.Words.{function_of}
+use Rattle.mesh_query_grammar.specs.Signs.{place}
+use Rattle.mesh_query_grammar.specs.Rules.{Rule, Tree, expr, more_ors, conjunction, more_ands, negation, pred, tested, ranged, cat, more_cats, sum as a_sum, more_sums, product, more_products, signed, post, more_casts, value, named, group, case, cast, operand, arms, more_arms, arm, otherwise, arguments, exprs, more_exprs, item, items, more_items, alias, qualified, relation, relations, more_joins, join, joined, source, condition, keys, select, selected, union, more_selects, cte, cte_list, more_ctes, ctes, query}
+use Rattle.mesh_query_grammar.specs.Plans.{Plan, done, stuck, accept, peek, note, read, nest, day, star, plan, call_plan, column_plan, named_plan, arguments_plan, on_plan, is_word, is_sign, is_cmp, kind_is_word, kind_is_sign, kind_is_type, type_named, said, amount, cmp_said, add_said, mul_said}
 use Rattle.std.proofs.lemmas.Slice.Eq.{bytes_eq-Decides}
-use Rattle.mesh_grammar.specs.Machine.{Runs, ends, accepts, rejects, sees, misses, notes, reads, nests, days, stars, starless}
+use Rattle.mesh_query_grammar.specs.Machine.{Runs, ends, accepts, rejects, sees, misses, notes, reads, nests, days, stars, starless}
 use Rattle.std.specs.Str.{bytes_eq}
 use Rattle.mesh_query.proofs.Layers.{or_layer, and_layer, pred_layer, cat_layer, sum_layer, add_layer, product_layer, mul_layer, post_layer, arm_layer, not_layer, plain_layer, nothing_layer, compare_layer, is_null_layer, between_layer, one_of_layer, minus_layer, unsigned_layer, number_layer, text_layer, date_layer, truth_layer, null_layer, macro_layer, column_layer, call_layer, group_layer, case_layer, cast_layer, star_layer, distinct_layer, list_layer}
 use Rattle.mesh_query.specs.Counts.{is_node, less, anew, inside, entered, left_behind, Reads}

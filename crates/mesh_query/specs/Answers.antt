@@ -1,17 +1,17 @@
 -- What a function of the descent answers: a phrase and the place behind it, or where there is none; and how many nodes
 -- are left then.
 use Rattle.std.specs.Prelude.{◌≡◌, ℕ, ℤ, ◌≤◌, List, [], ◌∷◌, codes, drop, Bool, false, Option, None, Result, MatchResult}
-use Rattle.mesh_tokens.specs.declared.tokens.Token.{Token}
-use Rattle.mesh_tokens.specs.declared.tokens.TokenKind.{TokenKind}
-use Rattle.mesh_tokens.specs.declared.tokens.TokenKind.TheVariants.{Ident}
-use Rattle.mesh_surface.specs.declared.signs.Function.{Function}
-use Rattle.mesh_words.specs.declared.fault.Fault.{Fault}
-use Rattle.mesh_words.specs.declared.fault.Fault.TheVariants as fault
-use Rattle.mesh_grammar.specs.Words.{function_of}
-use Rattle.mesh_grammar.specs.Signs.{IsDay, IsSign}
-use Rattle.mesh_grammar.specs.Rules.{Rule, Tree}
-use Rattle.mesh_grammar.specs.Plans.{Plan, plan, is_sign}
-use Rattle.mesh_grammar.specs.Machine.{Cause, syntax, nesting, begins}
+use Rattle.mesh_query_tokens.specs.declared.tokens.Token.{Token}
+use Rattle.mesh_query_tokens.specs.declared.tokens.TokenKind.{TokenKind}
+use Rattle.mesh_query_tokens.specs.declared.tokens.TokenKind.TheVariants.{Ident}
+use Rattle.mesh_query_grammar.specs.declared.surface.signs.Function.{Function}
+use Rattle.mesh_query_grammar.specs.declared.lookahead.fault.Fault.{Fault}
+use Rattle.mesh_query_grammar.specs.declared.lookahead.fault.Fault.TheVariants as fault
+use Rattle.mesh_query_grammar.specs.Words.{function_of}
+use Rattle.mesh_query_grammar.specs.Signs.{IsDay, IsSign}
+use Rattle.mesh_query_grammar.specs.Rules.{Rule, Tree}
+use Rattle.mesh_query_grammar.specs.Plans.{Plan, plan, is_sign}
+use Rattle.mesh_query_grammar.specs.Machine.{Cause, syntax, nesting, begins}
 use Rattle.mesh_query.specs.Counts.{Goes, Reads, GoesWrong}
 
 -- nothing is read by the rule from the list on: the fault names the token at which it fails, or memory is out

@@ -2,12 +2,12 @@
 -- shows it. An expression begins with one node more than it may have, so that none is left where it has too many. Behind a
 -- query as many have been met as its tree has: that is a law of this crate.
 use Rattle.std.specs.Prelude.{◌≡◌, ℕ, ◌+◌, ◌-◌, List, codes, Bool, true, false, ◌||◌, if◌then◌else◌, nat_le}
-use Rattle.mesh_tokens.specs.declared.tokens.Token.{Token}
-use Rattle.mesh_tokens.specs.declared.tokens.TokenKind.{TokenKind}
-use Rattle.mesh_tokens.specs.declared.tokens.TokenKind.TheVariants.{Sign}
-use Rattle.mesh_grammar.specs.Rules.{Rule, Tree, expr, more_ors, more_ands, negation, tested, ranged, more_cats, more_sums, more_products, signed, more_casts, value, case, cast, operand}
-use Rattle.mesh_grammar.specs.Plans.{Plan, plan, kind_is_word}
-use Rattle.mesh_grammar.specs.Machine.{Runs, ends, accepts, rejects, sees, misses, notes, reads, nests, days, stars, starless, Cause, Fails, fails_here, fails_deep, fails_day, fails_behind_day, fails_after, fails_without, fails_seen, fails_missed, fails_noted, fails_first, fails_then, fails_inside, fails_behind, fails_starred, fails_starless}
+use Rattle.mesh_query_tokens.specs.declared.tokens.Token.{Token}
+use Rattle.mesh_query_tokens.specs.declared.tokens.TokenKind.{TokenKind}
+use Rattle.mesh_query_tokens.specs.declared.tokens.TokenKind.TheVariants.{Sign}
+use Rattle.mesh_query_grammar.specs.Rules.{Rule, Tree, expr, more_ors, more_ands, negation, tested, ranged, more_cats, more_sums, more_products, signed, more_casts, value, case, cast, operand}
+use Rattle.mesh_query_grammar.specs.Plans.{Plan, plan, kind_is_word}
+use Rattle.mesh_query_grammar.specs.Machine.{Runs, ends, accepts, rejects, sees, misses, notes, reads, nests, days, stars, starless, Cause, Fails, fails_here, fails_deep, fails_day, fails_behind_day, fails_after, fails_without, fails_seen, fails_missed, fails_noted, fails_first, fails_then, fails_inside, fails_behind, fails_starred, fails_starless}
 use Rattle.mesh_query.specs.Sizes.{most_nodes}
 
 abbrev pub kind_is_a_sign : TokenKind → Bool

@@ -1,18 +1,18 @@
 -- Why tokens are refused, and where they go wrong.
 use Rattle.std.specs.Prelude.{◌≡◌, ◌<◌, ◌+◌, ℕ, List, [], ◌∷◌, ◌++◌, codes, drop, ◌⊎◌, false, Some}
-use Rattle.mesh_tokens.specs.declared.tokens.Token.{Token}
-use Rattle.mesh_tokens.specs.declared.faults.FaultKind.TheVariants.{Syntax, TooLarge}
-use Rattle.mesh_tokens.specs.declared.faults.ReadFault.{ReadFault}
-use Rattle.mesh_tokens.specs.declared.faults.ReadFault.TheVariants.{Fault, Memory}
-use Rattle.mesh_words.specs.declared.fault.Fault.{Fault as TokenFault}
-use Rattle.mesh_words.specs.declared.fault.Fault.TheVariants as fault
-use Rattle.mesh_words.specs.Places.{deepest}
-use Rattle.mesh_surface.specs.declared.queries.Surface.{Surface}
-use Rattle.mesh_grammar.specs.Grammar.{query, Spells}
-use Rattle.mesh_grammar.specs.Rules.{query as the_query}
-use Rattle.mesh_grammar.specs.Plans.{plan}
-use Rattle.mesh_grammar.specs.Machine.{next, Cause, syntax, nesting}
-use Rattle.mesh_grammar.specs.Beginnings.{IsQuery, IsLongestBegun}
+use Rattle.mesh_query_tokens.specs.declared.tokens.Token.{Token}
+use Rattle.mesh_query_tokens.specs.declared.faults.FaultKind.TheVariants.{Syntax, TooLarge}
+use Rattle.mesh_query_tokens.specs.declared.faults.ReadFault.{ReadFault}
+use Rattle.mesh_query_tokens.specs.declared.faults.ReadFault.TheVariants.{Fault, Memory}
+use Rattle.mesh_query_grammar.specs.declared.lookahead.fault.Fault.{Fault as TokenFault}
+use Rattle.mesh_query_grammar.specs.declared.lookahead.fault.Fault.TheVariants as fault
+use Rattle.mesh_query_grammar.specs.lookahead.Places.{deepest}
+use Rattle.mesh_query_grammar.specs.declared.surface.queries.Surface.{Surface}
+use Rattle.mesh_query_grammar.specs.Grammar.{query, Spells}
+use Rattle.mesh_query_grammar.specs.Rules.{query as the_query}
+use Rattle.mesh_query_grammar.specs.Plans.{plan}
+use Rattle.mesh_query_grammar.specs.Machine.{next, Cause, syntax, nesting}
+use Rattle.mesh_query_grammar.specs.Beginnings.{IsQuery, IsLongestBegun}
 use Rattle.mesh_query.specs.Sizes.{is_within, most_nodes}
 use Rattle.mesh_query.specs.Counts.{GoesWrong, Reads}
 

@@ -1,11 +1,11 @@
 -- What is left of some rules when their beginnings have been read.
 use Rattle.std.specs.Prelude.{ℕ, ◌∷◌, [], codes, Bool, true, false}
-use Rattle.mesh_surface.specs.declared.signs.Function.{Function}
-use Rattle.mesh_surface.specs.declared.expressions.Test.TheVariants as the_test
-use Rattle.mesh_surface.specs.declared.expressions.Primary.TheVariants as the_primary
-use Rattle.mesh_surface.specs.declared.expressions.Args.TheVariants as the_args
-use Rattle.mesh_grammar.specs.Rules.{tested, ranged, cat, exprs, value, named, arguments, expr}
-use Rattle.mesh_grammar.specs.Plans.{Plan, done, accept, read, nest, take, said, literal_plan, is_word, is_sign, is_name}
+use Rattle.mesh_query_grammar.specs.declared.surface.signs.Function.{Function}
+use Rattle.mesh_query_grammar.specs.declared.surface.expressions.Test.TheVariants as the_test
+use Rattle.mesh_query_grammar.specs.declared.surface.expressions.Primary.TheVariants as the_primary
+use Rattle.mesh_query_grammar.specs.declared.surface.expressions.Args.TheVariants as the_args
+use Rattle.mesh_query_grammar.specs.Rules.{tested, ranged, cat, exprs, value, named, arguments, expr}
+use Rattle.mesh_query_grammar.specs.Plans.{Plan, done, accept, read, nest, take, said, literal_plan, is_word, is_sign, is_name}
 
 -- behind IS
 abbrev pub behind_is : Plan tested

@@ -2,32 +2,32 @@
 -- column, a macro, an operator, a function, a CASE, a CAST, an IS NULL, a BETWEEN or an IN; parentheses are none.
 use Rattle.std.specs.Prelude.{ℕ, ◌+◌, ◌-◌, Bool, true, ◌&&◌, List, length, Option, Some, None, nat_le}
 use Rattle.std.specs.List.{list_all, sum}
-use Rattle.mesh_surface.specs.declared.expressions.Args.TheOpen.{Args-F, Star, Distinct, List as Values, NotExpr-F, Not, NotExpr::Plain, Primary-F, Number, Text, Date, Truth, Null, Macro, Column, Call, Group, Case, Cast, Test-F, Nothing, Compare, IsNull, Between, OneOf, Unary-F, Minus, Unary::Plain, AddExpr-F, AddStep-F, AndExpr-F, Arm-F, CatExpr-F, MulExpr-F, MulStep-F, OrExpr-F, Post-F, Pred-F}
-use Rattle.mesh_surface.specs.declared.expressions.Args.TheFolds.{fold-Args, fold-NotExpr, fold-Primary, fold-Test, fold-Unary, fold-AddExpr, fold-AddStep, fold-AndExpr, fold-Arm, fold-CatExpr, fold-MulExpr, fold-MulStep, fold-OrExpr, fold-Post, fold-Pred}
-use Rattle.mesh_surface.specs.declared.expressions.AddExpr.{AddExpr}
-use Rattle.mesh_surface.specs.declared.expressions.AddStep.{AddStep}
-use Rattle.mesh_surface.specs.declared.expressions.AndExpr.{AndExpr}
-use Rattle.mesh_surface.specs.declared.expressions.Args.{Args}
-use Rattle.mesh_surface.specs.declared.expressions.Arm.{Arm}
-use Rattle.mesh_surface.specs.declared.expressions.CatExpr.{CatExpr}
-use Rattle.mesh_surface.specs.declared.expressions.MulExpr.{MulExpr}
-use Rattle.mesh_surface.specs.declared.expressions.MulStep.{MulStep}
-use Rattle.mesh_surface.specs.declared.expressions.NotExpr.{NotExpr}
-use Rattle.mesh_surface.specs.declared.expressions.OrExpr.{OrExpr}
-use Rattle.mesh_surface.specs.declared.expressions.Post.{Post}
-use Rattle.mesh_surface.specs.declared.expressions.Pred.{Pred}
-use Rattle.mesh_surface.specs.declared.expressions.Primary.{Primary}
-use Rattle.mesh_surface.specs.declared.expressions.Test.{Test}
-use Rattle.mesh_surface.specs.declared.expressions.Unary.{Unary}
-use Rattle.mesh_surface.specs.declared.queries.Surface.{Surface}
-use Rattle.mesh_surface.specs.declared.queries.SurfaceCte.{SurfaceCte}
-use Rattle.mesh_surface.specs.declared.queries.SurfaceFrom.{SurfaceFrom}
-use Rattle.mesh_surface.specs.declared.queries.SurfaceItem.{SurfaceItem}
-use Rattle.mesh_surface.specs.declared.queries.SurfaceItem.TheVariants as the_item
-use Rattle.mesh_surface.specs.declared.queries.SurfaceJoin.{SurfaceJoin}
-use Rattle.mesh_surface.specs.declared.queries.SurfaceJoin.TheVariants as the_join
-use Rattle.mesh_surface.specs.declared.queries.SurfaceSelect.{SurfaceSelect}
-use Rattle.mesh_surface.specs.declared.queries.SurfaceUnion.{SurfaceUnion}
+use Rattle.mesh_query_grammar.specs.declared.surface.expressions.Args.TheOpen.{Args-F, Star, Distinct, List as Values, NotExpr-F, Not, NotExpr::Plain, Primary-F, Number, Text, Date, Truth, Null, Macro, Column, Call, Group, Case, Cast, Test-F, Nothing, Compare, IsNull, Between, OneOf, Unary-F, Minus, Unary::Plain, AddExpr-F, AddStep-F, AndExpr-F, Arm-F, CatExpr-F, MulExpr-F, MulStep-F, OrExpr-F, Post-F, Pred-F}
+use Rattle.mesh_query_grammar.specs.declared.surface.expressions.Args.TheFolds.{fold-Args, fold-NotExpr, fold-Primary, fold-Test, fold-Unary, fold-AddExpr, fold-AddStep, fold-AndExpr, fold-Arm, fold-CatExpr, fold-MulExpr, fold-MulStep, fold-OrExpr, fold-Post, fold-Pred}
+use Rattle.mesh_query_grammar.specs.declared.surface.expressions.AddExpr.{AddExpr}
+use Rattle.mesh_query_grammar.specs.declared.surface.expressions.AddStep.{AddStep}
+use Rattle.mesh_query_grammar.specs.declared.surface.expressions.AndExpr.{AndExpr}
+use Rattle.mesh_query_grammar.specs.declared.surface.expressions.Args.{Args}
+use Rattle.mesh_query_grammar.specs.declared.surface.expressions.Arm.{Arm}
+use Rattle.mesh_query_grammar.specs.declared.surface.expressions.CatExpr.{CatExpr}
+use Rattle.mesh_query_grammar.specs.declared.surface.expressions.MulExpr.{MulExpr}
+use Rattle.mesh_query_grammar.specs.declared.surface.expressions.MulStep.{MulStep}
+use Rattle.mesh_query_grammar.specs.declared.surface.expressions.NotExpr.{NotExpr}
+use Rattle.mesh_query_grammar.specs.declared.surface.expressions.OrExpr.{OrExpr}
+use Rattle.mesh_query_grammar.specs.declared.surface.expressions.Post.{Post}
+use Rattle.mesh_query_grammar.specs.declared.surface.expressions.Pred.{Pred}
+use Rattle.mesh_query_grammar.specs.declared.surface.expressions.Primary.{Primary}
+use Rattle.mesh_query_grammar.specs.declared.surface.expressions.Test.{Test}
+use Rattle.mesh_query_grammar.specs.declared.surface.expressions.Unary.{Unary}
+use Rattle.mesh_query_grammar.specs.declared.surface.queries.Surface.{Surface}
+use Rattle.mesh_query_grammar.specs.declared.surface.queries.SurfaceCte.{SurfaceCte}
+use Rattle.mesh_query_grammar.specs.declared.surface.queries.SurfaceFrom.{SurfaceFrom}
+use Rattle.mesh_query_grammar.specs.declared.surface.queries.SurfaceItem.{SurfaceItem}
+use Rattle.mesh_query_grammar.specs.declared.surface.queries.SurfaceItem.TheVariants as the_item
+use Rattle.mesh_query_grammar.specs.declared.surface.queries.SurfaceJoin.{SurfaceJoin}
+use Rattle.mesh_query_grammar.specs.declared.surface.queries.SurfaceJoin.TheVariants as the_join
+use Rattle.mesh_query_grammar.specs.declared.surface.queries.SurfaceSelect.{SurfaceSelect}
+use Rattle.mesh_query_grammar.specs.declared.surface.queries.SurfaceUnion.{SurfaceUnion}
 
 -- nodes of one expression
 abbrev pub most_nodes : ℕ

@@ -1,13 +1,13 @@
 // Parentheses: one more is opened, and what was read within it is closed.
 ghost use Rattle.std.specs.Prelude.{◌≡◌, ◌+◌, codes, MatchResult};
-ghost use Rattle.mesh_grammar.specs.Signs.{IsSign};
-ghost use Rattle.mesh_grammar.specs.Plans.{is_sign as is_the_sign};
-ghost use Rattle.mesh_words.specs.Answers.{IsNot};
-ghost use Rattle.mesh_words.specs.Places.{Takes};
+ghost use Rattle.mesh_query_grammar.specs.Signs.{IsSign};
+ghost use Rattle.mesh_query_grammar.specs.Plans.{is_sign as is_the_sign};
+ghost use Rattle.mesh_query_grammar.specs.lookahead.Answers.{IsNot};
+ghost use Rattle.mesh_query_grammar.specs.lookahead.Places.{Takes};
 ghost use Rattle.mesh_query.specs.Answers.{IsUnopened};
 
-use mesh_tokens::Token;
-use mesh_words::{Fault, is_sign, nested, sign};
+use mesh_query_grammar::lookahead::{Fault, is_sign, nested, sign};
+use mesh_query_tokens::Token;
 
 /// How many more may be opened within the parenthesis that has to stand here, and the place behind it.
 pub fn opened(tokens: &[Token], depth: u32, from: usize) -> Result<(u32, usize), Fault>

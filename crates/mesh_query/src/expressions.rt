@@ -1,12 +1,12 @@
 // Expressions, level by level. Each function reads its form from a token on, and answers it with the place behind it.
 // `depth` is how many parentheses, CASEs, NOTs and minus signs may still be opened.
 ghost use Rattle.std.specs.Prelude.{◌≡◌, ◌+◌, ◌<◌, ◌&&◌, ℕ, codes, drop, true, false, IfOk};
-ghost use Rattle.mesh_surface.specs.declared.signs.Function.{Function as Functions};
-ghost use Rattle.mesh_surface.specs.declared.signs.Function.TheVariants.{Count, Coalesce, Nullif};
-ghost use Rattle.mesh_grammar.specs.Signs.{place as place_of};
-ghost use Rattle.mesh_grammar.specs.Rules.{expr as an_expr, conjunction as a_conjunction, negation as a_negation, pred as a_pred, tested, ranged, cat as a_cat, sum as a_sum, product as a_product, signed, post as a_post, value, group as a_group, case as a_case, cast as a_cast, operand, arms as some_arms, arm as an_arm, otherwise, arguments, exprs as some_exprs};
-ghost use Rattle.mesh_grammar.specs.Plans.{begins_range, is_word as is_the_word, is_sign as is_the_sign, is_name as is_a_name, is_text as is_a_text};
-ghost use Rattle.mesh_grammar.specs.Machine.{begins};
+ghost use Rattle.mesh_query_grammar.specs.declared.surface.signs.Function.{Function as Functions};
+ghost use Rattle.mesh_query_grammar.specs.declared.surface.signs.Function.TheVariants.{Count, Coalesce, Nullif};
+ghost use Rattle.mesh_query_grammar.specs.Signs.{place as place_of};
+ghost use Rattle.mesh_query_grammar.specs.Rules.{expr as an_expr, conjunction as a_conjunction, negation as a_negation, pred as a_pred, tested, ranged, cat as a_cat, sum as a_sum, product as a_product, signed, post as a_post, value, group as a_group, case as a_case, cast as a_cast, operand, arms as some_arms, arm as an_arm, otherwise, arguments, exprs as some_exprs};
+ghost use Rattle.mesh_query_grammar.specs.Plans.{begins_range, is_word as is_the_word, is_sign as is_the_sign, is_name as is_a_name, is_text as is_a_text};
+ghost use Rattle.mesh_query_grammar.specs.Machine.{begins};
 ghost use Rattle.mesh_query.specs.Answers.{Answers, AnswersOn};
 ghost use Rattle.mesh_query.specs.Rests.{behind_is, behind_between, behind_in, unopened, one_alone};
 
@@ -15,15 +15,15 @@ use crate::lists::{added, begun, boxed, given_up, multiplied, pushed};
 use crate::literals::{column, date, function_at, literal};
 use crate::nodes::Nodes;
 use mesh_list::{Boxed, Seq};
-use mesh_surface::{
-    AddExpr, AndExpr, Args, Arm, CatExpr, Function, MulExpr, NotExpr, OrExpr, Post, Pred, Primary,
-    Test, Unary,
-};
-use mesh_tokens::Token;
-use mesh_words::{
+use mesh_query_grammar::lookahead::{
     Fault, add_sign, column_type, comparison, is_date, is_name, is_sign, is_word, mul_sign, nested,
     place, sign, word,
 };
+use mesh_query_grammar::surface::{
+    AddExpr, AndExpr, Args, Arm, CatExpr, Function, MulExpr, NotExpr, OrExpr, Post, Pred, Primary,
+    Test, Unary,
+};
+use mesh_query_tokens::Token;
 use std::alloc::Global;
 
 /// Parts with OR between them.

@@ -1,15 +1,15 @@
 // Laws of what is refused. Each body is empty.
 ghost use Rattle.std.specs.Prelude.{◌≡◌, ◌↔◌, ◌⊎◌, ℕ, ◌+◌, List, [], true, false};
-ghost use Rattle.mesh_tokens.specs.declared.tokens.Token.{Token as Tokens};
-ghost use Rattle.mesh_tokens.specs.declared.faults.ReadFault.{ReadFault as ReadFaults};
-ghost use Rattle.mesh_tokens.specs.declared.faults.ReadFault.TheVariants.{Memory as NoMemory};
-ghost use Rattle.mesh_surface.specs.declared.queries.Surface.{Surface};
-ghost use Rattle.mesh_grammar.specs.Grammar.{Spells, query as a_query};
-ghost use Rattle.mesh_words.specs.Places.{deepest};
+ghost use Rattle.mesh_query_tokens.specs.declared.tokens.Token.{Token as Tokens};
+ghost use Rattle.mesh_query_tokens.specs.declared.faults.ReadFault.{ReadFault as ReadFaults};
+ghost use Rattle.mesh_query_tokens.specs.declared.faults.ReadFault.TheVariants.{Memory as NoMemory};
+ghost use Rattle.mesh_query_grammar.specs.declared.surface.queries.Surface.{Surface};
+ghost use Rattle.mesh_query_grammar.specs.Grammar.{Spells, query as a_query};
+ghost use Rattle.mesh_query_grammar.specs.lookahead.Places.{deepest};
 ghost use Rattle.mesh_query.specs.Refusals.{IsRefusal};
 ghost use Rattle.mesh_query.specs.Sizes.{is_within, most_nodes};
 ghost use Rattle.mesh_query.specs.Counts.{Reads};
-ghost use Rattle.mesh_grammar.specs.Rules.{query as the_query};
+ghost use Rattle.mesh_query_grammar.specs.Rules.{query as the_query};
 
 /// One fault at most is told of tokens, but for want of memory. What passes no limit is refused for want of memory alone.
 #[tactic(auto, using(crate::proofs::OneRefusal::one_refusal, crate::proofs::OneRefusal::short))]

@@ -1,8 +1,8 @@
 //! The grammar of queries: tokens are read as a syntax tree. Its contract: `parse` gives exactly the tree that the
 //! tokens spell, from the one named to the last, with at most 64 parentheses, CASEs, NOTs and minus signs open at once
 //! and at most 4,096 nodes in an expression, or it tells the one fault that is met first: the end of the longest
-//! beginning of a query, or a limit. It stands on `mesh_list`, `mesh_values`, `mesh_tokens`, `mesh_surface`,
-//! `mesh_grammar`, `mesh_words` and the days of `mesh_time`.
+//! beginning of a query, or a limit. It stands on `mesh_list`, `mesh_base_values`, `mesh_query_tokens`, `mesh_query_grammar::surface`,
+//! `mesh_query_grammar`, `mesh_query_grammar::lookahead` and the days of `mesh_time`.
 #![tactic(auto)]
 
 mod brackets;
@@ -16,5 +16,5 @@ mod reader;
 mod relations;
 
 pub use laws::{one_refusal, what_is_counted_is_in_the_tree};
-pub use mesh_tokens::tokens_of as tokens;
+pub use mesh_query_tokens::tokens_of as tokens;
 pub use reader::parse;

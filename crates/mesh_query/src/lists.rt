@@ -1,13 +1,13 @@
 // Lists that are begun with one element, and what is made of a phrase that has been read: want of memory and the fault of
 // the phrase are one answer.
 ghost use Rattle.std.specs.Prelude.{◌≡◌, [], ◌∷◌, ◌++◌, IfOk, MatchResult};
-ghost use Rattle.mesh_surface.specs.declared.expressions.AddStep.{roll-AddStep};
-ghost use Rattle.mesh_surface.specs.declared.expressions.MulStep.{roll-MulStep};
-ghost use Rattle.mesh_words.specs.declared.fault.Fault.TheVariants.{Memory as OutOfMemory};
+ghost use Rattle.mesh_query_grammar.specs.declared.surface.expressions.AddStep.{roll-AddStep};
+ghost use Rattle.mesh_query_grammar.specs.declared.surface.expressions.MulStep.{roll-MulStep};
+ghost use Rattle.mesh_query_grammar.specs.declared.lookahead.fault.Fault.TheVariants.{Memory as OutOfMemory};
 
 use mesh_list::{Boxed, Memory, Seq};
-use mesh_surface::{AddSign, AddStep, MulExpr, MulSign, MulStep, Unary};
-use mesh_words::Fault;
+use mesh_query_grammar::lookahead::Fault;
+use mesh_query_grammar::surface::{AddSign, AddStep, MulExpr, MulSign, MulStep, Unary};
 use std::alloc::Global;
 
 /// The list of one element, with room for no more until it grows: most lists of a tree have one, and a place in them is

@@ -1,19 +1,19 @@
 // Values that one token or two spell.
 ghost use Rattle.std.specs.Prelude.{◌≡◌, ◌+◌, ◌&&◌, ℕ, codes, drop, true, false, MatchResult};
-ghost use Rattle.mesh_grammar.specs.Signs.{place as place_of, IsDay};
-ghost use Rattle.mesh_grammar.specs.Rules.{value};
-ghost use Rattle.mesh_grammar.specs.Plans.{literal_plan, is_word as is_the_word, is_sign as is_the_sign, is_name as is_a_name, is_text as is_a_text};
-ghost use Rattle.mesh_grammar.specs.Machine.{begins};
-ghost use Rattle.mesh_words.specs.Places.{Takes};
+ghost use Rattle.mesh_query_grammar.specs.Signs.{place as place_of, IsDay};
+ghost use Rattle.mesh_query_grammar.specs.Rules.{value};
+ghost use Rattle.mesh_query_grammar.specs.Plans.{literal_plan, is_word as is_the_word, is_sign as is_the_sign, is_name as is_a_name, is_text as is_a_text};
+ghost use Rattle.mesh_query_grammar.specs.Machine.{begins};
+ghost use Rattle.mesh_query_grammar.specs.lookahead.Places.{Takes};
 ghost use Rattle.mesh_query.specs.Answers.{AnswersOn, IsNoDay, function_in};
 ghost use Rattle.mesh_query.specs.Rests.{unopened, word_plan};
 
 use crate::nodes::Nodes;
-use mesh_days::day_of;
 use mesh_list::Duplicate;
-use mesh_surface::{Function, Primary};
-use mesh_tokens::{Token, TokenKind};
-use mesh_words::{Fault, function_of, is_sign, is_word, name, place, word};
+use mesh_query_grammar::lookahead::{Fault, function_of, is_sign, is_word, name, place, word};
+use mesh_query_grammar::surface::{Function, Primary};
+use mesh_query_tokens::{Token, TokenKind};
+use mesh_time_days::day_of;
 
 /// A number, a text, a macro, or what TRUE, FALSE or NULL spells.
 pub fn literal(tokens: &[Token], nodes: &mut Nodes, from: usize) -> Result<(Primary, usize), Fault>
@@ -92,7 +92,7 @@ fn day(tokens: &[Token], at: usize) -> Result<(i32, usize), Fault>
 }
 
 /// The function that the next token names.
-#[tactic(auto, using(mesh_words::proofs::NextToken::begins_at))]
+#[tactic(auto, using(mesh_query_grammar::proofs::lookahead::NextToken::begins_at))]
 pub fn function_at(tokens: &[Token], at: usize) -> Option<Function>
     ensures { result ≡ function_in (drop at tokens.now) }
 {

@@ -1,20 +1,24 @@
 // Whole queries. Each function reads its form from a token on, and answers it with the place behind it.
 ghost use Rattle.std.specs.Prelude.{◌≡◌, ◌≤◌, ◌||◌, ℕ, Bool, true, false, List, codes, drop};
-ghost use Rattle.mesh_tokens.specs.declared.tokens.Token.{Token as Tokens};
-ghost use Rattle.mesh_grammar.specs.Rules.{query as a_query, ctes as some_ctes, cte_list as a_cte_list, exprs as some_exprs, cte as a_cte, union as a_union, select as a_select, selected as the_selected, items as some_items, item as an_item, alias as an_alias, condition, keys as some_keys};
-ghost use Rattle.mesh_grammar.specs.Plans.{Plan, accept, ends_items, is_any, negated, is_word as is_the_word};
-ghost use Rattle.mesh_grammar.specs.Machine.{begins, begins_star};
+ghost use Rattle.mesh_query_tokens.specs.declared.tokens.Token.{Token as Tokens};
+ghost use Rattle.mesh_query_grammar.specs.Rules.{query as a_query, ctes as some_ctes, cte_list as a_cte_list, exprs as some_exprs, cte as a_cte, union as a_union, select as a_select, selected as the_selected, items as some_items, item as an_item, alias as an_alias, condition, keys as some_keys};
+ghost use Rattle.mesh_query_grammar.specs.Plans.{Plan, accept, ends_items, is_any, negated, is_word as is_the_word};
+ghost use Rattle.mesh_query_grammar.specs.Machine.{begins, begins_star};
 ghost use Rattle.mesh_query.specs.Answers.{Answers, Onward};
 
 use crate::expressions::expr;
 use crate::lists::{begun, given_up, pushed};
 use crate::nodes::Nodes;
 use crate::relations::source;
+use mesh_base_values::Str;
 use mesh_list::Seq;
-use mesh_surface::{OrExpr, Surface, SurfaceCte, SurfaceItem, SurfaceSelect, SurfaceUnion};
-use mesh_tokens::Token;
-use mesh_values::Str;
-use mesh_words::{Fault, is_name, is_sign, is_word, name, nested, place, sign, word};
+use mesh_query_grammar::lookahead::{
+    Fault, is_name, is_sign, is_word, name, nested, place, sign, word,
+};
+use mesh_query_grammar::surface::{
+    OrExpr, Surface, SurfaceCte, SurfaceItem, SurfaceSelect, SurfaceUnion,
+};
+use mesh_query_tokens::Token;
 use std::alloc::Global;
 
 /// A query with its common table expressions, and a `;` if one stands behind it.

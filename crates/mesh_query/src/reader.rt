@@ -1,23 +1,23 @@
 // From the tokens to the tree, or to the fault that is printed.
 ghost use Rattle.std.specs.Prelude.{◌≡◌, ◌≤◌, ◌<◌, ◌+◌, ℕ, List, codes, drop, take, length, [], true, false, IfOk, IfErr, MatchResult};
-ghost use Rattle.mesh_surface.specs.declared.queries.Surface.{Surface};
-ghost use Rattle.mesh_tokens.specs.declared.tokens.Token.{Token as Tokens};
-ghost use Rattle.mesh_tokens.specs.declared.faults.ReadFault.TheVariants.{Memory as NoMemory};
+ghost use Rattle.mesh_query_grammar.specs.declared.surface.queries.Surface.{Surface};
+ghost use Rattle.mesh_query_tokens.specs.declared.tokens.Token.{Token as Tokens};
+ghost use Rattle.mesh_query_tokens.specs.declared.faults.ReadFault.TheVariants.{Memory as NoMemory};
 ghost use Rattle.mesh_query.specs.Refusals.{end_of, IsLimit, IsAmiss, IsRefusal};
 ghost use Rattle.mesh_query.specs.Sizes.{is_within, most_nodes};
 ghost use Rattle.mesh_query.specs.Counts.{Reads};
-ghost use Rattle.mesh_grammar.specs.Rules.{query as the_query};
-ghost use Rattle.mesh_grammar.specs.Grammar.{Spells, query as a_query};
-ghost use Rattle.mesh_grammar.specs.Beginnings.{IsQuery};
-ghost use Rattle.mesh_words.specs.Places.{deepest};
+ghost use Rattle.mesh_query_grammar.specs.Rules.{query as the_query};
+ghost use Rattle.mesh_query_grammar.specs.Grammar.{Spells, query as a_query};
+ghost use Rattle.mesh_query_grammar.specs.Beginnings.{IsQuery};
+ghost use Rattle.mesh_query_grammar.specs.lookahead.Places.{deepest};
 
 use crate::nodes::Nodes;
 use crate::queries::query;
+use mesh_base_values::{DEEPEST_NESTING, LARGEST_EXPRESSION, Str};
 use mesh_list::{Duplicate, Memory, Seq};
-use mesh_surface::Surface;
-use mesh_tokens::{FaultKind, ReadFault, Token, Tokens};
-use mesh_values::{DEEPEST_NESTING, LARGEST_EXPRESSION, Str};
-use mesh_words::Fault;
+use mesh_query_grammar::lookahead::Fault;
+use mesh_query_grammar::surface::Surface;
+use mesh_query_tokens::{FaultKind, ReadFault, Token, Tokens};
 use std::alloc::Global;
 
 /// Parentheses, CASEs, NOTs and minus signs that may be open round a token.

@@ -1,20 +1,20 @@
 // What a SELECT reads from.
 ghost use Rattle.std.specs.Prelude.{◌≡◌, ◌<◌, ◌≤◌, ℕ, false, List, drop, length, IfOk, IsTrue};
-ghost use Rattle.mesh_tokens.specs.declared.tokens.Token.{Token as Tokens};
-ghost use Rattle.mesh_grammar.specs.Rules.{source as a_source, relations as some_relations, join as a_join, joined as a_joined, relation as a_relation, qualified as a_name};
-ghost use Rattle.mesh_grammar.specs.Plans.{Plan, accept, begins_join as opens_join, is_word as is_the_word};
-ghost use Rattle.mesh_grammar.specs.Machine.{begins};
+ghost use Rattle.mesh_query_tokens.specs.declared.tokens.Token.{Token as Tokens};
+ghost use Rattle.mesh_query_grammar.specs.Rules.{source as a_source, relations as some_relations, join as a_join, joined as a_joined, relation as a_relation, qualified as a_name};
+ghost use Rattle.mesh_query_grammar.specs.Plans.{Plan, accept, begins_join as opens_join, is_word as is_the_word};
+ghost use Rattle.mesh_query_grammar.specs.Machine.{begins};
 ghost use Rattle.mesh_query.specs.Answers.{Answers, Onward};
 
 use crate::expressions::expr;
 use crate::lists::pushed;
 use crate::nodes::Nodes;
 use crate::queries::alias;
+use mesh_base_values::Str;
 use mesh_list::Seq;
-use mesh_surface::{OrExpr, SurfaceFrom, SurfaceJoin, SurfaceRel};
-use mesh_tokens::Token;
-use mesh_values::Str;
-use mesh_words::{Fault, is_sign, is_word, name, place, word};
+use mesh_query_grammar::lookahead::{Fault, is_sign, is_word, name, place, word};
+use mesh_query_grammar::surface::{OrExpr, SurfaceFrom, SurfaceJoin, SurfaceRel};
+use mesh_query_tokens::Token;
 use std::alloc::Global;
 
 /// FROM and its relations, or none.

@@ -6,8 +6,8 @@ use Rattle.std.specs.Ordering.{is_lt, ordering_reverse}
 use Rattle.mesh_base.specs.declared.definitions.Decl.{Decl}
 use Rattle.mesh_list.specs.Keyed.{ascends, below_first, placed, put_by}
 use Rattle.mesh_list.proofs.Ascends.{and_left, and_right}
-use Rattle.mesh_values.specs.NameOrder.{names_total}
-use Rattle.mesh_values.specs.Names.{name_cmp}
+use Rattle.mesh_base_values.specs.NameOrder.{names_total}
+use Rattle.mesh_base_values.specs.Names.{name_cmp}
 use Rattle.mesh_resolve.specs.Relations.{decl_name}
 use Rattle.mesh_resolve.specs.Owns.{in_order}
 

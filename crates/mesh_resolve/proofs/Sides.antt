@@ -6,13 +6,13 @@ use Rattle.std.proofs.lemmas.Bool.{and_from}
 use Rattle.std.proofs.lemmas.Cmp.{tied_itself}
 use Rattle.std.proofs.lemmas.Map.Lookups.{exact_bytes}
 use Rattle.mesh_list.proofs.Ascends.{and_left, and_right}
-use Rattle.mesh_values.specs.NameOrder.{texts_total}
-use Rattle.mesh_values.specs.Names.{text_cmp}
-use Rattle.mesh_values.specs.Picked.{same_text}
-use Rattle.mesh_values.specs.Types.{same_type}
-use Rattle.mesh_values.specs.declared.values.ColType.{ColType}
-use Rattle.mesh_values.specs.declared.values.ColType.TheVariants as types
-use Rattle.mesh_values.specs.declared.values.Column.{Column}
+use Rattle.mesh_base_values.specs.NameOrder.{texts_total}
+use Rattle.mesh_base_values.specs.Names.{text_cmp}
+use Rattle.mesh_base_values.specs.Picked.{same_text}
+use Rattle.mesh_base_values.specs.Types.{same_type}
+use Rattle.mesh_base_values.specs.declared.values.ColType.{ColType}
+use Rattle.mesh_base_values.specs.declared.values.ColType.TheVariants as types
+use Rattle.mesh_base_values.specs.declared.values.Column.{Column}
 use Rattle.mesh_resolve.specs.Owns.{are_same_columns}
 
 text_is : (a b : List ℕ) → same_text a b ≡ true → a ≡ b

@@ -5,16 +5,16 @@ use Rattle.std.specs.Option.{is_some}
 use Rattle.std.specs.declared.option.Option.{Option}
 use Rattle.std.specs.declared.option.Option.TheVariants.{None, Some}
 use Rattle.mesh_list.specs.Keyed.{found, placed}
-use Rattle.mesh_values.specs.declared.kinds.Kind.{Kind}
-use Rattle.mesh_values.specs.declared.kinds.Kind.TheVariants.{Seed as SeedKind}
-use Rattle.mesh_values.specs.declared.values.ColType.TheVariants.{Bool as Truth}
-use Rattle.mesh_values.specs.declared.values.Column.{Column}
-use Rattle.mesh_values.specs.declared.values.Name.{Name}
-use Rattle.mesh_values.specs.declared.values.Seed.{Seed}
-use Rattle.mesh_values.specs.Kinds.{time_column}
-use Rattle.mesh_values.specs.Names.{name_cmp}
-use Rattle.mesh_values.specs.Picked.{same_text}
-use Rattle.mesh_values.specs.Types.{same_type}
+use Rattle.mesh_base_values.specs.declared.kinds.Kind.{Kind}
+use Rattle.mesh_base_values.specs.declared.kinds.Kind.TheVariants.{Seed as SeedKind}
+use Rattle.mesh_base_values.specs.declared.values.ColType.TheVariants.{Bool as Truth}
+use Rattle.mesh_base_values.specs.declared.values.Column.{Column}
+use Rattle.mesh_base_values.specs.declared.values.Name.{Name}
+use Rattle.mesh_base_values.specs.declared.values.Seed.{Seed}
+use Rattle.mesh_base_values.specs.Kinds.{time_column}
+use Rattle.mesh_base_values.specs.Names.{name_cmp}
+use Rattle.mesh_base_values.specs.Picked.{same_text}
+use Rattle.mesh_base_values.specs.Types.{same_type}
 use Rattle.mesh_base.specs.declared.definitions.Decl.{Decl}
 use Rattle.mesh_base.specs.declared.definitions.Defn.{Defn}
 use Rattle.mesh_base.specs.declared.definitions.Defn.TheVariants as body
@@ -22,13 +22,13 @@ use Rattle.mesh_base.specs.declared.definitions.Own.{Own}
 use Rattle.mesh_base.specs.declared.queries.Query.{Query}
 use Rattle.mesh_base.specs.Keys.{input_name}
 use Rattle.mesh_base.specs.Outputs.{select_columns}
-use Rattle.mesh_model.specs.declared.model.ModelText.{ModelText}
-use Rattle.mesh_rules.specs.Proper.{defn_names, is_among}
-use Rattle.mesh_surface.specs.declared.queries.Surface.{Surface}
-use Rattle.mesh_tokens.specs.Gives.{◌>>=◌}
-use Rattle.mesh_tokens.specs.Walk.{provided}
-use Rattle.mesh_tokens.specs.declared.faults.ReadFault.{ReadFault}
-use Rattle.mesh_types.specs.Faults.{mismatch, no_time_column, unwritten}
+use Rattle.mesh_model_statement.specs.declared.model.model.ModelText.{ModelText}
+use Rattle.mesh_base.specs.rules.Proper.{defn_names, is_among}
+use Rattle.mesh_query_grammar.specs.declared.surface.queries.Surface.{Surface}
+use Rattle.mesh_query_tokens.specs.Gives.{◌>>=◌}
+use Rattle.mesh_query_tokens.specs.Walk.{provided}
+use Rattle.mesh_query_tokens.specs.declared.faults.ReadFault.{ReadFault}
+use Rattle.mesh_resolve_types.specs.Faults.{mismatch, no_time_column, unwritten}
 use Rattle.mesh_resolve.specs.declared.known.Known.{Known}
 use Rattle.mesh_resolve.specs.Relations.{decl_name}
 use Rattle.mesh_resolve.specs.Queries.{resolved}

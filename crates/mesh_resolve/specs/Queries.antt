@@ -3,17 +3,17 @@ use Rattle.std.specs.Prelude.{not, List, [], ◌∷◌, ◌++◌, map, Result, O
 use Rattle.std.specs.List.{list_any}
 use Rattle.mesh_base.specs.declared.queries.Query.{Query}
 use Rattle.mesh_base.specs.declared.queries.Select.{Select}
-use Rattle.mesh_surface.specs.declared.queries.Surface.{Surface}
-use Rattle.mesh_surface.specs.declared.queries.SurfaceCte.{SurfaceCte}
-use Rattle.mesh_surface.specs.declared.queries.SurfaceSelect.{SurfaceSelect}
-use Rattle.mesh_surface.specs.declared.queries.SurfaceUnion.{SurfaceUnion}
-use Rattle.mesh_tokens.specs.Gives.{◌>>=◌}
-use Rattle.mesh_tokens.specs.declared.faults.ReadFault.{ReadFault}
-use Rattle.mesh_types.specs.Faults.{duplicate}
-use Rattle.mesh_tokens.specs.Walk.{provided, along}
-use Rattle.mesh_selects.specs.declared.outputs.commons.Common.{Common}
-use Rattle.mesh_selects.specs.outputs.Commons.{is_cte, selects_of}
-use Rattle.mesh_selects.specs.outputs.Sides.{with_sides_alike}
+use Rattle.mesh_query_grammar.specs.declared.surface.queries.Surface.{Surface}
+use Rattle.mesh_query_grammar.specs.declared.surface.queries.SurfaceCte.{SurfaceCte}
+use Rattle.mesh_query_grammar.specs.declared.surface.queries.SurfaceSelect.{SurfaceSelect}
+use Rattle.mesh_query_grammar.specs.declared.surface.queries.SurfaceUnion.{SurfaceUnion}
+use Rattle.mesh_query_tokens.specs.Gives.{◌>>=◌}
+use Rattle.mesh_query_tokens.specs.declared.faults.ReadFault.{ReadFault}
+use Rattle.mesh_resolve_types.specs.Faults.{duplicate}
+use Rattle.mesh_query_tokens.specs.Walk.{provided, along}
+use Rattle.mesh_resolve_selects.specs.declared.outputs.commons.Common.{Common}
+use Rattle.mesh_resolve_selects.specs.outputs.Commons.{is_cte, selects_of}
+use Rattle.mesh_resolve_selects.specs.outputs.Sides.{with_sides_alike}
 use Rattle.mesh_resolve.specs.declared.known.Known.{Known}
 use Rattle.mesh_resolve.specs.Selects.{select}
 

@@ -3,38 +3,38 @@ use Rattle.std.specs.Prelude.{ℕ, List, [], ◌∷◌, ◌++◌, Result, Ok, Er
 use Rattle.std.specs.Option.{option_map}
 use Rattle.std.specs.declared.option.Option.{Option}
 use Rattle.std.specs.declared.option.Option.TheVariants.{None, Some}
-use Rattle.mesh_values.specs.declared.values.Column.{Column}
-use Rattle.mesh_values.specs.declared.values.Name.{Name}
+use Rattle.mesh_base_values.specs.declared.values.Column.{Column}
+use Rattle.mesh_base_values.specs.declared.values.Name.{Name}
 use Rattle.mesh_base.specs.declared.definitions.Decl.{Decl}
 use Rattle.mesh_base.specs.declared.jobs.Input.{Input}
 use Rattle.mesh_base.specs.declared.queries.Join.{Join}
 use Rattle.mesh_base.specs.declared.queries.Join.TheVariants as join
 use Rattle.mesh_base.specs.declared.queries.Rel.{Rel}
 use Rattle.mesh_base.specs.declared.queries.Rel.TheVariants.{Named}
-use Rattle.mesh_values.specs.declared.values.ColType.TheVariants.{Bool as Truth}
+use Rattle.mesh_base_values.specs.declared.values.ColType.TheVariants.{Bool as Truth}
 use Rattle.mesh_list.specs.Keyed.{found}
 use Rattle.mesh_base.specs.Keys.{input_name}
-use Rattle.mesh_values.specs.Names.{name_cmp}
-use Rattle.mesh_surface.specs.declared.expressions.OrExpr.{OrExpr}
-use Rattle.mesh_surface.specs.declared.queries.SurfaceFrom.{SurfaceFrom}
-use Rattle.mesh_surface.specs.declared.queries.SurfaceJoin.{SurfaceJoin}
-use Rattle.mesh_surface.specs.declared.queries.SurfaceJoin.TheVariants as written
-use Rattle.mesh_surface.specs.declared.queries.SurfaceRel.{SurfaceRel}
-use Rattle.mesh_tokens.specs.Gives.{◌>>=◌}
-use Rattle.mesh_tokens.specs.declared.faults.ReadFault.{ReadFault}
-use Rattle.mesh_selects.specs.declared.outputs.commons.Common.{Common}
-use Rattle.mesh_selects.specs.outputs.Commons.{Found, cte_named}
-use Rattle.mesh_selects.specs.declared.selects.parts.Drawn.{Drawn}
+use Rattle.mesh_base_values.specs.Names.{name_cmp}
+use Rattle.mesh_query_grammar.specs.declared.surface.expressions.OrExpr.{OrExpr}
+use Rattle.mesh_query_grammar.specs.declared.surface.queries.SurfaceFrom.{SurfaceFrom}
+use Rattle.mesh_query_grammar.specs.declared.surface.queries.SurfaceJoin.{SurfaceJoin}
+use Rattle.mesh_query_grammar.specs.declared.surface.queries.SurfaceJoin.TheVariants as written
+use Rattle.mesh_query_grammar.specs.declared.surface.queries.SurfaceRel.{SurfaceRel}
+use Rattle.mesh_query_tokens.specs.Gives.{◌>>=◌}
+use Rattle.mesh_query_tokens.specs.declared.faults.ReadFault.{ReadFault}
+use Rattle.mesh_resolve_selects.specs.declared.outputs.commons.Common.{Common}
+use Rattle.mesh_resolve_selects.specs.outputs.Commons.{Found, cte_named}
+use Rattle.mesh_resolve_selects.specs.declared.selects.parts.Drawn.{Drawn}
 use Rattle.mesh_resolve.specs.declared.known.Known.{Known}
 use Rattle.mesh_resolve.specs.declared.drawn.Drawing.{Drawing}
-use Rattle.mesh_sight.specs.InSight.{Sight}
-use Rattle.mesh_types.specs.declared.typed.Typed.{Typed}
-use Rattle.mesh_types.specs.Faults.{unknown_relation, mismatch}
-use Rattle.mesh_tokens.specs.Walk.{provided, along}
-use Rattle.mesh_type_rules.specs.Kinds.{may_be}
-use Rattle.mesh_types.specs.Forms.{Read}
-use Rattle.mesh_sight.specs.Sight.{nothing_seen, seeing}
-use Rattle.mesh_scope.specs.Expressions.{typed}
+use Rattle.mesh_resolve_scope.specs.sight.InSight.{Sight}
+use Rattle.mesh_resolve_types.specs.declared.typed.Typed.{Typed}
+use Rattle.mesh_resolve_types.specs.Faults.{unknown_relation, mismatch}
+use Rattle.mesh_query_tokens.specs.Walk.{provided, along}
+use Rattle.mesh_resolve_types.specs.rules.Kinds.{may_be}
+use Rattle.mesh_resolve_types.specs.Forms.{Read}
+use Rattle.mesh_resolve_scope.specs.sight.Sight.{nothing_seen, seeing}
+use Rattle.mesh_resolve_scope.specs.Expressions.{typed}
 
 -- models and declared sources are found by their names
 abbrev pub decl_name : Decl → Name

@@ -5,20 +5,20 @@ use Rattle.std.specs.declared.option.Option.{Option}
 use Rattle.mesh_base.specs.declared.expressions.Expr.{Expr}
 use Rattle.mesh_base.specs.declared.queries.FromItem.{FromItem}
 use Rattle.mesh_base.specs.declared.queries.Select.{Select}
-use Rattle.mesh_surface.specs.declared.expressions.OrExpr.{OrExpr}
-use Rattle.mesh_surface.specs.declared.queries.SurfaceSelect.{SurfaceSelect}
-use Rattle.mesh_tokens.specs.Gives.{◌>>=◌}
-use Rattle.mesh_tokens.specs.declared.faults.ReadFault.{ReadFault}
-use Rattle.mesh_sight.specs.InSight.{Sight}
-use Rattle.mesh_types.specs.declared.typed.Typed.{Typed}
-use Rattle.mesh_tokens.specs.Walk.{some_of}
-use Rattle.mesh_types.specs.Forms.{expr_of}
-use Rattle.mesh_selects.specs.declared.outputs.commons.Common.{Common}
-use Rattle.mesh_selects.specs.outputs.Outputs.{items, resolved_item}
-use Rattle.mesh_selects.specs.outputs.Keys.{keys, key_exprs}
-use Rattle.mesh_selects.specs.declared.selects.parts.Drawn.{Drawn}
-use Rattle.mesh_selects.specs.declared.selects.parts.Walked.{Walked}
-use Rattle.mesh_selects.specs.selects.Standing.{is_grouped, stands}
+use Rattle.mesh_query_grammar.specs.declared.surface.expressions.OrExpr.{OrExpr}
+use Rattle.mesh_query_grammar.specs.declared.surface.queries.SurfaceSelect.{SurfaceSelect}
+use Rattle.mesh_query_tokens.specs.Gives.{◌>>=◌}
+use Rattle.mesh_query_tokens.specs.declared.faults.ReadFault.{ReadFault}
+use Rattle.mesh_resolve_scope.specs.sight.InSight.{Sight}
+use Rattle.mesh_resolve_types.specs.declared.typed.Typed.{Typed}
+use Rattle.mesh_query_tokens.specs.Walk.{some_of}
+use Rattle.mesh_resolve_types.specs.Forms.{expr_of}
+use Rattle.mesh_resolve_selects.specs.declared.outputs.commons.Common.{Common}
+use Rattle.mesh_resolve_selects.specs.outputs.Outputs.{items, resolved_item}
+use Rattle.mesh_resolve_selects.specs.outputs.Keys.{keys, key_exprs}
+use Rattle.mesh_resolve_selects.specs.declared.selects.parts.Drawn.{Drawn}
+use Rattle.mesh_resolve_selects.specs.declared.selects.parts.Walked.{Walked}
+use Rattle.mesh_resolve_selects.specs.selects.Standing.{is_grouped, stands}
 use Rattle.mesh_resolve.specs.declared.known.Known.{Known}
 use Rattle.mesh_resolve.specs.Relations.{condition, drawn_from}
 

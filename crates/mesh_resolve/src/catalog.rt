@@ -3,13 +3,13 @@ ghost use Rattle.std.specs.Prelude.{◌≡◌, ◌≤◌, length, true, IsTrue};
 ghost use Rattle.std.specs.Option.{option_copied};
 ghost use Rattle.mesh_base.specs.Keys.{input_name};
 ghost use Rattle.mesh_list.specs.Keyed.{ascends, found, place_of};
-ghost use Rattle.mesh_values.specs.Names.{name_cmp};
-ghost use Rattle.mesh_values.specs.declared.values.Name.{Name};
+ghost use Rattle.mesh_base_values.specs.Names.{name_cmp};
+ghost use Rattle.mesh_base_values.specs.declared.values.Name.{Name};
 ghost use Rattle.mesh_resolve.specs.Relations.{columns_named, decl_name};
 
 use crate::known::Known;
 use mesh_base::{Decl, Input};
-use mesh_values::{Columns, Name};
+use mesh_base_values::{Columns, Name};
 use std::marker::Model;
 
 /// What has a name of two parts.
@@ -127,7 +127,7 @@ impl<'a> Model for Catalog<'a> {
     ghost use Rattle.std.specs.Prelude.{◌≡◌, true, IsTrue};
     ghost use Rattle.mesh_base.specs.Keys.{input_name};
     ghost use Rattle.mesh_list.specs.Keyed.{ascends};
-    ghost use Rattle.mesh_values.specs.Names.{name_cmp};
+    ghost use Rattle.mesh_base_values.specs.Names.{name_cmp};
     ghost use Rattle.mesh_resolve.specs.declared.known.Known.{Known};
     ghost use Rattle.mesh_resolve.specs.Relations.{decl_name};
 

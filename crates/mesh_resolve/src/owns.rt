@@ -1,8 +1,8 @@
 // The own definition of a model.
 ghost use Rattle.std.specs.Prelude.{◌≡◌, not};
 ghost use Rattle.std.specs.Option.{is_some};
-ghost use Rattle.mesh_tokens.specs.Gives.{Gives};
-ghost use Rattle.mesh_values.specs.Kinds.{time_column};
+ghost use Rattle.mesh_query_tokens.specs.Gives.{Gives};
+ghost use Rattle.mesh_base_values.specs.Kinds.{time_column};
 ghost use Rattle.mesh_resolve.specs.Owns.{are_same_columns, as_declared, body_of, is_seed, keeps_time, own, query_body, timed};
 
 use crate::faults::no_time_column;
@@ -10,13 +10,13 @@ use crate::known::Known;
 use crate::queries::resolve;
 use crate::sources::sources_read;
 use mesh_base::{Defn, Own, Sources};
-use mesh_columns::select_columns;
+use mesh_base_columns::select_columns;
+use mesh_base_values::{ColType, Column, Kind, Seed, Str, same_text};
 use mesh_list::{Duplicate, Memory, Seq, are_same, both};
-use mesh_model::ModelText;
-use mesh_surface::Surface;
-use mesh_tokens::ReadFault;
-use mesh_types::{mismatch, unwritten};
-use mesh_values::{ColType, Column, Kind, Seed, Str, same_text};
+use mesh_model_statement::model::ModelText;
+use mesh_query_grammar::surface::Surface;
+use mesh_query_tokens::ReadFault;
+use mesh_resolve_types::{mismatch, unwritten};
 use std::alloc::Global;
 
 fn keeps_time(time: &Str, c: &Column) -> bool

@@ -1,9 +1,9 @@
 // The walk through a query: its CTEs in order, its SELECTs, and then the sides of each UNION ALL.
 ghost use Rattle.std.specs.Prelude.{◌≡◌, [], map, IfOk};
-ghost use Rattle.mesh_tokens.specs.Gives.{Gives};
-ghost use Rattle.mesh_tokens.specs.Walk.{along};
-ghost use Rattle.mesh_selects.specs.outputs.Leads.{Leads};
-ghost use Rattle.mesh_selects.specs.outputs.Commons.{selects_of};
+ghost use Rattle.mesh_query_tokens.specs.Gives.{Gives};
+ghost use Rattle.mesh_query_tokens.specs.Walk.{along};
+ghost use Rattle.mesh_resolve_selects.specs.outputs.Leads.{Leads};
+ghost use Rattle.mesh_resolve_selects.specs.outputs.Commons.{selects_of};
 ghost use Rattle.mesh_resolve.specs.Queries.{cte, resolved, selects};
 
 use crate::catalog::Catalog;
@@ -11,14 +11,14 @@ use crate::known::Known;
 use crate::selects::select;
 use mesh_base::{Ctes, Query, Selects};
 use mesh_list::{Duplicate, Memory, Seq};
-use mesh_selects::outputs::{Common, Commons, with_sides_alike};
-use mesh_selects::selects::duplicate;
-use mesh_surface::{Surface, SurfaceCte, SurfaceUnion};
-use mesh_tokens::ReadFault;
+use mesh_query_grammar::surface::{Surface, SurfaceCte, SurfaceUnion};
+use mesh_query_tokens::ReadFault;
+use mesh_resolve_selects::outputs::{Common, Commons, with_sides_alike};
+use mesh_resolve_selects::selects::duplicate;
 use std::alloc::Global;
 
 // The sides of a UNION ALL.
-#[tactic(auto, using(mesh_selects::proofs::outputs::Steps::none_along, mesh_selects::proofs::outputs::Steps::one_more, mesh_selects::proofs::outputs::Steps::stops, mesh_selects::proofs::outputs::Steps::all_along), unfolding(crate::specs::Queries::selects))]
+#[tactic(auto, using(mesh_resolve_selects::proofs::outputs::Steps::none_along, mesh_resolve_selects::proofs::outputs::Steps::one_more, mesh_resolve_selects::proofs::outputs::Steps::stops, mesh_resolve_selects::proofs::outputs::Steps::all_along), unfolding(crate::specs::Queries::selects))]
 fn selects(
     alloc: Global,
     known: &Catalog,
@@ -48,7 +48,7 @@ fn cte(alloc: Global, known: &Catalog, done: &mut Commons, c: &SurfaceCte) -> Re
     Ok(())
 }
 
-#[tactic(auto, using(mesh_selects::proofs::outputs::Steps::none_along, mesh_selects::proofs::outputs::Steps::one_more, mesh_selects::proofs::outputs::Steps::stops, mesh_selects::proofs::outputs::Steps::all_along))]
+#[tactic(auto, using(mesh_resolve_selects::proofs::outputs::Steps::none_along, mesh_resolve_selects::proofs::outputs::Steps::one_more, mesh_resolve_selects::proofs::outputs::Steps::stops, mesh_resolve_selects::proofs::outputs::Steps::all_along))]
 fn ctes(alloc: Global, known: &Catalog, all: &[SurfaceCte]) -> Result<Commons, ReadFault>
     ensures { Gives result (along (cte known.now) [] all.now) }
 {

@@ -1,24 +1,24 @@
 // What FROM draws: relations by two-part names, and earlier CTEs by one-part names.
 ghost use Rattle.std.specs.Prelude.{◌≡◌, ◌++◌, ◌∷◌, [], IfOk, OnOk};
-ghost use Rattle.mesh_tokens.specs.Gives.{Gives};
-ghost use Rattle.mesh_sight.specs.Sight.{seeing};
+ghost use Rattle.mesh_query_tokens.specs.Gives.{Gives};
+ghost use Rattle.mesh_resolve_scope.specs.sight.Sight.{seeing};
 ghost use Rattle.mesh_resolve.specs.Relations.{condition, conditional, dotted, drawn_from, item_drawn, joined, name_in_from, relation, two_part, unconditional};
-ghost use Rattle.mesh_tokens.specs.Walk.{along};
-ghost use Rattle.mesh_selects.specs.outputs.Leads.{Leads};
+ghost use Rattle.mesh_query_tokens.specs.Walk.{along};
+ghost use Rattle.mesh_resolve_selects.specs.outputs.Leads.{Leads};
 
 use crate::catalog::Catalog;
 use crate::drawn::Drawing;
 use mesh_base::{Join, Rel};
+use mesh_base_values::{ColType, Columns, Name, Str};
 use mesh_list::{Duplicate, Memory, Seq, both, push_made};
-use mesh_scope::typed_expression;
-use mesh_selects::outputs::{Commons, cte_named};
-use mesh_selects::selects::Drawn;
-use mesh_sight::Sight;
-use mesh_surface::{OrExpr, SurfaceFrom, SurfaceJoin, SurfaceRel};
-use mesh_tokens::ReadFault;
-use mesh_type_rules::may_be;
-use mesh_types::{Typed, mismatch, unknown_relation};
-use mesh_values::{ColType, Columns, Name, Str};
+use mesh_query_grammar::surface::{OrExpr, SurfaceFrom, SurfaceJoin, SurfaceRel};
+use mesh_query_tokens::ReadFault;
+use mesh_resolve_scope::sight::Sight;
+use mesh_resolve_scope::typed_expression;
+use mesh_resolve_selects::outputs::{Commons, cte_named};
+use mesh_resolve_selects::selects::Drawn;
+use mesh_resolve_types::rules::may_be;
+use mesh_resolve_types::{Typed, mismatch, unknown_relation};
 use std::alloc::Global;
 
 /// A condition, which is a BOOL.
@@ -170,7 +170,7 @@ fn joined(
 }
 
 // Further FROM items.
-#[tactic(auto, using(mesh_selects::proofs::outputs::Steps::none_along, mesh_selects::proofs::outputs::Steps::one_more, mesh_selects::proofs::outputs::Steps::stops, mesh_selects::proofs::outputs::Steps::all_along))]
+#[tactic(auto, using(mesh_resolve_selects::proofs::outputs::Steps::none_along, mesh_resolve_selects::proofs::outputs::Steps::one_more, mesh_resolve_selects::proofs::outputs::Steps::stops, mesh_resolve_selects::proofs::outputs::Steps::all_along))]
 fn all_joined(
     alloc: Global,
     known: &Catalog,

@@ -1,8 +1,8 @@
 // One SELECT.
 ghost use Rattle.std.specs.Prelude.{◌≡◌, map, IfOk};
 ghost use Rattle.std.specs.Option.{option_map};
-ghost use Rattle.mesh_tokens.specs.Gives.{Gives};
-ghost use Rattle.mesh_types.specs.Forms.{expr_of};
+ghost use Rattle.mesh_query_tokens.specs.Gives.{Gives};
+ghost use Rattle.mesh_resolve_types.specs.Forms.{expr_of};
 ghost use Rattle.mesh_resolve.specs.Selects.{from_item, resolved_as, right_keys, select, some_condition, walked};
 
 use crate::catalog::Catalog;
@@ -10,12 +10,12 @@ use crate::drawn::Drawing;
 use crate::relations::{condition, drawn_from};
 use mesh_base::{Expr, FromItem, Select};
 use mesh_list::{Memory, Seq, together};
-use mesh_selects::outputs::{Commons, group_keys, items, key_exprs, resolved_items};
-use mesh_selects::selects::{Drawn, Walked, is_grouped, stands};
-use mesh_sight::Sight;
-use mesh_surface::{OrExpr, SurfaceSelect};
-use mesh_tokens::ReadFault;
-use mesh_types::Typed;
+use mesh_query_grammar::surface::{OrExpr, SurfaceSelect};
+use mesh_query_tokens::ReadFault;
+use mesh_resolve_scope::sight::Sight;
+use mesh_resolve_selects::outputs::{Commons, group_keys, items, key_exprs, resolved_items};
+use mesh_resolve_selects::selects::{Drawn, Walked, is_grouped, stands};
+use mesh_resolve_types::Typed;
 use std::alloc::Global;
 
 fn some_condition(

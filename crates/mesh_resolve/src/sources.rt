@@ -6,17 +6,17 @@ ghost use Rattle.std.specs.BTreeSet.{contains};
 ghost use Rattle.mesh_base.specs.declared.definitions.Defn.TheVariants as body;
 ghost use Rattle.mesh_list.specs.Keyed.{ascends, found, place_of, placed};
 ghost use Rattle.mesh_base.specs.Keys.{input_name};
-ghost use Rattle.mesh_rules.specs.Proper.{defn_names, from_names, is_among, names_of_all, selects_names};
-ghost use Rattle.mesh_values.specs.declared.values.Name.{Name};
-ghost use Rattle.mesh_values.specs.Names.{name_cmp};
+ghost use Rattle.mesh_base.specs.rules.Proper.{defn_names, from_names, is_among, names_of_all, selects_names};
+ghost use Rattle.mesh_base_values.specs.declared.values.Name.{Name};
+ghost use Rattle.mesh_base_values.specs.Names.{name_cmp};
 ghost use Rattle.mesh_resolve.specs.Relations.{decl_name};
 ghost use Rattle.mesh_resolve.specs.Owns.{in_order, is_read, sources_read};
 
 use crate::catalog::{is_ascending, met};
 use crate::known::Known;
 use mesh_base::{Decl, FromItem, Query, Rel, Select, Selects, Sources};
+use mesh_base_values::{Name, Names};
 use mesh_list::{Duplicate, Memory, Seq, push_made};
-use mesh_values::{Name, Names};
 use std::alloc::Global;
 use std::collections::BTreeSet;
 

@@ -4,10 +4,10 @@ ghost use Rattle.mesh_list.specs.Counts.{Rose};
 ghost use Rattle.mesh_keep.specs.declared.keeper.KeepFail.TheVariants.{Failed};
 
 use crate::table::{fail_of, find, list, make_table, put_all};
+use mesh_base_values::Str;
 use mesh_keep::{KeepFail, Keeper, Records, Writes, counted};
-use mesh_kept::kept::{KeepFault, KeptHouse};
+use mesh_keep_house::kept::{KeepFault, KeptHouse};
 use mesh_list::Seq;
-use mesh_values::Str;
 use sqlite::{Alter, Connection, Error};
 use std::alloc::Global;
 

@@ -1,7 +1,7 @@
 -- The spans with one more: they stay apart, and have its seconds beside those that they had.
 use Rattle.std.proofs.Common.{◌≡◌, true, List, [], ◌∷◌, ◌⊎◌, inl, inr, ◌↔◌, ℤ, ◌≤ℤ◌, ◌<ℤ◌, Some, arith}
 use Rattle.std.proofs.lemmas.Int.{ints, clamps, by_lt_z}
-use Rattle.mesh_values.specs.declared.times.Bounds.{Bounds}
+use Rattle.mesh_base_values.specs.declared.times.Bounds.{Bounds}
 use Rattle.mesh_time.specs.Ranges.{IsWithin, Has, is_apart}
 use Rattle.mesh_time.specs.Edits.{hull, added}
 use Rattle.mesh_time.proofs.Apart.{lt_true, lt_false, ApartAfter, Apart, apart_says, is_apart_true, apart_after_lower, apart_from_after}

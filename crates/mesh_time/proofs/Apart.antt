@@ -2,7 +2,7 @@
 use Rattle.std.proofs.Common.{◌≡◌, refl, Bool, true, false, ◌&&◌, List, [], ◌∷◌, inl, inr, ℤ, ◌≤ℤ◌, ◌<ℤ◌, arith}
 use Rattle.std.specs.Int.Signed.{lt_z, le_z}
 use Rattle.std.proofs.lemmas.Int.{ints}
-use Rattle.mesh_values.specs.declared.times.Bounds.{Bounds}
+use Rattle.mesh_base_values.specs.declared.times.Bounds.{Bounds}
 use Rattle.mesh_time.specs.Ranges.{Has, is_apart, is_apart_after}
 
 pub lt_true : (a b : ℤ) → a <ℤ b → lt_z a b ≡ true

@@ -1,6 +1,6 @@
 use Rattle.std.proofs.Common.{◌≡◌, ℕ, zero, suc, ◌+◌, ◌%◌, ◌-◌, ◌^◌, ◌<◌, ◌≤◌, Bool, true, false, not, ◌&&◌, ◌||◌, ◌==◌, nat_lt, refl, sym, subst, arith, IsTrue, inl, inr}
 use Rattle.std.proofs.lemmas.Bool.{and_parts, or_cases, cases_eq, eqb-true, ne_eqb}
-use Rattle.mesh_values.specs.Crons.{CronSets, has, has_date, is_cron, is_set, some_below}
+use Rattle.mesh_base_values.specs.Crons.{CronSets, has, has_date, is_cron, is_set, some_below}
 
 pub not_so : (a b : Bool) → (not a || b) ≡ true → a ≡ true → b ≡ true
 not_so true b h e = h

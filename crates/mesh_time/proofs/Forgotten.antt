@@ -3,7 +3,7 @@ use Rattle.std.proofs.Common.{◌≡◌, ◌∙◌, true, List, [], ◌∷◌, �
 use Rattle.std.specs.List.{flat_map}
 use Rattle.std.specs.Int.{int_min, int_max}
 use Rattle.std.proofs.lemmas.Int.{ints, clamps, by_lt_z}
-use Rattle.mesh_values.specs.declared.times.Bounds.{Bounds}
+use Rattle.mesh_base_values.specs.declared.times.Bounds.{Bounds}
 use Rattle.mesh_time.specs.Ranges.{IsWithin, Has, is_apart}
 use Rattle.mesh_time.specs.Edits.{filled, pieces}
 use Rattle.mesh_time.proofs.Apart.{lt_true, lt_false, ApartAfter, Apart, apart_says, is_apart_true, apart_after_lower, apart_from_after}

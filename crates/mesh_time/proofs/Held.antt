@@ -3,7 +3,7 @@ use Rattle.std.proofs.Common.{◌≡◌, refl, IsTrue, ◌↔◌, Bool, true, fa
 use Rattle.std.specs.List.{list_any}
 use Rattle.std.specs.Int.Signed.{le_z}
 use Rattle.std.proofs.lemmas.Int.{ints, by_lt_z}
-use Rattle.mesh_values.specs.declared.times.Bounds.{Bounds}
+use Rattle.mesh_base_values.specs.declared.times.Bounds.{Bounds}
 use Rattle.mesh_time.specs.Ranges.{IsWithin, Has, is_apart, covers, is_held}
 use Rattle.mesh_time.proofs.Apart.{le_says, le_true, and_says, and_true, Apart, apart_says, apart_from_after, has_above}
 

@@ -5,8 +5,8 @@ use Rattle.std.proofs.lemmas.Bool.{and_from, and_parts, cases_Bool, cases_eq, eq
 use Rattle.std.proofs.lemmas.Nat.{div-mul-add}
 use Rattle.std.proofs.Math.Nat.{pow-le-pow_right}
 use Rattle.std.proofs.lemmas.Nat.{pow-add, div-add-mod', mod_below}
-use Rattle.mesh_values.specs.declared.crons.CronFault.TheVariants.{TooFine, NoTick}
-use Rattle.mesh_values.specs.Crons.{CronSets, count_below, has, has_date, is_cron, is_set, some_below}
+use Rattle.mesh_base_values.specs.declared.crons.CronFault.TheVariants.{TooFine, NoTick}
+use Rattle.mesh_base_values.specs.Crons.{CronSets, count_below, has, has_date, is_cron, is_set, some_below}
 use Rattle.mesh_time.specs.CronText.{checked, field_has, front, high_end, is_field, is_item, is_number, is_range, is_star, is_stepped, item_first, item_has, item_last, item_step, items, low_end, number, set_of, sets_of, stands_in, week_has}
 use Rattle.mesh_time.proofs.FieldLaws.{items_head, step_positive}
 use Rattle.mesh_time.proofs.CronFacts.{some_is}

@@ -6,8 +6,8 @@ use Rattle.jiff_core.specs.Date.{epoch_day}
 use Rattle.jiff_core.proofs.SignedLemmas.{signed_arith}
 use Rattle.jiff_core.proofs.CalendarLemmas.{days_from_civil-day_count, days_in_month_bounds, weekday_number_bound}
 use Rattle.jiff_core.proofs.DateLemmas.{weekday_number-day}
-use Rattle.mesh_values.specs.Crons.{CronSets, has, has_date, has_day, is_cron, longest}
-use Rattle.mesh_days.specs.Moments.{day_number, moment}
+use Rattle.mesh_base_values.specs.Crons.{CronSets, has, has_date, has_day, is_cron, longest}
+use Rattle.mesh_time_days.specs.Moments.{day_number, moment}
 use Rattle.mesh_time.specs.Ticks.{date_matches, day_matches, minute_matches, weekday, IsQuiet, IsTickDay}
 use Rattle.mesh_time.proofs.CronFacts.{each_day_of_week, first_week, positive, rule_of, some_is, Rule}
 use Rattle.mesh_time.proofs.TickLaws.{is_day_number, moment_between, tick_at, tick_day}

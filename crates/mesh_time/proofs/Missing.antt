@@ -4,10 +4,10 @@ use Rattle.std.specs.List.{list_any, range_with_len}
 use Rattle.std.proofs.lemmas.List.FromFn.{filter_of_map_range_with_len_more}
 use Rattle.std.specs.Int.Signed.{le_z}
 use Rattle.std.proofs.lemmas.Int.{ints, by_lt_z}
-use Rattle.mesh_values.specs.declared.times.Bounds.{Bounds}
-use Rattle.mesh_values.specs.declared.times.Schedule.{Schedule}
-use Rattle.mesh_values.specs.declared.times.Unit.{Unit as TimeUnit}
-use Rattle.mesh_values.specs.declared.times.Unit.TheVariants.{Hour, Day}
+use Rattle.mesh_base_values.specs.declared.times.Bounds.{Bounds}
+use Rattle.mesh_base_values.specs.declared.times.Schedule.{Schedule}
+use Rattle.mesh_base_values.specs.declared.times.Unit.{Unit as TimeUnit}
+use Rattle.mesh_base_values.specs.declared.times.Unit.TheVariants.{Hour, Day}
 use Rattle.mesh_time.specs.Ranges.{Has, is_apart, covers, is_held, unit_size, unit_at}
 use Rattle.mesh_time.specs.Edits.{open_after, front_covers}
 use Rattle.mesh_time.proofs.Held.{held_tells}

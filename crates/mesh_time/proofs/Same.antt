@@ -1,7 +1,7 @@
 -- Spans that stay apart and have the same seconds are the same.
 use Rattle.std.proofs.Common.{◌≡◌, refl, sym, true, List, [], ◌∷◌, inl, inr, ◌↔◌, ℤ, ◌≤ℤ◌, ◌<ℤ◌, arith}
 use Rattle.std.proofs.lemmas.Int.{ints, by_lt_z}
-use Rattle.mesh_values.specs.declared.times.Bounds.{Bounds}
+use Rattle.mesh_base_values.specs.declared.times.Bounds.{Bounds}
 use Rattle.mesh_time.specs.Ranges.{Has, is_apart}
 use Rattle.mesh_time.proofs.Apart.{Apart, apart_says, apart_from_after, has_above}
 use Rattle.mesh_time.proofs.Held.{later}

@@ -1,7 +1,7 @@
 use Rattle.std.proofs.Common.{◌≡◌, ℕ, zero, suc, ◌+◌, ◌*◌, ◌^◌, ◌<◌, ◌≤◌, Bool, true, false, ◌||◌, refl, sym, ap, ◌∙◌, subst, arith, cond, add-one, inl, inr}
 use Rattle.std.proofs.Math.Nat.{pow-suc, pow-le-pow_right}
 use Rattle.std.proofs.lemmas.Bool.{cases_eq}
-use Rattle.mesh_values.specs.Crons.{some_below}
+use Rattle.mesh_base_values.specs.Crons.{some_below}
 use Rattle.mesh_time.specs.CronText.{set_of}
 
 pub set_more : (p : ℕ → Bool) (n : ℕ) → set_of p (n + 1) ≡ set_of p n + cond (p n) (2 ^ n) 0

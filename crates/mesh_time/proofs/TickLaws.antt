@@ -4,9 +4,9 @@ use Rattle.jiff_core.specs.declared.civil.date.Date.{Date}
 use Rattle.jiff_core.specs.Date.{epoch_day}
 use Rattle.jiff_core.proofs.SignedLemmas.{signed_arith, unsigned_abs-parts, one_part}
 use Rattle.jiff_core.proofs.DateLemmas.{epoch_day_injective}
-use Rattle.mesh_values.specs.Crons.{CronSets, has, count_below}
-use Rattle.mesh_days.specs.Moments.{moment, day_number, day_at, second_at, IsDayNumber}
-use Rattle.mesh_days.proofs.TextLaws.{parts_at}
+use Rattle.mesh_base_values.specs.Crons.{CronSets, has, count_below}
+use Rattle.mesh_time_days.specs.Moments.{moment, day_number, day_at, second_at, IsDayNumber}
+use Rattle.mesh_time_days.proofs.TextLaws.{parts_at}
 use Rattle.mesh_time.specs.Ticks.{calendar_day, date_matches, day_matches, minute_matches, weekday, IsFloor, IsQuiet, IsTick, IsTickDay}
 
 pub count_more : (p : ℕ → Bool) (n : ℕ) → count_below p (n + 1) ≡ count_below p n + cond (p n) 1 0

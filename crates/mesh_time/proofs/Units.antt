@@ -2,9 +2,9 @@
 use Rattle.std.proofs.Common.{ℕ, ◌+◌, ◌*◌, ◌/◌, ◌<◌, ◌≤◌, ◌↔◌, ℤ, pos, ◌+ℤ◌, ◌≤ℤ◌, arith}
 use Rattle.std.specs.Int.{int_gap}
 use Rattle.std.proofs.lemmas.Int.{ints}
-use Rattle.mesh_values.specs.declared.times.Schedule.{Schedule}
-use Rattle.mesh_values.specs.declared.times.Unit.{Unit as TimeUnit}
-use Rattle.mesh_values.specs.declared.times.Unit.TheVariants.{Hour, Day}
+use Rattle.mesh_base_values.specs.declared.times.Schedule.{Schedule}
+use Rattle.mesh_base_values.specs.declared.times.Unit.{Unit as TimeUnit}
+use Rattle.mesh_base_values.specs.declared.times.Unit.TheVariants.{Hour, Day}
 use Rattle.mesh_time.specs.Ranges.{unit_size, unit_count, unit_at}
 
 counted : (unit : TimeUnit) (k gap : ℕ) → (k < gap / unit_size unit) ↔ ((k + 1) * unit_size unit ≤ gap)

@@ -14,7 +14,7 @@ use Rattle.std.proofs.lemmas.List.{append-nil, drop_all, drop_more}
 use Rattle.std.proofs.lemmas.List.Concat.{flat_map-append}
 use Rattle.std.proofs.lemmas.List.Elements.{All-nil, All-cons, All-head, All-tail}
 use Rattle.std.proofs.lemmas.List.Sorted.{All-permutation, IsPermutation-sym}
-use Rattle.mesh_values.specs.declared.times.Bounds.{Bounds}
+use Rattle.mesh_base_values.specs.declared.times.Bounds.{Bounds}
 use Rattle.mesh_time.specs.Ranges.{IsWithin, Has, is_apart, is_apart_after}
 use Rattle.mesh_time.specs.Edits.{filled, pieces, spans_without_each, rises, rises_from}
 use Rattle.mesh_time.proofs.Apart.{lt_true, lt_false, lt_says, le_says, le_true, and_says, and_true, ApartAfter, apart_says, apart_after_says, is_apart_true}

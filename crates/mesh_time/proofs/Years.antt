@@ -4,7 +4,7 @@ use Rattle.std.proofs.lemmas.Grind.{common_steps}
 use Rattle.jiff_core.specs.Calendar.{day_count, days_in_month, days_in_year, is_leap_year, IsCivilDate}
 use Rattle.jiff_core.proofs.SignedLemmas.{signed_arith}
 use Rattle.jiff_core.proofs.CalendarLemmas.{day_count-next_year, day_count-day_of_year, day_count-epoch, day_count-end, day_of_year_bound, days_in_year_bounds}
-use Rattle.mesh_values.specs.Crons.{longest}
+use Rattle.mesh_base_values.specs.Crons.{longest}
 
 -- the count of days before a year
 pub first : ℕ → ℕ

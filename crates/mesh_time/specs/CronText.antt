@@ -2,9 +2,9 @@
 use Rattle.std.specs.Prelude.{ℕ, zero, suc, ◌+◌, ◌-◌, ◌*◌, ◌%◌, ◌^◌, Bool, not, ◌&&◌, ◌||◌, ◌==◌, nat_lt, nat_le, nat_eq, if◌then◌else◌, List, [], ◌∷◌, length, drop, codes, Result, Ok, Err}
 use Rattle.std.specs.List.{list_all, list_any, prefix_len, before_first, after_first, slice_split}
 use Rattle.std.specs.Cmp.Lexicographic.{pointwise}
-use Rattle.mesh_values.specs.declared.crons.CronFault.{CronFault}
-use Rattle.mesh_values.specs.declared.crons.CronFault.TheVariants.{BadField, TooFine, NoTick}
-use Rattle.mesh_values.specs.Crons.{CronSets, has, has_date, count_below}
+use Rattle.mesh_base_values.specs.declared.crons.CronFault.{CronFault}
+use Rattle.mesh_base_values.specs.declared.crons.CronFault.TheVariants.{BadField, TooFine, NoTick}
+use Rattle.mesh_base_values.specs.Crons.{CronSets, has, has_date, count_below}
 
 -- two texts are the same
 abbrev pub same_text : List ℕ → List ℕ → Bool

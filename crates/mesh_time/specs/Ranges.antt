@@ -3,10 +3,10 @@ use Rattle.std.specs.Prelude.{ℕ, ◌+◌, ◌*◌, ◌/◌, Bool, true, ◌&&�
 use Rattle.std.specs.List.{list_any, range_with_len}
 use Rattle.std.specs.Int.{int_gap}
 use Rattle.std.specs.Int.Signed.{lt_z, le_z}
-use Rattle.mesh_values.specs.declared.times.Unit.{Unit as TimeUnit}
-use Rattle.mesh_values.specs.declared.times.Unit.TheVariants.{Hour, Day}
-use Rattle.mesh_values.specs.declared.times.Bounds.{Bounds}
-use Rattle.mesh_values.specs.declared.times.Schedule.{Schedule}
+use Rattle.mesh_base_values.specs.declared.times.Unit.{Unit as TimeUnit}
+use Rattle.mesh_base_values.specs.declared.times.Unit.TheVariants.{Hour, Day}
+use Rattle.mesh_base_values.specs.declared.times.Bounds.{Bounds}
+use Rattle.mesh_base_values.specs.declared.times.Schedule.{Schedule}
 
 -- a second is at least the start and below the end
 abbrev pub IsWithin : ℤ → ℤ → ℤ → Type 0

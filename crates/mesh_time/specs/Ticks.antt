@@ -4,8 +4,8 @@ use Rattle.std.specs.Int.{int_rem_euclid}
 use Rattle.jiff_core.specs.declared.civil.date.Date.{Date}
 use Rattle.jiff_core.specs.Calendar.{weekday_number}
 use Rattle.jiff_core.specs.Date.{epoch_day}
-use Rattle.mesh_days.specs.Moments.{day_at, second_at}
-use Rattle.mesh_values.specs.Crons.{CronSets, has, count_below}
+use Rattle.mesh_time_days.specs.Moments.{day_at, second_at}
+use Rattle.mesh_base_values.specs.Crons.{CronSets, has, count_below}
 
 -- The day itself where its year is 1 to 9999. Any other day has the month and the day of the month of one of the years
 -- 2000 to 2399, since the calendar repeats every 146,097 days.

@@ -1,11 +1,11 @@
 // Reading a cron's text.
 ghost use Rattle.std.specs.Prelude.{◌≡◌, ◌&&◌, ◌+◌, nat_lt, not, ◌<◌, ◌≤◌, true, Result, Ok, Err, MatchOption};
-ghost use Rattle.mesh_values.specs.Crons.{has_date, has_day, some_below, has, longest};
+ghost use Rattle.mesh_base_values.specs.Crons.{has_date, has_day, some_below, has, longest};
 ghost use Rattle.mesh_time.specs.CronText.{checked, cron_of, cron_of_fields, cron_of_words, is_field, meant, sets_of};
 
 use crate::fields::{days_of_week, is_field, is_star, same_text, take_word, values};
 use crate::ticks::{contains, count};
-use mesh_values::{Cron, CronFault};
+use mesh_base_values::{Cron, CronFault};
 
 /// Reads the text of a cron by POSIX crontab. It is an alias (`@hourly`, `@daily`, `@midnight`, `@weekly`, `@monthly`,
 /// `@yearly` or `@annually`), or has five fields with spaces between. A field is `*`, or numbers, ranges `a-b` and steps
@@ -128,7 +128,7 @@ fn never_comes(dow_star: bool, months: u16, days: u32) -> bool
 }
 
 // Whether a month of the set has a day of the set.
-#[tactic(auto, unfolding(mesh_values::specs::Crons::has_date))]
+#[tactic(auto, unfolding(mesh_base_values::specs::Crons::has_date))]
 fn has_date(months: u16, days: u32) -> bool
     ensures { result ≡ has_date months days }
 {
@@ -148,7 +148,7 @@ fn is_date(months: u16, days: u32, month: u32) -> bool
 }
 
 // Whether the set has a day of a month.
-#[tactic(auto, unfolding(mesh_values::specs::Crons::has_day))]
+#[tactic(auto, unfolding(mesh_base_values::specs::Crons::has_day))]
 fn has_day(days: u32, month: u32) -> bool
     requires { month ≤ 12 }
     ensures { result ≡ has_day days month }

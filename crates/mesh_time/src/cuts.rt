@@ -1,13 +1,13 @@
 // Spans without the seconds of several others, in one pass over both.
 ghost use Rattle.std.specs.Prelude.{◌≡◌, true, List, ◌∷◌, [], ◌++◌, ◌↔◌, IfOk, filter, ℤ, ◌<ℤ◌};
 ghost use Rattle.std.specs.Int.Signed.{lt_z};
-ghost use Rattle.mesh_values.specs.declared.times.Bounds.{Bounds};
+ghost use Rattle.mesh_base_values.specs.declared.times.Bounds.{Bounds};
 ghost use Rattle.mesh_time.specs.Ranges.{Has, is_apart, is_apart_after};
 ghost use Rattle.mesh_time.specs.Edits.{rises, spans_without_each};
 
 use crate::ranges::push_filled;
+use mesh_base_values::{Bounds, Spans};
 use mesh_list::{Memory, Seq};
-use mesh_values::{Bounds, Spans};
 use std::alloc::Global;
 
 /// The spans without the seconds of all these, which may stand in any order.

@@ -1,7 +1,7 @@
 // What the words of the contracts mean, said of every list of spans and every schedule.
 ghost use Rattle.std.specs.Prelude.{◌≡◌, true, ℕ, ◌+◌, ◌<◌, ◌↔◌, ◌⊎◌, IsTrue, List, ℤ, ◌<ℤ◌, ◌≤ℤ◌};
-ghost use Rattle.mesh_values.specs.declared.times.Bounds.{Bounds};
-ghost use Rattle.mesh_values.specs.declared.times.Schedule.{Schedule};
+ghost use Rattle.mesh_base_values.specs.declared.times.Bounds.{Bounds};
+ghost use Rattle.mesh_base_values.specs.declared.times.Schedule.{Schedule};
 ghost use Rattle.mesh_time.specs.Ranges.{IsWithin, Has, is_apart, is_held, unit_count, unit_at};
 ghost use Rattle.mesh_time.specs.Edits.{spans_with, spans_without, spans_without_each};
 

@@ -1,13 +1,13 @@
 // Ranges of seconds: spans that ascend, none empty, no two touching. A hole is what lies between two spans.
 ghost use Rattle.std.specs.Prelude.{◌≡◌, true, ℕ, [], ◌++◌, ◌∷◌, ◌↔◌, ◌⊎◌, ◌<◌, IsTrue, IfOk, OnOk, OnErr, List, ℤ, ◌<ℤ◌, ◌≤ℤ◌};
 ghost use Rattle.std.specs.List.{flat_map};
-ghost use Rattle.mesh_values.specs.declared.times.Bounds.{Bounds};
+ghost use Rattle.mesh_base_values.specs.declared.times.Bounds.{Bounds};
 ghost use Rattle.mesh_time.specs.Ranges.{IsWithin, Has, is_apart, is_held, unit_size, unit_count, unit_at, missing_units};
 ghost use Rattle.mesh_time.specs.Edits.{hull, added, filled, pieces, open_after, front_covers, spans_with, spans_without, spans_without_each};
 
 use crate::cuts::without_each;
+use mesh_base_values::{Bounds, Schedule, Spans, Unit};
 use mesh_list::{Duplicate, Memory, Same, Seq};
-use mesh_values::{Bounds, Schedule, Spans, Unit};
 use std::alloc::Global;
 use std::marker::Model;
 
@@ -31,7 +31,7 @@ impl Drop for Ranges {
 
 impl Model for Ranges {
     ghost use Rattle.std.specs.Prelude.{List, true, ◌≡◌};
-    ghost use Rattle.mesh_values.specs.declared.times.Bounds.{Bounds};
+    ghost use Rattle.mesh_base_values.specs.declared.times.Bounds.{Bounds};
     ghost use Rattle.mesh_time.specs.Ranges.{is_apart};
 
     ghost Value = { List Bounds };

@@ -2,14 +2,14 @@
 ghost use Rattle.std.specs.Prelude.{◌≡◌, ◌↔◌, ◌&&◌, ◌||◌, if◌then◌else◌, ℕ, ◌+◌, ◌/◌, ◌%◌, ◌<◌, ◌≤◌, ◌*◌, ◌-◌, false, IsTrue, IfSome, MatchOption};
 ghost use Rattle.std.specs.Int.{IsInRange};
 ghost use Rattle.jiff_core.specs.Date.{epoch_day};
-ghost use Rattle.mesh_values.specs.Crons.{count_below, has, is_cron};
-ghost use Rattle.mesh_values.specs.declared.times.Unit.{Unit as UnitOfTime};
-ghost use Rattle.mesh_days.specs.Moments.{day_number, moment, IsMoment};
+ghost use Rattle.mesh_base_values.specs.Crons.{count_below, has, is_cron};
+ghost use Rattle.mesh_base_values.specs.declared.times.Unit.{Unit as UnitOfTime};
+ghost use Rattle.mesh_time_days.specs.Moments.{day_number, moment, IsMoment};
 ghost use Rattle.mesh_time.specs.Ticks.{date_matches, minute_matches, IsDaily, IsFloor, IsQuiet, IsTick, IsTickDay, weekday};
 
 use jiff_core::civil::Date;
-use mesh_days::{date_of, day_and_second, moment};
-use mesh_values::{Cron, Unit};
+use mesh_base_values::{Cron, Unit};
+use mesh_time_days::{date_of, day_and_second, moment};
 
 /// Whether a moment, in seconds since 1970-01-01T00:00:00, is a tick of a cron by the rules of POSIX crontab.
 pub fn ticks_at(c: &Cron, t: i64) -> bool
@@ -180,7 +180,7 @@ fn days_match(star: bool, dom: bool, dow: bool) -> bool
 }
 
 // Whether a set has a value.
-#[tactic(auto, unfolding(mesh_values::specs::Crons::has))]
+#[tactic(auto, unfolding(mesh_base_values::specs::Crons::has))]
 pub(crate) fn contains(set: u64, value: u32) -> bool
     requires { value < 64 }
     ensures { result ≡ has set value }
@@ -189,7 +189,7 @@ pub(crate) fn contains(set: u64, value: u32) -> bool
 }
 
 // How many values of a set lie below a bound.
-#[tactic(auto, using(crate::proofs::TickLaws::count_more), unfolding(mesh_values::specs::Crons::count_below))]
+#[tactic(auto, using(crate::proofs::TickLaws::count_more), unfolding(mesh_base_values::specs::Crons::count_below))]
 pub(crate) fn count(set: u64, bound: u32) -> u32
     requires { bound ≤ 64 }
     ensures value { result ≡ count_below (has set) bound }

@@ -2,7 +2,7 @@
 use Rattle.std.proofs.Common.{◌≡◌, ℕ, List, Result, Ok, inl, inr}
 use Rattle.std.specs.Prelude.{◌⊎◌, IfOk}
 use Rattle.std.proofs.lemmas.Result.{IfOk-at_ok}
-use Rattle.mesh_values.specs.Kinds.{lookback_of}
+use Rattle.mesh_base_values.specs.Kinds.{lookback_of}
 use Rattle.mesh_base.specs.declared.definitions.Own.{Own}
 use Rattle.mesh_canon_text.specs.declared.form.Form.TheVariants.{Current, Former}
 use Rattle.mesh_canon_text.specs.Text.{own_text, own_text_old}

@@ -1,6 +1,6 @@
 -- The text of a definition, in either form.
 use Rattle.std.specs.Prelude.{◌≡◌, ℕ, List}
-use Rattle.mesh_values.specs.Kinds.{lookback_of}
+use Rattle.mesh_base_values.specs.Kinds.{lookback_of}
 use Rattle.mesh_base.specs.declared.definitions.Own.{Own}
 use Rattle.mesh_canon_text.specs.declared.form.Form.{Form}
 use Rattle.mesh_canon_text.specs.Text.{own_by}

@@ -1,7 +1,7 @@
 // Definitions, read, and lists of texts.
 ghost use Rattle.std.specs.Prelude.{◌≡◌, ℕ, List, true, IfOk};
 ghost use Rattle.mesh_base.specs.declared.definitions.Own.{Own};
-ghost use Rattle.mesh_values.specs.Kinds.{lookback_of};
+ghost use Rattle.mesh_base_values.specs.Kinds.{lookback_of};
 ghost use Rattle.mesh_canon_text.specs.Text.{list_text, own_by, own_text, own_text_old};
 ghost use Rattle.mesh_canon_words.specs.Words.{Gives};
 ghost use Rattle.mesh_canon_reading.specs.Fits.{Said, are_texts, is_own};
@@ -10,10 +10,10 @@ ghost use Rattle.mesh_canon_reading.specs.Reading.{list_in, own_in};
 use crate::canon::depth::is_too_deep;
 use crate::canon::same::is_same;
 use mesh_base::Own;
+use mesh_base_values::Strs;
 use mesh_canon_reading::{list, own};
 use mesh_canon_text::{Form, list_text, own_by};
 use mesh_canon_words::CanonFault;
-use mesh_values::Strs;
 use std::alloc::Global;
 
 #[tactic(auto, unfolding(mesh_canon_reading::specs::Reading::own_in))]

@@ -1,8 +1,8 @@
 // What holds of all canonical texts.
 ghost use Rattle.std.specs.Prelude.{◌≡◌, ℕ, List, true};
-ghost use Rattle.mesh_values.specs.Kinds.{lookback_of};
-ghost use Rattle.mesh_values.specs.declared.values.Cell.{Cell};
-ghost use Rattle.mesh_values.specs.declared.values.ColType.{ColType};
+ghost use Rattle.mesh_base_values.specs.Kinds.{lookback_of};
+ghost use Rattle.mesh_base_values.specs.declared.values.Cell.{Cell};
+ghost use Rattle.mesh_base_values.specs.declared.values.ColType.{ColType};
 ghost use Rattle.mesh_base.specs.declared.definitions.Own.{Own};
 ghost use Rattle.mesh_canon_reading.specs.Fits.{are_texts, cell_fits, is_own};
 ghost use Rattle.mesh_canon_text.specs.Text.{cell_text, list_text, own_text, own_text_old, type_word};

@@ -1,17 +1,17 @@
 // Cells and types of columns on their own, read.
 ghost use Rattle.std.specs.Prelude.{◌≡◌, true, IfOk};
-ghost use Rattle.mesh_values.specs.declared.values.Cell.{Cell};
-ghost use Rattle.mesh_values.specs.declared.values.ColType.{ColType};
+ghost use Rattle.mesh_base_values.specs.declared.values.Cell.{Cell};
+ghost use Rattle.mesh_base_values.specs.declared.values.ColType.{ColType};
 ghost use Rattle.mesh_canon_text.specs.Text.{cell_text, type_word};
 ghost use Rattle.mesh_canon_reading.specs.Fits.{cell_fits};
 ghost use Rattle.mesh_canon_words.specs.Words.{Gives};
 ghost use Rattle.mesh_canon_reading.specs.Reading.{cell_in, type_in};
 
 use crate::canon::same::is_same;
+use mesh_base_values::{Cell, ColType};
 use mesh_canon_reading::Readable;
 use mesh_canon_text::cell_text;
 use mesh_canon_words::{CanonFault, column_type};
-use mesh_values::{Cell, ColType};
 use std::alloc::Global;
 
 #[tactic(auto, unfolding(mesh_canon_reading::specs::Reading::cell_in))]

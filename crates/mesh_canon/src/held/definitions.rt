@@ -6,7 +6,7 @@ use crate::held::held::{Held, all_rule};
 use crate::held::queries::query_rule;
 use crate::held::values::{day_rule, name_rule, text_rule};
 use mesh_base::{Decl, Defn, Own};
-use mesh_values::{Kind, Str};
+use mesh_base_values::{Kind, Str};
 
 // A text lies in memory, where there is one.
 fn time_rule(time: &Option<Str>)

@@ -3,7 +3,7 @@ ghost use Rattle.std.specs.Prelude.{◌≡◌, ◌-◌, ◌^◌, true};
 ghost use Rattle.mesh_canon_reading.specs.Fits.{cell_fits, column_fits, name_fits, signed_fits, text_fits};
 
 use crate::held::held::Held;
-use mesh_values::{Cell, Column, Name};
+use mesh_base_values::{Cell, Column, Name};
 
 /// A text lies in memory.
 pub fn text_rule(text: &[u8])

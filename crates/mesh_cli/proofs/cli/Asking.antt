@@ -1,13 +1,13 @@
 -- What is answered where some words or a text ask for a line.
 use Rattle.std.proofs.Common.{◌≡◌, ◌⊎◌, inl, inr, ℕ, Bool, true, false, not, ◌&&◌, List, Err, Result, refl, sym, ◌∙◌, ap}
 use Rattle.std.specs.Option.{is_none}
-use Rattle.mesh_printed.specs.declared.printed.refusals.Refusal.{Refusal}
-use Rattle.mesh_printed.specs.declared.printed.refusals.Refusal.TheVariants.{Usage, Memory}
-use Rattle.mesh_line.specs.declared.line.Command.{Command}
-use Rattle.mesh_line.specs.declared.line.Command.TheVariants.{Plan, Apply, Run, Evaluate, Fetchdf, Ingest, Janitor, Invalidate, Migrate, Batch, Demo}
-use Rattle.mesh_line.specs.declared.line.Line.{Line}
-use Rattle.mesh_line.specs.declared.line.UsageFault.{UsageFault}
-use Rattle.mesh_line.specs.declared.line.UsageFault.TheVariants as fault
+use Rattle.mesh_cli_print.specs.declared.printed.refusals.Refusal.{Refusal}
+use Rattle.mesh_cli_print.specs.declared.printed.refusals.Refusal.TheVariants.{Usage, Memory}
+use Rattle.mesh_cli_words.specs.declared.line.Command.{Command}
+use Rattle.mesh_cli_words.specs.declared.line.Command.TheVariants.{Plan, Apply, Run, Evaluate, Fetchdf, Ingest, Janitor, Invalidate, Migrate, Batch, Demo}
+use Rattle.mesh_cli_words.specs.declared.line.Line.{Line}
+use Rattle.mesh_cli_words.specs.declared.line.UsageFault.{UsageFault}
+use Rattle.mesh_cli_words.specs.declared.line.UsageFault.TheVariants as fault
 use Rattle.mesh_cli.specs.cli.Scripts.{AskedAnswers, LineAnswers, command, usage, wanting, is_batch, may_stand, of_usage, stands_alone}
 use Rattle.mesh_cli.specs.cli.Sides.{Sides}
 

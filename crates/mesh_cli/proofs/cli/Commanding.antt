@@ -4,19 +4,19 @@ use Rattle.std.specs.declared.option.Option.{Option}
 use Rattle.mesh_base.specs.declared.forgets.Restate.{Restate}
 use Rattle.mesh_io.specs.Told.{ClockTold, FolderTold}
 use Rattle.mesh_list.specs.Counts.{Rose}
-use Rattle.mesh_days.specs.Moments.{IsMoment}
+use Rattle.mesh_time_days.specs.Moments.{IsMoment}
 use Rattle.mesh_house.specs.declared.world.Change.{Change}
 use Rattle.mesh_house.specs.declared.world.World.{World}
 use Rattle.mesh_house.specs.House.{Told}
-use Rattle.mesh_printed.specs.declared.printed.refusals.Refusal.{Refusal}
-use Rattle.mesh_printed.specs.declared.printed.refusals.Refusal.TheVariants.{Memory}
+use Rattle.mesh_cli_print.specs.declared.printed.refusals.Refusal.{Refusal}
+use Rattle.mesh_cli_print.specs.declared.printed.refusals.Refusal.TheVariants.{Memory}
 use Rattle.mesh_cli.specs.demo.Demos.{IsDemo}
-use Rattle.mesh_line.specs.declared.line.Command.TheVariants.{Plan, Apply, Run, Janitor, Demo}
-use Rattle.mesh_applying.specs.Applying.{ApplyGives, ApplyMakes, RunGives, RunMakes}
-use Rattle.mesh_applying.specs.Loaded.{IsProject, OfProject}
-use Rattle.mesh_asking.specs.upkeep.Upkeep.{JanitorGives, JanitorMakes}
-use Rattle.mesh_commands.specs.Answers.{Answers, IsAsked}
-use Rattle.mesh_commands.proofs.Answering.{alone_itself, answers_so, told_alone, wanting_first}
+use Rattle.mesh_cli_words.specs.declared.line.Command.TheVariants.{Plan, Apply, Run, Janitor, Demo}
+use Rattle.mesh_cli_apply.specs.Applying.{ApplyGives, ApplyMakes, RunGives, RunMakes}
+use Rattle.mesh_cli_apply.specs.Loaded.{IsProject, OfProject}
+use Rattle.mesh_cli_look.specs.upkeep.Upkeep.{JanitorGives, JanitorMakes}
+use Rattle.mesh_cli_answer.specs.Answers.{Answers, IsAsked}
+use Rattle.mesh_cli_answer.proofs.Answering.{alone_itself, answers_so, told_alone, wanting_first}
 use Rattle.mesh_cli.specs.cli.Ends.{Commanded}
 use Rattle.mesh_cli.specs.cli.Asked.{Gives, Makes}
 use Rattle.mesh_cli.specs.cli.Sides.{IsAt, Sides, Timed, sides}

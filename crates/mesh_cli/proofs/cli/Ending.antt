@@ -6,14 +6,14 @@ use Rattle.mesh_house.specs.declared.world.World.{World}
 use Rattle.mesh_house.specs.Runs.{IsRun}
 use Rattle.mesh_io.specs.Told.{SinkTold}
 use Rattle.mesh_layer.specs.Shows.{Tells}
-use Rattle.mesh_commands.specs.Answers.{IsAlone, is_early, is_fault}
-use Rattle.mesh_printed.specs.printed.Refusals.{refusal_line, status}
-use Rattle.mesh_printed.specs.declared.printed.refusals.Refusal.{Refusal}
-use Rattle.mesh_printed.specs.declared.printed.refusals.Refusal.TheVariants as refusal
-use Rattle.mesh_line.specs.declared.line.Command.{Command}
+use Rattle.mesh_cli_answer.specs.Answers.{IsAlone, is_early, is_fault}
+use Rattle.mesh_cli_print.specs.printed.Refusals.{refusal_line, status}
+use Rattle.mesh_cli_print.specs.declared.printed.refusals.Refusal.{Refusal}
+use Rattle.mesh_cli_print.specs.declared.printed.refusals.Refusal.TheVariants as refusal
+use Rattle.mesh_cli_words.specs.declared.line.Command.{Command}
 use Rattle.mesh_cli.specs.cli.Asked.{Gives, Makes}
 use Rattle.mesh_cli.specs.cli.Ends.{Commanded, Ended}
-use Rattle.mesh_printed.specs.printed.Printing.{IsPut, IsWritten, Printed, Sinks}
+use Rattle.mesh_cli_print.specs.printed.Printing.{IsPut, IsWritten, Printed, Sinks}
 use Rattle.mesh_cli.specs.cli.Sides.{Sides}
 
 -- no refusal has status 0

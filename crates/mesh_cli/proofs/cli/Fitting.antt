@@ -4,15 +4,15 @@ use Rattle.std.specs.Prelude.{IfSome}
 use Rattle.std.specs.Option.{option_and_then}
 use Rattle.std.specs.declared.option.Option.{Option}
 use Rattle.clap.specs.Walk.{Row, Text}
-use Rattle.mesh_days.specs.Moments.{IsMoment}
-use Rattle.mesh_values.specs.Picked.{same_text}
-use Rattle.mesh_changes.specs.Environments.{prod}
-use Rattle.mesh_casts.specs.Casts.{number_named}
-use Rattle.mesh_line.specs.declared.line.Command.{Command}
-use Rattle.mesh_line.specs.declared.line.Command.TheVariants.{Invalidate}
-use Rattle.mesh_line.specs.declared.line.Line.{Line}
-use Rattle.mesh_options.specs.options.Values.{IsMomentOf, crew, is_crew, workers_named}
-use Rattle.mesh_line.specs.Lines.{IsCommandOf, IsLine, again_given, apply_given, command_given, count_given, days_given, demo_given, env_given, evaluate_given, fetchdf_given, given, ingest_given, invalidate_given, model_given, plan_given, run_given, workers_given}
+use Rattle.mesh_time_days.specs.Moments.{IsMoment}
+use Rattle.mesh_base_values.specs.Picked.{same_text}
+use Rattle.mesh_spec_changes.specs.Environments.{prod}
+use Rattle.mesh_time_days.specs.casts.Casts.{number_named}
+use Rattle.mesh_cli_words.specs.declared.line.Command.{Command}
+use Rattle.mesh_cli_words.specs.declared.line.Command.TheVariants.{Invalidate}
+use Rattle.mesh_cli_words.specs.declared.line.Line.{Line}
+use Rattle.mesh_cli_values.specs.options.Values.{IsMomentOf, crew, is_crew, workers_named}
+use Rattle.mesh_cli_words.specs.Lines.{IsCommandOf, IsLine, again_given, apply_given, command_given, count_given, days_given, demo_given, env_given, evaluate_given, fetchdf_given, given, ingest_given, invalidate_given, model_given, plan_given, run_given, workers_given}
 use Rattle.mesh_cli.specs.cli.Fit.{IsCrew, IsFit}
 
 -- so many are 1 to 64
@@ -34,7 +34,7 @@ workers_in (Some text) = crew_in (number_named text)
 
 -- a moment that is given is one
 moment_in : (text : Option (List ℕ)) (t : Option ℤ) → IsMomentOf text t → IfSome t IsMoment
-unfolding Rattle.mesh_days.specs.Moments.IsMomentText
+unfolding Rattle.mesh_time_days.specs.Moments.IsMomentText
 moment_in text None h = tt
 moment_in None (Some t) h = absurd h
 moment_in (Some text) (Some t) h = h.0

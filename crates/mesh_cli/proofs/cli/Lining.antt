@@ -3,14 +3,14 @@ use Rattle.std.proofs.Common.{◌≡◌, ℕ, ℤ, Bool, true, false, not, ◌&&
 use Rattle.std.specs.Option.{is_none, option_and_then, unwrap_or}
 use Rattle.std.specs.declared.option.Option.{Option}
 use Rattle.clap.specs.Walk.{Row, Text}
-use Rattle.mesh_values.specs.Picked.{same_text}
-use Rattle.mesh_line.specs.declared.line.Command.{Command}
-use Rattle.mesh_line.specs.declared.line.Line.{Line}
-use Rattle.mesh_line.specs.Lines.{IsCommandOf, IsLine, again_given, apply_given, command_given, env_given, plan_given, run_given, workers_given}
-use Rattle.mesh_options.specs.scripts.Scripts.{words_of}
+use Rattle.mesh_base_values.specs.Picked.{same_text}
+use Rattle.mesh_cli_words.specs.declared.line.Command.{Command}
+use Rattle.mesh_cli_words.specs.declared.line.Line.{Line}
+use Rattle.mesh_cli_words.specs.Lines.{IsCommandOf, IsLine, again_given, apply_given, command_given, env_given, plan_given, run_given, workers_given}
+use Rattle.mesh_cli_values.specs.scripts.Scripts.{words_of}
 use Rattle.std.specs.Prelude.{IfOk, IfErr, IsErrOf}
-use Rattle.mesh_printed.specs.declared.printed.refusals.Refusal.{Refusal}
-use Rattle.mesh_printed.specs.declared.printed.refusals.Refusal.TheVariants.{Usage}
+use Rattle.mesh_cli_print.specs.declared.printed.refusals.Refusal.{Refusal}
+use Rattle.mesh_cli_print.specs.declared.printed.refusals.Refusal.TheVariants.{Usage}
 use Rattle.mesh_cli.specs.cli.Fit.{IsFit}
 use Rattle.mesh_cli.specs.cli.Scripts.{IsTextLine, may_stand, stands_alone}
 

@@ -3,7 +3,7 @@ use Rattle.std.proofs.Common.{◌≡◌, ℕ, ◌+◌, ◌<◌, ◌≤◌, List,
 use Rattle.std.proofs.lemmas.List.{drop_more, drop_all}
 use Rattle.mesh_cli.specs.cli.Scripts.{StepEnds, TextsEnd, ended, went, stopped}
 use Rattle.mesh_cli.specs.cli.Sides.{Sides}
-use Rattle.mesh_printed.specs.printed.Printing.{Sinks}
+use Rattle.mesh_cli_print.specs.printed.Printing.{Sinks}
 
 -- what comes of the rest comes of all
 abbrev pub GoesOn : List ℕ → List (List ℕ) → List (List ℕ) → Sides → Sides → Sinks → Sinks → Type 0

@@ -3,8 +3,8 @@ use Rattle.std.proofs.Common.{◌≡◌, ℕ, true, false, List, ◌++◌, Ok, E
 use Rattle.std.specs.Prelude.{IfOk}
 use Rattle.std.specs.Option.{unwrap_or}
 use Rattle.std.specs.declared.option.Option.{Option}
-use Rattle.mesh_values.specs.declared.values.Cell.{Cell}
-use Rattle.mesh_values.specs.declared.values.Name.{Name}
+use Rattle.mesh_base_values.specs.declared.values.Cell.{Cell}
+use Rattle.mesh_base_values.specs.declared.values.Name.{Name}
 use Rattle.mesh_io.specs.declared.files.File.{File}
 use Rattle.mesh_house.specs.declared.memory.MemHouse.{MemHouse}
 use Rattle.mesh_house.specs.declared.world.Change.{Change}
@@ -14,10 +14,10 @@ use Rattle.mesh_house.specs.Sources.{are_plain}
 use Rattle.mesh_house.specs.Step.{run}
 use Rattle.mesh_layer.specs.Shows.{Tells}
 use Rattle.mesh_layer.specs.Asked.{lost_view, shown_view}
-use Rattle.mesh_printed.specs.declared.printed.refusals.Refusal.{Refusal}
-use Rattle.mesh_printed.specs.declared.printed.refusals.Refusal.TheVariants.{ObjectMissing}
-use Rattle.mesh_printed.specs.printed.Refusals.{refusal_line}
-use Rattle.mesh_commands.specs.Answers.{Answers, is_fault}
+use Rattle.mesh_cli_print.specs.declared.printed.refusals.Refusal.{Refusal}
+use Rattle.mesh_cli_print.specs.declared.printed.refusals.Refusal.TheVariants.{ObjectMissing}
+use Rattle.mesh_cli_print.specs.printed.Refusals.{refusal_line}
+use Rattle.mesh_cli_answer.specs.Answers.{Answers, is_fault}
 use Rattle.mesh_house.specs.House.{Told}
 use Rattle.mesh_house.specs.World.{empty_world}
 use Rattle.mesh_cli.specs.demo.Demos.{Counted, IsCounted, IsDemo, Loaded, Then, done, refused, shown_or, totals_view}

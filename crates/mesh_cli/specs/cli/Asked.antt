@@ -2,22 +2,22 @@
 use Rattle.std.specs.Prelude.{◌≡◌, ℕ, ℤ, Bool, true, false, List, [], Result, Ok, Err}
 use Rattle.std.specs.declared.option.Option.{Option}
 use Rattle.mesh_base.specs.declared.forgets.Restate.{Restate}
-use Rattle.mesh_surface.specs.declared.queries.Surface.{Surface}
-use Rattle.mesh_tokens.specs.declared.faults.ReadFault.{ReadFault}
-use Rattle.mesh_files.specs.text.Reads.{IsQueryRead}
+use Rattle.mesh_query_grammar.specs.declared.surface.queries.Surface.{Surface}
+use Rattle.mesh_query_tokens.specs.declared.faults.ReadFault.{ReadFault}
+use Rattle.mesh_model.specs.Reads.{IsQueryRead}
 use Rattle.mesh_house.specs.declared.world.Change.{Change}
 use Rattle.mesh_house.specs.declared.world.World.{World}
-use Rattle.mesh_printed.specs.declared.printed.refusals.Refusal.{Refusal}
-use Rattle.mesh_printed.specs.declared.printed.refusals.Refusal.TheVariants.{Usage}
-use Rattle.mesh_line.specs.declared.line.Command.{Command}
-use Rattle.mesh_line.specs.declared.line.Command.TheVariants.{Plan, Apply, Run, Evaluate, Fetchdf, Ingest, Janitor, Invalidate, Migrate, Batch, Demo}
-use Rattle.mesh_applying.specs.Applying.{ApplyGives, ApplyMakes, PlanGives, RunGives, RunMakes}
-use Rattle.mesh_applying.specs.Loaded.{IsProject, OfProject}
-use Rattle.mesh_applying.specs.Migrating.{MigrateGives, MigrateMakes}
-use Rattle.mesh_asking.specs.asking.Fetched.{fetched, word_tokens}
-use Rattle.mesh_asking.specs.asking.Evaluated.{days, evaluated}
-use Rattle.mesh_asking.specs.upkeep.Ingesting.{IngestGives, IngestMakes}
-use Rattle.mesh_asking.specs.upkeep.Upkeep.{InvalidateGives, InvalidateMakes, JanitorGives, JanitorMakes}
+use Rattle.mesh_cli_print.specs.declared.printed.refusals.Refusal.{Refusal}
+use Rattle.mesh_cli_print.specs.declared.printed.refusals.Refusal.TheVariants.{Usage}
+use Rattle.mesh_cli_words.specs.declared.line.Command.{Command}
+use Rattle.mesh_cli_words.specs.declared.line.Command.TheVariants.{Plan, Apply, Run, Evaluate, Fetchdf, Ingest, Janitor, Invalidate, Migrate, Batch, Demo}
+use Rattle.mesh_cli_apply.specs.Applying.{ApplyGives, ApplyMakes, PlanGives, RunGives, RunMakes}
+use Rattle.mesh_cli_apply.specs.Loaded.{IsProject, OfProject}
+use Rattle.mesh_cli_apply.specs.Migrating.{MigrateGives, MigrateMakes}
+use Rattle.mesh_cli_look.specs.asking.Fetched.{fetched, word_tokens}
+use Rattle.mesh_cli_look.specs.asking.Evaluated.{days, evaluated}
+use Rattle.mesh_cli_look.specs.upkeep.Ingesting.{IngestGives, IngestMakes}
+use Rattle.mesh_cli_look.specs.upkeep.Upkeep.{InvalidateGives, InvalidateMakes, JanitorGives, JanitorMakes}
 use Rattle.mesh_cli.specs.demo.Demos.{IsDemo}
 use Rattle.mesh_cli.specs.cli.Sides.{AtMoment, Sides, is_open}
 

@@ -1,10 +1,10 @@
 -- How a command ends: what it answered, what was printed, and its status.
 use Rattle.std.specs.Prelude.{◌≡◌, ◌⊎◌, ℕ, ◌≤◌, false, List, Result, Err}
 use Rattle.mesh_list.specs.Counts.{Rose}
-use Rattle.mesh_commands.specs.Answers.{Answers, IsGiven}
-use Rattle.mesh_printed.specs.printed.Printing.{Printed, Sinks}
-use Rattle.mesh_printed.specs.declared.printed.refusals.Refusal.{Refusal}
-use Rattle.mesh_line.specs.declared.line.Command.{Command}
+use Rattle.mesh_cli_answer.specs.Answers.{Answers, IsGiven}
+use Rattle.mesh_cli_print.specs.printed.Printing.{Printed, Sinks}
+use Rattle.mesh_cli_print.specs.declared.printed.refusals.Refusal.{Refusal}
+use Rattle.mesh_cli_words.specs.declared.line.Command.{Command}
 use Rattle.mesh_house.specs.declared.world.World.{World}
 use Rattle.mesh_cli.specs.cli.Asked.{Gives, Makes, asks_clock, reads_folder, uses_house}
 use Rattle.mesh_cli.specs.cli.Sides.{Sides}

@@ -1,10 +1,10 @@
 -- What the values of a command line keep.
 use Rattle.std.specs.Prelude.{◌≡◌, ℕ, ◌≤◌, false, IfSome}
-use Rattle.mesh_days.specs.Moments.{IsMoment}
-use Rattle.mesh_values.specs.Picked.{same_text}
-use Rattle.mesh_changes.specs.Environments.{prod}
-use Rattle.mesh_line.specs.declared.line.Command.{Command}
-use Rattle.mesh_line.specs.declared.line.Command.TheVariants.{Plan, Apply, Run, Evaluate, Fetchdf, Ingest, Janitor, Invalidate, Migrate, Batch, Demo}
+use Rattle.mesh_time_days.specs.Moments.{IsMoment}
+use Rattle.mesh_base_values.specs.Picked.{same_text}
+use Rattle.mesh_spec_changes.specs.Environments.{prod}
+use Rattle.mesh_cli_words.specs.declared.line.Command.{Command}
+use Rattle.mesh_cli_words.specs.declared.line.Command.TheVariants.{Plan, Apply, Run, Evaluate, Fetchdf, Ingest, Janitor, Invalidate, Migrate, Batch, Demo}
 
 -- 1 to 64 workers
 abbrev pub IsCrew : ℕ → Type 0

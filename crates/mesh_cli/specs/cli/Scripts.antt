@@ -2,19 +2,19 @@
 use Rattle.std.specs.Prelude.{◌≡◌, ◌⊎◌, ◌&&◌, not, ℕ, ◌<◌, ◌≤◌, Bool, true, false, List, [], ◌∷◌, length, codes, Some, Result, Ok, Err, IfOk, IfErr, IfSome, IsErrOf}
 use Rattle.std.specs.Option.{is_none}
 use Rattle.mesh_list.specs.Counts.{Rose}
-use Rattle.mesh_tokens.specs.declared.faults.FaultKind.TheVariants.{TooLarge}
+use Rattle.mesh_query_tokens.specs.declared.faults.FaultKind.TheVariants.{TooLarge}
 use Rattle.mesh_io.specs.Told.{SourceTold}
-use Rattle.mesh_printed.specs.declared.printed.refusals.Refusal.{Refusal}
-use Rattle.mesh_printed.specs.declared.printed.refusals.Refusal.TheVariants.{Usage, Memory, Input, Model}
-use Rattle.mesh_line.specs.declared.line.Command.{Command}
-use Rattle.mesh_line.specs.declared.line.Command.TheVariants.{Batch, Demo}
-use Rattle.mesh_line.specs.declared.line.Line.{Line}
-use Rattle.mesh_line.specs.declared.line.UsageFault.{UsageFault}
-use Rattle.mesh_line.specs.declared.line.UsageFault.TheVariants as fault
-use Rattle.mesh_line.specs.Lines.{IsLine}
-use Rattle.mesh_options.specs.scripts.Scripts.{is_skipped, lines, words_of}
+use Rattle.mesh_cli_print.specs.declared.printed.refusals.Refusal.{Refusal}
+use Rattle.mesh_cli_print.specs.declared.printed.refusals.Refusal.TheVariants.{Usage, Memory, Input, Model}
+use Rattle.mesh_cli_words.specs.declared.line.Command.{Command}
+use Rattle.mesh_cli_words.specs.declared.line.Command.TheVariants.{Batch, Demo}
+use Rattle.mesh_cli_words.specs.declared.line.Line.{Line}
+use Rattle.mesh_cli_words.specs.declared.line.UsageFault.{UsageFault}
+use Rattle.mesh_cli_words.specs.declared.line.UsageFault.TheVariants as fault
+use Rattle.mesh_cli_words.specs.Lines.{IsLine}
+use Rattle.mesh_cli_values.specs.scripts.Scripts.{is_skipped, lines, words_of}
 use Rattle.mesh_cli.specs.cli.Ends.{Commanded, IsSaid}
-use Rattle.mesh_printed.specs.printed.Printing.{Printed, Sinks}
+use Rattle.mesh_cli_print.specs.printed.Printing.{Printed, Sinks}
 use Rattle.mesh_cli.specs.cli.Sides.{Sides, here, place_or}
 
 -- what a command tells where its words are no command line

@@ -3,13 +3,13 @@ use Rattle.std.specs.Prelude.{◌≡◌, ◌⊎◌, ◌≤◌, ℕ, ℤ, Bool, t
 use Rattle.std.specs.declared.option.Option.{Option}
 use Rattle.std.specs.declared.option.Option.TheVariants.{None}
 use Rattle.mesh_list.specs.Counts.{Rose}
-use Rattle.mesh_days.specs.Moments.{IsMoment}
+use Rattle.mesh_time_days.specs.Moments.{IsMoment}
 use Rattle.mesh_io.specs.declared.fails.IoFail.{IoFail}
 use Rattle.mesh_io.specs.declared.fails.IoFail.TheVariants as io
 use Rattle.mesh_io.specs.Told.{ClockTold, FolderTold}
 use Rattle.mesh_house.specs.House.{Told}
-use Rattle.mesh_printed.specs.declared.printed.refusals.Refusal.{Refusal}
-use Rattle.mesh_printed.specs.declared.printed.refusals.Refusal.TheVariants.{Input, Memory}
+use Rattle.mesh_cli_print.specs.declared.printed.refusals.Refusal.{Refusal}
+use Rattle.mesh_cli_print.specs.declared.printed.refusals.Refusal.TheVariants.{Input, Memory}
 
 -- the folder, the clock and the warehouse
 pub record Sides : Type 0 where

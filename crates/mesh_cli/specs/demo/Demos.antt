@@ -2,22 +2,22 @@
 use Rattle.std.specs.Prelude.{◌≡◌, ℕ, ℤ, pos, false, List, ◌++◌, codes, Result, Ok, Err, [], Some, None}
 use Rattle.std.specs.Option.{option_map}
 use Rattle.std.specs.declared.option.Option.{Option}
-use Rattle.mesh_values.specs.declared.values.Cell.{Cell}
-use Rattle.mesh_values.specs.declared.values.Name.{Name}
+use Rattle.mesh_base_values.specs.declared.values.Cell.{Cell}
+use Rattle.mesh_base_values.specs.declared.values.Name.{Name}
 use Rattle.mesh_house.specs.declared.world.Change.{Change}
 use Rattle.mesh_house.specs.declared.world.World.{World}
 use Rattle.mesh_house.specs.Step.{run}
 use Rattle.mesh_house.specs.World.{empty_world}
 use Rattle.mesh_layer.specs.Asked.{lost_view, shown_view}
 use Rattle.mesh_io.specs.declared.files.File.{File}
-use Rattle.mesh_printed.specs.faults.Lines.{◌·◌}
-use Rattle.mesh_printed.specs.declared.printed.refusals.Refusal.{Refusal}
-use Rattle.mesh_printed.specs.declared.printed.refusals.Refusal.TheVariants.{Memory, ObjectMissing}
-use Rattle.mesh_printed.specs.printed.Refusals.{refusal_line}
-use Rattle.mesh_commands.specs.Answers.{is_fault}
-use Rattle.mesh_asking.specs.upkeep.Ingesting.{IngestGives, IngestMakes}
-use Rattle.mesh_applying.specs.Applying.{ApplyGives, ApplyMakes, RunGives, RunMakes}
-use Rattle.mesh_applying.specs.Loaded.{IsProject, OfProject}
+use Rattle.mesh_cli_print.specs.faults.Lines.{◌·◌}
+use Rattle.mesh_cli_print.specs.declared.printed.refusals.Refusal.{Refusal}
+use Rattle.mesh_cli_print.specs.declared.printed.refusals.Refusal.TheVariants.{Memory, ObjectMissing}
+use Rattle.mesh_cli_print.specs.printed.Refusals.{refusal_line}
+use Rattle.mesh_cli_answer.specs.Answers.{is_fault}
+use Rattle.mesh_cli_look.specs.upkeep.Ingesting.{IngestGives, IngestMakes}
+use Rattle.mesh_cli_apply.specs.Applying.{ApplyGives, ApplyMakes, RunGives, RunMakes}
+use Rattle.mesh_cli_apply.specs.Loaded.{IsProject, OfProject}
 use Rattle.mesh_cli.specs.demo.Lines.{head_line, totals_text, units_line}
 use Rattle.mesh_cli.specs.demo.Shop.{edited, shop}
 

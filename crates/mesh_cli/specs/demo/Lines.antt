@@ -1,9 +1,9 @@
 -- What a demonstration prints of each answer.
 use Rattle.std.specs.Prelude.{ℕ, zero, suc, ◌-◌, ◌==◌, ℤ, pos, ◌+ℤ◌, if◌then◌else◌, List, [], ◌∷◌, length, take, drop, slice_index_or, codes}
 use Rattle.std.specs.Fmt.{decimal, signed_decimal}
-use Rattle.mesh_printed.specs.faults.Lines.{◌·◌}
-use Rattle.mesh_values.specs.declared.values.Cell.{Cell}
-use Rattle.mesh_values.specs.declared.values.Cell.TheVariants.{Int}
+use Rattle.mesh_cli_print.specs.faults.Lines.{◌·◌}
+use Rattle.mesh_base_values.specs.declared.values.Cell.{Cell}
+use Rattle.mesh_base_values.specs.declared.values.Cell.TheVariants.{Int}
 
 -- where the line begins that ends in front of a place: behind the last line feed before it, or at the front
 abbrev pub line_start : List ℕ → ℕ → ℕ

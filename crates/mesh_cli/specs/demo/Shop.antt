@@ -1,7 +1,7 @@
 -- The shop project, as the files of a folder.
 use Rattle.std.specs.Prelude.{ℕ, zero, suc, ◌+◌, ◌*◌, ◌/◌, ◌%◌, List, [], ◌∷◌, codes}
 use Rattle.std.specs.Fmt.{decimal}
-use Rattle.mesh_printed.specs.faults.Lines.{◌·◌}
+use Rattle.mesh_cli_print.specs.faults.Lines.{◌·◌}
 use Rattle.mesh_io.specs.Files.{rewritten}
 use Rattle.mesh_io.specs.declared.files.File.{File}
 

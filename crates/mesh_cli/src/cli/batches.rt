@@ -1,23 +1,23 @@
 // The lines of a script, one after another.
 ghost use Rattle.std.specs.Prelude.{◌≡◌, ◌⊎◌, true, false, IfOk, IfErr, IsErrOf};
-ghost use Rattle.mesh_line.specs.declared.line.Line.{Line as Asked};
-ghost use Rattle.mesh_options.specs.scripts.Scripts.{lines};
-ghost use Rattle.mesh_printed.specs.declared.printed.refusals.Refusal.TheVariants as refusal;
+ghost use Rattle.mesh_cli_words.specs.declared.line.Line.{Line as Asked};
+ghost use Rattle.mesh_cli_values.specs.scripts.Scripts.{lines};
+ghost use Rattle.mesh_cli_print.specs.declared.printed.refusals.Refusal.TheVariants as refusal;
 ghost use Rattle.mesh_cli.specs.cli.Fit.{IsFit};
 ghost use Rattle.mesh_cli.specs.cli.Scripts.{AskedAnswers, IsTextLine, ScriptEnds, StepEnds, TextsEnd, is_batch, may_stand, of_usage, stands_alone};
 ghost use Rattle.mesh_cli.specs.cli.Sides.{here, place_or, sides};
-ghost use Rattle.mesh_printed.specs.printed.Printing.{sinks};
+ghost use Rattle.mesh_cli_print.specs.printed.Printing.{sinks};
 
 use crate::cli::command::line_answer;
 use crate::cli::place::place_of;
 use crate::cli::script::lines_of;
+use mesh_base_values::Str;
+use mesh_cli_print::printed::{Refusal, printed};
+use mesh_cli_values::scripts::{is_skipped, line_words};
+use mesh_cli_words::{Command, Line, UsageFault, read_words};
 use mesh_house::Warehouse;
 use mesh_io::{Clock, Folder, Sink};
-use mesh_line::{Command, Line, UsageFault, read_words};
 use mesh_list::Memory;
-use mesh_options::scripts::{is_skipped, line_words};
-use mesh_printed::printed::{Refusal, printed};
-use mesh_values::Str;
 use std::alloc::Global;
 use std::thread::Threads;
 

@@ -1,9 +1,9 @@
 // One command, over the folder, the clock and the warehouse.
 ghost use Rattle.std.specs.Prelude.{ℕ, true, false, IfSome, List};
 ghost use Rattle.std.specs.Option.{option_copied};
-ghost use Rattle.mesh_days.specs.Moments.{IsMoment};
+ghost use Rattle.mesh_time_days.specs.Moments.{IsMoment};
 ghost use Rattle.mesh_io.specs.Told.{FolderTold};
-ghost use Rattle.mesh_line.specs.declared.line.Command.TheVariants as asked;
+ghost use Rattle.mesh_cli_words.specs.declared.line.Command.TheVariants as asked;
 ghost use Rattle.mesh_cli.specs.cli.Ends.{Commanded};
 ghost use Rattle.mesh_cli.specs.cli.Fit.{IsCrew, IsFit};
 ghost use Rattle.mesh_cli.specs.cli.Scripts.{LineAnswers};
@@ -12,16 +12,16 @@ ghost use Rattle.mesh_cli.specs.cli.Sides.{Sides as Around, sides};
 use crate::cli::moment::moment_of;
 use crate::cli::place::place_or;
 use crate::demo::{DemoFault, demo};
-use mesh_applying::{apply, migrate, plan, run};
-use mesh_asking::asking::{evaluate, fetchdf};
-use mesh_asking::upkeep::{ingest, invalidate, janitor};
 use mesh_base::Restate;
+use mesh_base_values::Str;
+use mesh_cli_apply::{apply, migrate, plan, run};
+use mesh_cli_look::asking::{evaluate, fetchdf};
+use mesh_cli_look::upkeep::{ingest, invalidate, janitor};
+use mesh_cli_print::printed::Refusal;
+use mesh_cli_words::{Command, Line};
 use mesh_house::Warehouse;
 use mesh_io::{Clock, Folder};
-use mesh_line::{Command, Line};
 use mesh_list::Memory;
-use mesh_printed::printed::Refusal;
-use mesh_values::Str;
 use std::alloc::Global;
 use std::thread::Threads;
 

@@ -7,13 +7,13 @@ ghost use Rattle.mesh_house.specs.declared.world.Change.{Change};
 ghost use Rattle.mesh_house.specs.declared.world.World.{World};
 ghost use Rattle.mesh_house.specs.Runs.{IsRun};
 ghost use Rattle.mesh_layer.specs.Shows.{Tells};
-ghost use Rattle.mesh_commands.specs.Answers.{IsAlone, is_early, is_fault};
-ghost use Rattle.mesh_printed.specs.declared.printed.refusals.Refusal.{Refusal};
-ghost use Rattle.mesh_line.specs.declared.line.Command.{Command as Asked};
-ghost use Rattle.mesh_line.specs.declared.line.Command.TheVariants as asked;
+ghost use Rattle.mesh_cli_answer.specs.Answers.{IsAlone, is_early, is_fault};
+ghost use Rattle.mesh_cli_print.specs.declared.printed.refusals.Refusal.{Refusal};
+ghost use Rattle.mesh_cli_words.specs.declared.line.Command.{Command as Asked};
+ghost use Rattle.mesh_cli_words.specs.declared.line.Command.TheVariants as asked;
 ghost use Rattle.mesh_cli.specs.cli.Asked.{Gives, Makes};
 ghost use Rattle.mesh_cli.specs.cli.Ends.{Ended};
-ghost use Rattle.mesh_printed.specs.printed.Printing.{IsWritten, Sinks};
+ghost use Rattle.mesh_cli_print.specs.printed.Printing.{IsWritten, Sinks};
 ghost use Rattle.mesh_cli.specs.cli.Sides.{Sides};
 
 /// A command that ends with status 0 made exactly the changes that it has for the world that the house told, one call each, and

@@ -1,10 +1,10 @@
 // The moment of a command.
 ghost use Rattle.std.specs.Prelude.{◌≡◌, IfSome};
-ghost use Rattle.mesh_days.specs.Moments.{IsMoment};
+ghost use Rattle.mesh_time_days.specs.Moments.{IsMoment};
 ghost use Rattle.mesh_cli.specs.cli.Sides.{Timed, of_io};
 
+use mesh_cli_print::printed::Refusal;
 use mesh_io::{Clock, IoFail};
-use mesh_printed::printed::Refusal;
 
 /// What a command tells where the outside failed.
 pub(crate) fn of_io(fail: IoFail) -> Refusal

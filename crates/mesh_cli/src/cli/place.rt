@@ -2,8 +2,8 @@
 ghost use Rattle.std.specs.Prelude.{◌≡◌, IfOk};
 ghost use Rattle.mesh_cli.specs.cli.Sides.{here, place_or};
 
+use mesh_base_values::Str;
 use mesh_list::{Duplicate, Memory};
-use mesh_values::Str;
 use std::alloc::Global;
 
 /// The folder that is named, or else another one.

@@ -1,15 +1,15 @@
 // A script: its size, and its lines.
 ghost use Rattle.std.specs.Prelude.{◌≡◌, ◌⊎◌, IfOk};
-ghost use Rattle.mesh_printed.specs.declared.printed.refusals.Refusal.TheVariants.{Memory as NoMemory};
-ghost use Rattle.mesh_options.specs.scripts.Scripts.{lines};
+ghost use Rattle.mesh_cli_print.specs.declared.printed.refusals.Refusal.TheVariants.{Memory as NoMemory};
+ghost use Rattle.mesh_cli_values.specs.scripts.Scripts.{lines};
 ghost use Rattle.mesh_cli.specs.cli.Scripts.{IsScript, too_large};
 
 use crate::cli::moment::of_io;
+use mesh_base_values::Str;
+use mesh_cli_print::printed::Refusal;
 use mesh_io::{Source, take_all};
 use mesh_list::{Duplicate, Memory, Seq};
-use mesh_printed::printed::Refusal;
-use mesh_tokens::FaultKind;
-use mesh_values::Str;
+use mesh_query_tokens::FaultKind;
 use std::alloc::Global;
 
 /// The most bytes that a script has.

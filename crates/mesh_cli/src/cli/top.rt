@@ -1,20 +1,20 @@
 // The top call: one command line, from its words to its exit status.
 ghost use Rattle.std.specs.Prelude.{ℕ, List};
-ghost use Rattle.mesh_line.specs.Lines.{IsLine};
+ghost use Rattle.mesh_cli_words.specs.Lines.{IsLine};
 ghost use Rattle.mesh_cli.specs.cli.Fit.{IsFit};
 ghost use Rattle.mesh_cli.specs.cli.Scripts.{BatchEnds, LineAnswers, WordsEnd};
 ghost use Rattle.mesh_cli.specs.cli.Sides.{here, place_or, sides};
-ghost use Rattle.mesh_printed.specs.printed.Printing.{sinks};
+ghost use Rattle.mesh_cli_print.specs.printed.Printing.{sinks};
 
 use crate::cli::batches::{batch, is_batch, of_usage};
 use crate::cli::command::line_answer;
 use crate::cli::script::script_of;
+use mesh_base_values::Str;
+use mesh_cli_print::printed::{Refusal, printed};
+use mesh_cli_words::{Line, read_words};
 use mesh_house::Warehouse;
 use mesh_io::{Clock, Folder, Sink, Source};
-use mesh_line::{Line, read_words};
 use mesh_list::{Duplicate, Memory};
-use mesh_printed::printed::{Refusal, printed};
-use mesh_values::Str;
 use std::alloc::Global;
 use std::thread::Threads;
 

@@ -6,10 +6,10 @@ ghost use Rattle.mesh_cli.specs.declared.demo.demonstration.DemoFault.TheVariant
 use crate::demo::lines::headed;
 use crate::demo::play::loaded;
 use crate::demo::shop::shop;
+use mesh_base_values::Str;
 use mesh_house::MemHouse;
 use mesh_io::MemFolder;
 use mesh_list::{Memory, Seq};
-use mesh_values::Str;
 use std::alloc::Global;
 use std::thread::Threads;
 

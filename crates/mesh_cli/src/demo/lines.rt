@@ -1,12 +1,12 @@
 // What a demonstration prints of each answer.
 ghost use Rattle.std.specs.Prelude.{◌≡◌, ◌≤◌, ◌++◌, ℕ, List, Ok, length, IfOk, IfSome, OnOk};
 ghost use Rattle.std.specs.Fmt.{signed_decimal};
-ghost use Rattle.mesh_printed.specs.faults.Lines.{◌·◌};
+ghost use Rattle.mesh_cli_print.specs.faults.Lines.{◌·◌};
 ghost use Rattle.mesh_cli.specs.demo.Lines.{head_line, line_start, sum_of, total_in, totals_text, units_line};
 
+use mesh_base_values::{Cell, Row, Str};
+use mesh_cli_print::faults::{put, put_number};
 use mesh_list::{Memory, Seq};
-use mesh_printed::faults::{put, put_number};
-use mesh_values::{Cell, Row, Str};
 use std::alloc::Global;
 
 /// Where the line begins that ends in front of a place.

@@ -4,22 +4,22 @@ ghost use Rattle.std.specs.Prelude.{◌≡◌, ◌≤◌, true, false, IfOk};
 ghost use Rattle.mesh_house.specs.Memory.{memory_world};
 ghost use Rattle.mesh_house.specs.Sources.{are_plain};
 ghost use Rattle.mesh_io.specs.Held.{folder_told};
-ghost use Rattle.mesh_commands.specs.Answers.{is_fault};
-ghost use Rattle.mesh_printed.specs.printed.Refusals.{refusal_line};
+ghost use Rattle.mesh_cli_answer.specs.Answers.{is_fault};
+ghost use Rattle.mesh_cli_print.specs.printed.Refusals.{refusal_line};
 ghost use Rattle.mesh_cli.specs.demo.Demos.{Counted, DevApplied, DevRan, Loaded, ProdApplied, ProdRan};
 ghost use Rattle.mesh_cli.specs.demo.Shop.{edited};
 ghost use Rattle.std.specs.Option.{option_map};
 
 use crate::demo::lines::{totals_text, with_units};
 use crate::demo::shop::{text, twice_file};
-use mesh_applying::{apply, run};
-use mesh_asking::upkeep::ingest;
+use mesh_base_values::{Name, Str};
+use mesh_cli_apply::{apply, run};
+use mesh_cli_look::upkeep::ingest;
+use mesh_cli_print::printed::{Refusal, refusal_line};
 use mesh_house::MemHouse;
 use mesh_io::MemFolder;
 use mesh_layer::{ShowFault, show};
 use mesh_list::Memory;
-use mesh_printed::printed::{Refusal, refusal_line};
-use mesh_values::{Name, Str};
 use std::alloc::Global;
 use std::thread::Threads;
 

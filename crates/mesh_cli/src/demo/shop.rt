@@ -2,10 +2,10 @@
 ghost use Rattle.std.specs.Prelude.{◌≡◌, ◌<◌, ◌++◌, ◌∷◌, [], IfOk, OnOk};
 ghost use Rattle.mesh_cli.specs.demo.Shop.{daily, file, order_line, orders, shop, twice_file, two_digits};
 
+use mesh_base_values::Str;
+use mesh_cli_print::faults::{put, put_number};
 use mesh_io::{File, Files};
 use mesh_list::{Duplicate, Memory, Seq};
-use mesh_printed::faults::{put, put_number};
-use mesh_values::Str;
 use std::alloc::Global;
 
 const EXTERNALS: &[u8] =

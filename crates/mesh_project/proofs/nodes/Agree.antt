@@ -3,9 +3,9 @@ use Rattle.std.proofs.Common.{◌≡◌, ℕ, suc, Bool, true, false, not, ◌&&
 use Rattle.std.proofs.lemmas.List.{append-nil, map-append}
 use Rattle.std.specs.List.{flat_map, list_all, list_any}
 use Rattle.std.specs.Option.{option_map}
-use Rattle.mesh_values.specs.Picked.{same_text}
-use Rattle.mesh_values.specs.declared.values.Column.{Column}
-use Rattle.mesh_values.specs.declared.values.Name.{Name}
+use Rattle.mesh_base_values.specs.Picked.{same_text}
+use Rattle.mesh_base_values.specs.declared.values.Column.{Column}
+use Rattle.mesh_base_values.specs.declared.values.Name.{Name}
 use Rattle.mesh_base.specs.Outputs.{select_columns}
 use Rattle.mesh_base.specs.declared.definitions.Defn.TheVariants as body
 use Rattle.mesh_base.specs.declared.queries.Join.{Join}
@@ -13,35 +13,35 @@ use Rattle.mesh_base.specs.declared.queries.Join.TheVariants as join
 use Rattle.mesh_base.specs.declared.queries.Query.{Query}
 use Rattle.mesh_base.specs.declared.queries.Rel.TheVariants.{Cte}
 use Rattle.mesh_base.specs.declared.queries.Select.{Select}
-use Rattle.mesh_rules.specs.Proper.{defn_names, names_of_all, rel_names, select_names, selects_names}
-use Rattle.mesh_surface.specs.declared.expressions.OrExpr.{OrExpr}
-use Rattle.mesh_surface.specs.declared.queries.Surface.{Surface}
-use Rattle.mesh_surface.specs.declared.queries.SurfaceCte.{SurfaceCte}
-use Rattle.mesh_surface.specs.declared.queries.SurfaceFrom.{SurfaceFrom}
-use Rattle.mesh_surface.specs.declared.queries.SurfaceJoin.{SurfaceJoin}
-use Rattle.mesh_surface.specs.declared.queries.SurfaceJoin.TheVariants as written
-use Rattle.mesh_surface.specs.declared.queries.SurfaceRel.{SurfaceRel}
-use Rattle.mesh_surface.specs.declared.queries.SurfaceSelect.{SurfaceSelect}
-use Rattle.mesh_surface.specs.declared.queries.SurfaceUnion.{SurfaceUnion}
-use Rattle.mesh_tokens.specs.Gives.{◌>>=◌}
-use Rattle.mesh_tokens.specs.Walk.{along, provided}
-use Rattle.mesh_tokens.specs.declared.faults.ReadFault.{ReadFault}
-use Rattle.mesh_types.specs.Faults.{duplicate, mismatch, unknown_relation}
-use Rattle.mesh_types.specs.declared.typed.Typed.{Typed}
+use Rattle.mesh_base.specs.rules.Proper.{defn_names, names_of_all, rel_names, select_names, selects_names}
+use Rattle.mesh_query_grammar.specs.declared.surface.expressions.OrExpr.{OrExpr}
+use Rattle.mesh_query_grammar.specs.declared.surface.queries.Surface.{Surface}
+use Rattle.mesh_query_grammar.specs.declared.surface.queries.SurfaceCte.{SurfaceCte}
+use Rattle.mesh_query_grammar.specs.declared.surface.queries.SurfaceFrom.{SurfaceFrom}
+use Rattle.mesh_query_grammar.specs.declared.surface.queries.SurfaceJoin.{SurfaceJoin}
+use Rattle.mesh_query_grammar.specs.declared.surface.queries.SurfaceJoin.TheVariants as written
+use Rattle.mesh_query_grammar.specs.declared.surface.queries.SurfaceRel.{SurfaceRel}
+use Rattle.mesh_query_grammar.specs.declared.surface.queries.SurfaceSelect.{SurfaceSelect}
+use Rattle.mesh_query_grammar.specs.declared.surface.queries.SurfaceUnion.{SurfaceUnion}
+use Rattle.mesh_query_tokens.specs.Gives.{◌>>=◌}
+use Rattle.mesh_query_tokens.specs.Walk.{along, provided}
+use Rattle.mesh_query_tokens.specs.declared.faults.ReadFault.{ReadFault}
+use Rattle.mesh_resolve_types.specs.Faults.{duplicate, mismatch, unknown_relation}
+use Rattle.mesh_resolve_types.specs.declared.typed.Typed.{Typed}
 use Rattle.mesh_resolve.specs.declared.drawn.Drawing.{Drawing}
-use Rattle.mesh_selects.specs.declared.selects.parts.Drawn.{Drawn}
-use Rattle.mesh_selects.specs.declared.outputs.commons.Common.{Common}
+use Rattle.mesh_resolve_selects.specs.declared.selects.parts.Drawn.{Drawn}
+use Rattle.mesh_resolve_selects.specs.declared.outputs.commons.Common.{Common}
 use Rattle.mesh_resolve.specs.declared.known.Known.{Known}
-use Rattle.mesh_selects.specs.declared.selects.parts.Walked.{Walked}
-use Rattle.mesh_selects.specs.outputs.Keys.{keys}
-use Rattle.mesh_selects.specs.outputs.Outputs.{items}
-use Rattle.mesh_selects.specs.outputs.Commons.{Found, cte_named, is_cte, selects_of}
-use Rattle.mesh_selects.specs.outputs.Sides.{are_sides_alike, with_sides_alike}
+use Rattle.mesh_resolve_selects.specs.declared.selects.parts.Walked.{Walked}
+use Rattle.mesh_resolve_selects.specs.outputs.Keys.{keys}
+use Rattle.mesh_resolve_selects.specs.outputs.Outputs.{items}
+use Rattle.mesh_resolve_selects.specs.outputs.Commons.{Found, cte_named, is_cte, selects_of}
+use Rattle.mesh_resolve_selects.specs.outputs.Sides.{are_sides_alike, with_sides_alike}
 use Rattle.mesh_resolve.specs.Queries.{cte, one_select, resolved, selects}
 use Rattle.mesh_resolve.specs.Relations.{columns_named, condition, conditional, dotted, drawing, drawn_from, found_relation, item_drawn, joined, nothing_drawn, or_unknown, relation, relation_by, seeing_relation, unconditional}
-use Rattle.mesh_selects.specs.selects.Standing.{is_grouped}
+use Rattle.mesh_resolve_selects.specs.selects.Standing.{is_grouped}
 use Rattle.mesh_resolve.specs.Selects.{from_item, resolved_as, right_keys, select, some_condition, walked}
-use Rattle.mesh_resolve_laws.proofs.Good.{Good, given, provided_good, refused, then_good}
+use Rattle.mesh_law_resolve.proofs.Good.{Good, given, provided_good, refused, then_good}
 use Rattle.mesh_project.specs.nodes.Reads.{cte_reads, from_reads, join_reads, of_two_parts, query_reads, rel_reads, select_reads, union_reads}
 
 flat_more : {X Y : Type 0} (f : X → List Y) (xs ys : List X) → flat_map f (xs ++ ys) ≡ flat_map f xs ++ flat_map f ys

@@ -9,11 +9,11 @@ use Rattle.std.specs.declared.cmp.Ordering.TheVariants.{Less, Equal, Greater}
 use Rattle.mesh_list.specs.Keyed.{ascends, found, placed, put_by}
 use Rattle.mesh_list.proofs.Ascends.{ascends-placed}
 use Rattle.mesh_list.proofs.Found.{found-placed}
-use Rattle.mesh_values.specs.NameOrder.{names_exact, names_total}
-use Rattle.mesh_values.specs.Names.{name_cmp}
-use Rattle.mesh_values.specs.declared.values.Name.{Name}
+use Rattle.mesh_base_values.specs.NameOrder.{names_exact, names_total}
+use Rattle.mesh_base_values.specs.Names.{name_cmp}
+use Rattle.mesh_base_values.specs.declared.values.Name.{Name}
 use Rattle.mesh_base.specs.declared.snapshots.Node.{Node}
-use Rattle.mesh_rules.specs.Proper.{is_among}
+use Rattle.mesh_base.specs.rules.Proper.{is_among}
 use Rattle.mesh_project.specs.declared.nodes.earlier.Place.{Place}
 use Rattle.mesh_project.specs.nodes.Earlier.{named, node_name, noted, place_name, place_of, put_at}
 use Rattle.mesh_project.proofs.nodes.Places.{name_is}

@@ -1,9 +1,9 @@
 -- A loop that takes one step for each member of a list: none yet, one more member, a fault, and the end.
 use Rattle.std.proofs.Common.{◌≡◌, ℕ, ◌+◌, ◌<◌, ◌≤◌, List, [], ◌∷◌, ◌++◌, length, take, drop, get_or, Result, Ok, Err, refl, sym, ap, subst, ◌∙◌}
 use Rattle.std.proofs.lemmas.List.{take_all, take_more, drop_more, take-append-drop}
-use Rattle.mesh_files.specs.files.Loading.{◌>>=◌, Refuses}
-use Rattle.mesh_files.specs.declared.files.faults.LoadFault.{LoadFault}
-use Rattle.mesh_files.specs.declared.files.faults.LoadFault.TheVariants.{Fault, Folder, Memory}
+use Rattle.mesh_project_files.specs.Loading.{◌>>=◌, Refuses}
+use Rattle.mesh_project_files.specs.declared.faults.LoadFault.{LoadFault}
+use Rattle.mesh_project_files.specs.declared.faults.LoadFault.TheVariants.{Fault, Folder, Memory}
 use Rattle.mesh_project.specs.nodes.Walk.{along}
 
 -- a refusal of the first of two steps

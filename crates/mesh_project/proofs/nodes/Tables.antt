@@ -5,16 +5,16 @@ use Rattle.std.specs.Option.{option_map}
 use Rattle.std.specs.Ordering.{is_eq}
 use Rattle.mesh_list.specs.Keyed.{found}
 use Rattle.mesh_list.proofs.Found.{found-placed}
-use Rattle.mesh_values.specs.NameOrder.{names_exact}
-use Rattle.mesh_values.specs.Names.{name_cmp}
-use Rattle.mesh_values.specs.declared.values.Name.{Name}
+use Rattle.mesh_base_values.specs.NameOrder.{names_exact}
+use Rattle.mesh_base_values.specs.Names.{name_cmp}
+use Rattle.mesh_base_values.specs.declared.values.Name.{Name}
 use Rattle.mesh_base.specs.Keys.{input_name}
 use Rattle.mesh_base.specs.declared.definitions.Decl.{Decl}
 use Rattle.mesh_base.specs.declared.jobs.Input.{Input}
 use Rattle.mesh_base.specs.declared.snapshots.Node.{Node}
-use Rattle.mesh_rules.specs.Proper.{is_among}
+use Rattle.mesh_base.specs.rules.Proper.{is_among}
 use Rattle.mesh_resolve.specs.Owns.{own}
-use Rattle.mesh_files.specs.declared.files.project.ModelFile.{ModelFile}
+use Rattle.mesh_project_files.specs.declared.project.ModelFile.{ModelFile}
 use Rattle.mesh_project.specs.declared.nodes.earlier.Place.{Place}
 use Rattle.mesh_project.specs.nodes.Earlier.{named, noted, place_at, place_name, place_of, put_at}
 use Rattle.mesh_project.specs.nodes.Nodes.{input_at, input_of, inputs_at, known_before, known_to, parents_of}

@@ -16,9 +16,9 @@ use Rattle.std.proofs.lemmas.List.Elements.{All-from_get_or, filter_map-append}
 use Rattle.std.proofs.lemmas.Map.Entries.{btree_map_get_place, length-values_of, length-keys_of, place_from_lookup}
 use Rattle.std.proofs.lemmas.Map.Keys.{IsDistinct-from_apart, Less-from_sorted}
 use Rattle.std.proofs.lemmas.Map.Steps.{length-le_from_distinct_below}
-use Rattle.mesh_values.specs.declared.values.Name.{Name}
-use Rattle.mesh_values.specs.Names.{name_cmp}
-use Rattle.mesh_values.specs.NameOrder.{names_exact, names_total}
+use Rattle.mesh_base_values.specs.declared.values.Name.{Name}
+use Rattle.mesh_base_values.specs.Names.{name_cmp}
+use Rattle.mesh_base_values.specs.NameOrder.{names_exact, names_total}
 use Rattle.mesh_project.specs.declared.order.readers.Reader.{Reader}
 use Rattle.mesh_project.specs.order.Order.{AreApart, is_named, name_at, reader_at, reads}
 use Rattle.mesh_project.specs.order.Links.{AreByName, AreLinks, ArePlaces, IsBelow, IsPlaceOf, has}

@@ -16,8 +16,8 @@ use Rattle.std.proofs.lemmas.List.Kept.{AllPairs-cons}
 use Rattle.std.proofs.lemmas.Map.Keys.{IsDistinct-from_apart}
 use Rattle.std.proofs.lemmas.Map.Steps.{length-le_from_distinct_below, le-length_from_below}
 use Rattle.mesh_list.specs.Keyed.{ascends, below_first}
-use Rattle.mesh_values.specs.Names.{name_cmp}
-use Rattle.mesh_values.specs.NameOrder.{names_total}
+use Rattle.mesh_base_values.specs.Names.{name_cmp}
+use Rattle.mesh_base_values.specs.NameOrder.{names_total}
 use Rattle.mesh_project.specs.declared.order.readers.Reader.{Reader}
 use Rattle.mesh_project.specs.declared.order.readers.Ranked.{Ranked}
 use Rattle.mesh_project.specs.order.Order.{AreRanks, IsOrder, Reaches, above, is_named, itself, name_at, parents, place, ranked_cmp, reader_at, reads}

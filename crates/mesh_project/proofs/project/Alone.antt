@@ -3,16 +3,16 @@ use Rattle.std.proofs.Common.{◌≡◌, ℕ, zero, suc, ◌<◌, Bool, true, fa
 use Rattle.std.proofs.lemmas.Cmp.{tied_itself}
 use Rattle.std.proofs.lemmas.List.{length-map}
 use Rattle.std.specs.Ordering.{is_eq}
-use Rattle.mesh_values.specs.NameOrder.{names_total}
+use Rattle.mesh_base_values.specs.NameOrder.{names_total}
 use Rattle.mesh_project.specs.order.Order.{AreApart, name_at}
 use Rattle.std.specs.BTreeSet.{BTreeSet, contains}
-use Rattle.mesh_values.specs.declared.values.Name.{Name}
-use Rattle.mesh_values.specs.Names.{name_cmp}
+use Rattle.mesh_base_values.specs.declared.values.Name.{Name}
+use Rattle.mesh_base_values.specs.Names.{name_cmp}
 use Rattle.mesh_base.specs.declared.definitions.Decl.{Decl}
-use Rattle.mesh_rules.specs.Relations.{is_declared}
-use Rattle.mesh_files.specs.files.Loading.{◌>>=◌, Gives}
-use Rattle.mesh_files.specs.declared.files.faults.LoadFault.{LoadFault}
-use Rattle.mesh_files.specs.declared.files.project.ModelFile.{ModelFile}
+use Rattle.mesh_base.specs.rules.Relations.{is_declared}
+use Rattle.mesh_project_files.specs.Loading.{◌>>=◌, Gives}
+use Rattle.mesh_project_files.specs.declared.faults.LoadFault.{LoadFault}
+use Rattle.mesh_project_files.specs.declared.project.ModelFile.{ModelFile}
 use Rattle.mesh_project.specs.nodes.Apart.{Taken, apart, duplicate, names_of, with_model_name, with_name}
 use Rattle.mesh_project.specs.project.Project.{reader_of}
 use Rattle.mesh_project.specs.nodes.Walk.{Leads, along}

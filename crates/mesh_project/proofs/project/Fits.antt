@@ -13,12 +13,12 @@ use Rattle.std.specs.Ordering.{is_eq, is_lt, nat_cmp, ordering_then}
 use Rattle.std.specs.declared.cmp.Ordering.TheVariants.{Less, Equal}
 use Rattle.mesh_list.specs.Keyed.{ascends, below_first}
 use Rattle.mesh_list.proofs.Ascends.{and_both, and_left, and_right}
-use Rattle.mesh_values.specs.NameOrder.{names_total}
-use Rattle.mesh_values.specs.Names.{name_cmp}
-use Rattle.mesh_values.specs.declared.values.Name.{Name}
+use Rattle.mesh_base_values.specs.NameOrder.{names_total}
+use Rattle.mesh_base_values.specs.Names.{name_cmp}
+use Rattle.mesh_base_values.specs.declared.values.Name.{Name}
 use Rattle.mesh_base.specs.declared.snapshots.Node.{Node}
-use Rattle.mesh_rules.specs.Proper.{are_places, has_node, have_distinct_names, is_fit, is_well_formed, node_cmp, node_itself, parent_at, parents_at, stands_on}
-use Rattle.mesh_rules.specs.Relations.{rank_over}
+use Rattle.mesh_base.specs.rules.Proper.{are_places, has_node, have_distinct_names, is_fit, is_well_formed, node_cmp, node_itself, parent_at, parents_at, stands_on}
+use Rattle.mesh_base.specs.rules.Relations.{rank_over}
 use Rattle.mesh_project.specs.declared.order.readers.Ranked.{Ranked}
 use Rattle.mesh_project.specs.declared.order.readers.Reader.{Reader}
 use Rattle.mesh_project.specs.order.Order.{AreApart, IsOrder, itself, name_at, place, ranked_cmp}

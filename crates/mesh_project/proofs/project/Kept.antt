@@ -2,13 +2,13 @@
 use Rattle.std.proofs.Common.{◌≡◌, not, List, [], ◌∷◌, refl, ap, ◌∙◌}
 use Rattle.std.proofs.lemmas.List.Elements.{recursion_from_All}
 use Rattle.std.specs.List.{All, AllByRecursion}
-use Rattle.mesh_values.specs.declared.kinds.Kind.{Kind}
-use Rattle.mesh_values.specs.declared.kinds.Kind.TheVariants.{Full, View, Seed, Incremental}
-use Rattle.mesh_files.specs.text.ModelTexts.{is_seed_kind}
+use Rattle.mesh_base_values.specs.declared.kinds.Kind.{Kind}
+use Rattle.mesh_base_values.specs.declared.kinds.Kind.TheVariants.{Full, View, Seed, Incremental}
+use Rattle.mesh_model.specs.ModelTexts.{is_seed_kind}
 use Rattle.mesh_resolve.specs.Owns.{is_seed}
-use Rattle.mesh_files.specs.declared.files.project.ModelFile.{ModelFile}
-use Rattle.mesh_files.specs.files.Kept.{IsReadFile}
-use Rattle.mesh_files.proofs.files.Kept.{query_kept, schema_kept, start_kept}
+use Rattle.mesh_project_files.specs.declared.project.ModelFile.{ModelFile}
+use Rattle.mesh_project_files.specs.Kept.{IsReadFile}
+use Rattle.mesh_project_files.proofs.Kept.{query_kept, schema_kept, start_kept}
 use Rattle.mesh_project.specs.nodes.Nodes.{IsWhole}
 
 same_kind : (k : Kind) → is_seed_kind k ≡ is_seed k

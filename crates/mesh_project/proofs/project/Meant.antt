@@ -4,14 +4,14 @@ use Rattle.std.specs.Prelude.{codes}
 use Rattle.std.proofs.Math.Dec.{leb}
 use Rattle.std.proofs.lemmas.Bool.Decides.{leb_tells}
 use Rattle.mesh_base.specs.declared.snapshots.Node.{Node}
-use Rattle.mesh_rules.specs.Proper.{ProjectNodes}
+use Rattle.mesh_base.specs.rules.Proper.{ProjectNodes}
 use Rattle.mesh_project.specs.declared.order.readers.Ranked.{Ranked}
 use Rattle.mesh_project.specs.order.Order.{IsOrder}
-use Rattle.mesh_files.specs.files.Loading.{◌>>=◌, Gives, Refuses, too_large}
-use Rattle.mesh_files.specs.declared.files.faults.LoadFault.{LoadFault}
-use Rattle.mesh_files.specs.declared.files.faults.LoadFault.TheVariants.{Fault, Folder, Memory}
-use Rattle.mesh_files.specs.declared.files.project.ModelFile.{ModelFile}
-use Rattle.mesh_files.specs.declared.files.project.ProjectFiles.{ProjectFiles}
+use Rattle.mesh_project_files.specs.Loading.{◌>>=◌, Gives, Refuses, too_large}
+use Rattle.mesh_project_files.specs.declared.faults.LoadFault.{LoadFault}
+use Rattle.mesh_project_files.specs.declared.faults.LoadFault.TheVariants.{Fault, Folder, Memory}
+use Rattle.mesh_project_files.specs.declared.project.ModelFile.{ModelFile}
+use Rattle.mesh_project_files.specs.declared.project.ProjectFiles.{ProjectFiles}
 use Rattle.mesh_project.specs.nodes.Apart.{apart}
 use Rattle.mesh_project.specs.nodes.Nodes.{nodes_of}
 use Rattle.mesh_project.specs.project.Project.{IsMeant, TellsCycle, checked, counted, reader_of}

@@ -12,13 +12,13 @@ use Rattle.std.specs.declared.cmp.Ordering.{Ordering}
 use Rattle.std.specs.declared.cmp.Ordering.TheVariants.{Less, Equal, Greater}
 use Rattle.mesh_list.specs.Keyed.{ascends}
 use Rattle.mesh_list.proofs.Ascends.{and_both, and_left, and_right}
-use Rattle.mesh_values.specs.NameOrder.{names_total}
-use Rattle.mesh_values.specs.Names.{name_cmp}
-use Rattle.mesh_values.specs.declared.values.Name.{Name}
+use Rattle.mesh_base_values.specs.NameOrder.{names_total}
+use Rattle.mesh_base_values.specs.Names.{name_cmp}
+use Rattle.mesh_base_values.specs.declared.values.Name.{Name}
 use Rattle.mesh_base.specs.declared.snapshots.Node.{Node}
-use Rattle.mesh_rules.specs.declared.relations.Parent.{Parent}
-use Rattle.mesh_rules.specs.Proper.{as_parent, is_among, parent_at, parents_at}
-use Rattle.mesh_rules.specs.Relations.{rank_over}
+use Rattle.mesh_base.specs.declared.rules.relations.Parent.{Parent}
+use Rattle.mesh_base.specs.rules.Proper.{as_parent, is_among, parent_at, parents_at}
+use Rattle.mesh_base.specs.rules.Relations.{rank_over}
 use Rattle.mesh_project.specs.declared.order.readers.Ranked.{Ranked}
 use Rattle.mesh_project.specs.declared.order.readers.Reader.{Reader}
 use Rattle.mesh_project.specs.order.Order.{AreApart, IsOrder, above, itself, name_at, parents, place, ranked_cmp, reader_at, reads}

@@ -1,20 +1,20 @@
 -- Files mean one thing: one project, or one first fault. Only want of memory and a failing folder say nothing.
 use Rattle.std.proofs.Common.{◌≡◌, ℕ, List, [], get_or, map, Result, Ok, Err, refl, sym, ◌∙◌, ap, subst}
 use Rattle.std.proofs.lemmas.List.Elements.{Contains-get_or}
-use Rattle.mesh_values.specs.declared.values.Name.{Name}
+use Rattle.mesh_base_values.specs.declared.values.Name.{Name}
 use Rattle.mesh_io.specs.declared.files.File.{File}
-use Rattle.mesh_tokens.specs.declared.faults.FaultKind.{FaultKind}
-use Rattle.mesh_rules.specs.Proper.{ProjectNodes}
+use Rattle.mesh_query_tokens.specs.declared.faults.FaultKind.{FaultKind}
+use Rattle.mesh_base.specs.rules.Proper.{ProjectNodes}
 use Rattle.mesh_project.specs.declared.order.readers.Ranked.{Ranked}
 use Rattle.mesh_project.specs.declared.order.readers.Reader.{Reader}
 use Rattle.mesh_project.specs.order.Order.{AreCyclic, IsOrder}
 use Rattle.mesh_project.proofs.order.Uniqueness.{cycles_one, no_cycle, orders_one}
-use Rattle.mesh_files.specs.declared.files.faults.LoadFault.{LoadFault}
-use Rattle.mesh_files.specs.declared.files.faults.LoadFault.TheVariants.{Fault, Folder, Memory}
-use Rattle.mesh_files.specs.declared.files.project.ProjectFiles.{ProjectFiles}
-use Rattle.mesh_files.specs.files.Loading.{◌>>=◌, Gives}
-use Rattle.mesh_files.proofs.files.Once.{IsNews, Once, given, once, once_behind}
-use Rattle.mesh_files.proofs.files.Unique.{all_once}
+use Rattle.mesh_project_files.specs.declared.faults.LoadFault.{LoadFault}
+use Rattle.mesh_project_files.specs.declared.faults.LoadFault.TheVariants.{Fault, Folder, Memory}
+use Rattle.mesh_project_files.specs.declared.project.ProjectFiles.{ProjectFiles}
+use Rattle.mesh_project_files.specs.Loading.{◌>>=◌, Gives}
+use Rattle.mesh_project_files.proofs.Once.{IsNews, Once, given, once, once_behind}
+use Rattle.mesh_project_files.proofs.Unique.{all_once}
 use Rattle.mesh_project.specs.nodes.Nodes.{nodes_of}
 use Rattle.mesh_project.specs.project.Project.{IsLoaded, IsMade, IsMeant, IsOrdered, checked, cycle, meaning, reader_of}
 

@@ -8,39 +8,39 @@ use Rattle.std.specs.Ordering.{is_eq, is_lt}
 use Rattle.mesh_list.specs.Keyed.{ascends, below_first, found}
 use Rattle.mesh_list.proofs.Ascends.{and_both, and_left, and_right}
 use Rattle.mesh_list.proofs.Each.{each_found}
-use Rattle.mesh_values.specs.NameOrder.{names_total}
-use Rattle.mesh_values.specs.Names.{name_cmp}
-use Rattle.mesh_values.specs.declared.values.Name.{Name}
-use Rattle.mesh_values.specs.declared.values.Seed.{Seed}
-use Rattle.mesh_values.specs.Kinds.{time_column}
+use Rattle.mesh_base_values.specs.NameOrder.{names_total}
+use Rattle.mesh_base_values.specs.Names.{name_cmp}
+use Rattle.mesh_base_values.specs.declared.values.Name.{Name}
+use Rattle.mesh_base_values.specs.declared.values.Seed.{Seed}
+use Rattle.mesh_base_values.specs.Kinds.{time_column}
 use Rattle.mesh_base.specs.Outputs.{select_columns}
 use Rattle.mesh_base.specs.declared.definitions.Decl.{Decl}
 use Rattle.mesh_base.specs.declared.definitions.Defn.TheVariants as body
 use Rattle.mesh_base.specs.declared.definitions.Own.{Own}
 use Rattle.mesh_base.specs.declared.snapshots.Node.{Node}
-use Rattle.mesh_rules.specs.declared.relations.Parent.{Parent}
-use Rattle.mesh_rules.specs.declared.relations.Relation.{Relation}
-use Rattle.mesh_rules.specs.Proper.{as_parent, defn_names, is_among, is_fit, is_proper, parent_at}
-use Rattle.mesh_rules.specs.Relations.{is_parent, parent_name, parent_relation, rank_over, relation_columns}
-use Rattle.mesh_model.specs.declared.model.ModelText.{ModelText}
-use Rattle.mesh_surface.specs.declared.queries.Surface.{Surface}
-use Rattle.mesh_tokens.specs.declared.faults.ReadFault.{ReadFault}
-use Rattle.mesh_types.specs.Faults.{unwritten}
+use Rattle.mesh_base.specs.declared.rules.relations.Parent.{Parent}
+use Rattle.mesh_base.specs.declared.rules.relations.Relation.{Relation}
+use Rattle.mesh_base.specs.rules.Proper.{as_parent, defn_names, is_among, is_fit, is_proper, parent_at}
+use Rattle.mesh_base.specs.rules.Relations.{is_parent, parent_name, parent_relation, rank_over, relation_columns}
+use Rattle.mesh_model_statement.specs.declared.model.model.ModelText.{ModelText}
+use Rattle.mesh_query_grammar.specs.declared.surface.queries.Surface.{Surface}
+use Rattle.mesh_query_tokens.specs.declared.faults.ReadFault.{ReadFault}
+use Rattle.mesh_resolve_types.specs.Faults.{unwritten}
 use Rattle.mesh_resolve.specs.declared.known.Known.{Known}
 use Rattle.mesh_resolve.specs.Owns.{Behind, as_declared, body_of, own, query_body, sources_read, timed, with_body}
 use Rattle.mesh_resolve.specs.Queries.{resolved}
-use Rattle.mesh_resolve_laws.specs.Formed.{AreParentsAmong, IsReadModel}
-use Rattle.mesh_resolve_laws.specs.Sight.{model_relation}
-use Rattle.mesh_resolve_laws.proofs.Files.{as_file}
-use Rattle.mesh_resolve_laws.proofs.Good.{Good, given, refused, then_good}
-use Rattle.mesh_resolve_laws.proofs.Whole.{well_formed}
+use Rattle.mesh_law_resolve.specs.Formed.{AreParentsAmong, IsReadModel}
+use Rattle.mesh_law_resolve.specs.Sight.{model_relation}
+use Rattle.mesh_law_resolve.proofs.Files.{as_file}
+use Rattle.mesh_law_resolve.proofs.Good.{Good, given, refused, then_good}
+use Rattle.mesh_law_resolve.proofs.Whole.{well_formed}
 use Rattle.mesh_project.specs.declared.order.readers.Ranked.{Ranked}
 use Rattle.mesh_project.specs.declared.order.readers.Reader.{Reader}
 use Rattle.mesh_project.specs.order.Order.{AreApart, IsOrder, reader_at}
-use Rattle.mesh_files.specs.declared.files.faults.LoadFault.{LoadFault}
-use Rattle.mesh_files.specs.declared.files.project.ModelFile.{ModelFile}
-use Rattle.mesh_files.specs.declared.files.project.ProjectFiles.{ProjectFiles}
-use Rattle.mesh_files.specs.files.Loading.{◌>>=◌, in_file}
+use Rattle.mesh_project_files.specs.declared.faults.LoadFault.{LoadFault}
+use Rattle.mesh_project_files.specs.declared.project.ModelFile.{ModelFile}
+use Rattle.mesh_project_files.specs.declared.project.ProjectFiles.{ProjectFiles}
+use Rattle.mesh_project_files.specs.Loading.{◌>>=◌, in_file}
 use Rattle.mesh_project.specs.declared.nodes.earlier.Place.{Place}
 use Rattle.mesh_project.specs.nodes.Earlier.{named, place_name}
 use Rattle.mesh_project.specs.nodes.Nodes.{IsWhole, known_before, input_at, inputs_at, known_to, node_over, nodes_of, own_over, parents_of, with_file, with_model}

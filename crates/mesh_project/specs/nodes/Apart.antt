@@ -2,15 +2,15 @@
 use Rattle.std.specs.Prelude.{Bool, true, List, Result, Ok, Err, if◌then◌else◌}
 use Rattle.std.specs.BTreeSet.{BTreeSet, contains}
 use Rattle.std.specs.Ordering.{is_eq}
-use Rattle.mesh_values.specs.Names.{name_cmp}
-use Rattle.mesh_values.specs.declared.values.Name.{Name}
+use Rattle.mesh_base_values.specs.Names.{name_cmp}
+use Rattle.mesh_base_values.specs.declared.values.Name.{Name}
 use Rattle.mesh_base.specs.declared.definitions.Decl.{Decl}
-use Rattle.mesh_rules.specs.Relations.{is_declared}
-use Rattle.mesh_tokens.specs.declared.faults.FaultKind.TheVariants.{DuplicateModel}
-use Rattle.mesh_files.specs.files.Loading.{◌>>=◌}
-use Rattle.mesh_files.specs.declared.files.faults.LoadFault.{LoadFault}
-use Rattle.mesh_files.specs.declared.files.faults.LoadFault.TheVariants.{Fault}
-use Rattle.mesh_files.specs.declared.files.project.ModelFile.{ModelFile}
+use Rattle.mesh_base.specs.rules.Relations.{is_declared}
+use Rattle.mesh_query_tokens.specs.declared.faults.FaultKind.TheVariants.{DuplicateModel}
+use Rattle.mesh_project_files.specs.Loading.{◌>>=◌}
+use Rattle.mesh_project_files.specs.declared.faults.LoadFault.{LoadFault}
+use Rattle.mesh_project_files.specs.declared.faults.LoadFault.TheVariants.{Fault}
+use Rattle.mesh_project_files.specs.declared.project.ModelFile.{ModelFile}
 use Rattle.mesh_project.specs.nodes.Walk.{along}
 
 -- the names so far, as a test of a name

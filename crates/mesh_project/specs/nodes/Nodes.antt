@@ -4,8 +4,8 @@ use Rattle.std.specs.List.{flat_map, slice_get}
 use Rattle.std.specs.declared.option.Option.{Option}
 use Rattle.std.specs.declared.option.Option.TheVariants.{None, Some}
 use Rattle.sha2.specs.Sha256.{sha256}
-use Rattle.mesh_values.specs.Kinds.{is_incremental}
-use Rattle.mesh_values.specs.declared.kinds.Kind.{Kind}
+use Rattle.mesh_base_values.specs.Kinds.{is_incremental}
+use Rattle.mesh_base_values.specs.declared.kinds.Kind.{Kind}
 use Rattle.mesh_base.specs.Outputs.{columns_of}
 use Rattle.mesh_base.specs.declared.definitions.Decl.{Decl}
 use Rattle.mesh_base.specs.declared.definitions.Own.{Own}
@@ -15,11 +15,11 @@ use Rattle.mesh_base.specs.declared.snapshots.Ref.{Ref}
 use Rattle.mesh_canon_text.specs.Text.{node_text}
 use Rattle.mesh_resolve.specs.declared.known.Known.{Known}
 use Rattle.mesh_resolve.specs.Owns.{own}
-use Rattle.mesh_resolve_laws.specs.Formed.{IsReadModel}
+use Rattle.mesh_law_resolve.specs.Formed.{IsReadModel}
 use Rattle.mesh_project.specs.declared.order.readers.Ranked.{Ranked}
-use Rattle.mesh_files.specs.files.Loading.{◌>>=◌, in_file}
-use Rattle.mesh_files.specs.declared.files.faults.LoadFault.{LoadFault}
-use Rattle.mesh_files.specs.declared.files.project.ModelFile.{ModelFile}
+use Rattle.mesh_project_files.specs.Loading.{◌>>=◌, in_file}
+use Rattle.mesh_project_files.specs.declared.faults.LoadFault.{LoadFault}
+use Rattle.mesh_project_files.specs.declared.project.ModelFile.{ModelFile}
 use Rattle.mesh_project.specs.declared.nodes.earlier.Place.{Place}
 use Rattle.mesh_project.specs.nodes.Earlier.{named, place_at}
 use Rattle.mesh_project.specs.nodes.Reads.{text_reads}

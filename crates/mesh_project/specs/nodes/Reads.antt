@@ -3,15 +3,15 @@ use Rattle.std.specs.Prelude.{ℕ, List, [], ◌∷◌, ◌++◌}
 use Rattle.std.specs.List.{flat_map}
 use Rattle.std.specs.declared.option.Option.{Option}
 use Rattle.std.specs.declared.option.Option.TheVariants.{None, Some}
-use Rattle.mesh_values.specs.declared.values.Name.{Name}
-use Rattle.mesh_surface.specs.declared.queries.Surface.{Surface}
-use Rattle.mesh_surface.specs.declared.queries.SurfaceCte.{SurfaceCte}
-use Rattle.mesh_surface.specs.declared.queries.SurfaceFrom.{SurfaceFrom}
-use Rattle.mesh_surface.specs.declared.queries.SurfaceJoin.{SurfaceJoin}
-use Rattle.mesh_surface.specs.declared.queries.SurfaceJoin.TheVariants.{Comma, Cross, Inner, Left}
-use Rattle.mesh_surface.specs.declared.queries.SurfaceRel.{SurfaceRel}
-use Rattle.mesh_surface.specs.declared.queries.SurfaceSelect.{SurfaceSelect}
-use Rattle.mesh_surface.specs.declared.queries.SurfaceUnion.{SurfaceUnion}
+use Rattle.mesh_base_values.specs.declared.values.Name.{Name}
+use Rattle.mesh_query_grammar.specs.declared.surface.queries.Surface.{Surface}
+use Rattle.mesh_query_grammar.specs.declared.surface.queries.SurfaceCte.{SurfaceCte}
+use Rattle.mesh_query_grammar.specs.declared.surface.queries.SurfaceFrom.{SurfaceFrom}
+use Rattle.mesh_query_grammar.specs.declared.surface.queries.SurfaceJoin.{SurfaceJoin}
+use Rattle.mesh_query_grammar.specs.declared.surface.queries.SurfaceJoin.TheVariants.{Comma, Cross, Inner, Left}
+use Rattle.mesh_query_grammar.specs.declared.surface.queries.SurfaceRel.{SurfaceRel}
+use Rattle.mesh_query_grammar.specs.declared.surface.queries.SurfaceSelect.{SurfaceSelect}
+use Rattle.mesh_query_grammar.specs.declared.surface.queries.SurfaceUnion.{SurfaceUnion}
 
 -- a name of two parts, and nothing of one part, which is that of a CTE
 abbrev pub of_two_parts : Option (List ℕ) → List ℕ → List Name

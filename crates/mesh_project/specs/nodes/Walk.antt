@@ -1,7 +1,7 @@
 -- A walk goes step by step, up to its first fault.
 use Rattle.std.specs.Prelude.{◌≡◌, List, [], ◌∷◌, Result, Ok, Err}
-use Rattle.mesh_files.specs.files.Loading.{◌>>=◌, Refuses}
-use Rattle.mesh_files.specs.declared.files.faults.LoadFault.{LoadFault}
+use Rattle.mesh_project_files.specs.Loading.{◌>>=◌, Refuses}
+use Rattle.mesh_project_files.specs.declared.faults.LoadFault.{LoadFault}
 
 -- from a state on, one step for each of these
 unfoldable pub along : {S A : Type 0} → (S → A → Result S LoadFault) → S → List A → Result S LoadFault

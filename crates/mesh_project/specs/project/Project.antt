@@ -1,19 +1,19 @@
 -- What the files of a project mean: its models by rank and name, or their first fault.
 use Rattle.std.specs.Prelude.{◌≡◌, ℕ, nat_le, List, length, codes, map, Result, Ok, Err, if◌then◌else◌}
-use Rattle.mesh_values.specs.declared.values.Name.{Name}
+use Rattle.mesh_base_values.specs.declared.values.Name.{Name}
 use Rattle.mesh_io.specs.declared.files.File.{File}
-use Rattle.mesh_tokens.specs.declared.faults.FaultKind.{FaultKind}
-use Rattle.mesh_tokens.specs.declared.faults.FaultKind.TheVariants.{Cycle}
-use Rattle.mesh_rules.specs.Proper.{ProjectNodes}
+use Rattle.mesh_query_tokens.specs.declared.faults.FaultKind.{FaultKind}
+use Rattle.mesh_query_tokens.specs.declared.faults.FaultKind.TheVariants.{Cycle}
+use Rattle.mesh_base.specs.rules.Proper.{ProjectNodes}
 use Rattle.mesh_project.specs.declared.order.readers.Ranked.{Ranked}
 use Rattle.mesh_project.specs.declared.order.readers.Reader.{Reader}
 use Rattle.mesh_project.specs.order.Order.{AreCyclic, IsOrder}
-use Rattle.mesh_files.specs.files.Loading.{◌>>=◌, Gives, too_large}
-use Rattle.mesh_files.specs.declared.files.faults.LoadFault.{LoadFault}
-use Rattle.mesh_files.specs.declared.files.faults.LoadFault.TheVariants.{Fault, Folder, Memory}
-use Rattle.mesh_files.specs.declared.files.project.ModelFile.{ModelFile}
-use Rattle.mesh_files.specs.declared.files.project.ProjectFiles.{ProjectFiles}
-use Rattle.mesh_files.specs.files.Project.{AreFiles}
+use Rattle.mesh_project_files.specs.Loading.{◌>>=◌, Gives, too_large}
+use Rattle.mesh_project_files.specs.declared.faults.LoadFault.{LoadFault}
+use Rattle.mesh_project_files.specs.declared.faults.LoadFault.TheVariants.{Fault, Folder, Memory}
+use Rattle.mesh_project_files.specs.declared.project.ModelFile.{ModelFile}
+use Rattle.mesh_project_files.specs.declared.project.ProjectFiles.{ProjectFiles}
+use Rattle.mesh_project_files.specs.Project.{AreFiles}
 use Rattle.mesh_project.specs.nodes.Apart.{apart}
 use Rattle.mesh_project.specs.nodes.Nodes.{nodes_of}
 use Rattle.mesh_project.specs.nodes.Reads.{text_reads}

@@ -1,19 +1,19 @@
 // Names that stand once.
 ghost use Rattle.std.specs.Prelude.{◌≡◌, IfOk, IsErrOf};
 ghost use Rattle.std.specs.BTreeSet.{contains};
-ghost use Rattle.mesh_values.specs.Names.{name_cmp};
-ghost use Rattle.mesh_values.specs.declared.values.Name.{Name};
-ghost use Rattle.mesh_rules.specs.Relations.{is_declared};
-ghost use Rattle.mesh_files.specs.files.Loading.{Gives};
-ghost use Rattle.mesh_files.specs.declared.files.faults.LoadFault.TheVariants as fault;
+ghost use Rattle.mesh_base_values.specs.Names.{name_cmp};
+ghost use Rattle.mesh_base_values.specs.declared.values.Name.{Name};
+ghost use Rattle.mesh_base.specs.rules.Relations.{is_declared};
+ghost use Rattle.mesh_project_files.specs.Loading.{Gives};
+ghost use Rattle.mesh_project_files.specs.declared.faults.LoadFault.TheVariants as fault;
 ghost use Rattle.mesh_project.specs.nodes.Apart.{apart, duplicate, names_of, with_model_name};
 ghost use Rattle.mesh_project.specs.nodes.Walk.{Leads, along};
 
 use mesh_base::Decl;
-use mesh_files::files::{LoadFault, ModelFile, ProjectFiles};
+use mesh_base_values::Name;
 use mesh_list::{Duplicate, Memory, both};
-use mesh_tokens::FaultKind;
-use mesh_values::Name;
+use mesh_project_files::{LoadFault, ModelFile, ProjectFiles};
+use mesh_query_tokens::FaultKind;
 use std::alloc::Global;
 use std::collections::BTreeSet;
 

@@ -2,14 +2,14 @@
 ghost use Rattle.std.specs.Prelude.{◌≡◌, List, [], ◌∷◌, ◌++◌, length, IfOk, OnOk, OnErr};
 ghost use Rattle.std.specs.BTreeMap.{get};
 ghost use Rattle.mesh_base.specs.declared.snapshots.Node.{Node};
-ghost use Rattle.mesh_values.specs.declared.values.Name.{Name};
-ghost use Rattle.mesh_values.specs.Names.{name_cmp};
-ghost use Rattle.mesh_values.specs.NameOrder.{names_total, names_exact};
+ghost use Rattle.mesh_base_values.specs.declared.values.Name.{Name};
+ghost use Rattle.mesh_base_values.specs.Names.{name_cmp};
+ghost use Rattle.mesh_base_values.specs.NameOrder.{names_total, names_exact};
 ghost use Rattle.mesh_project.specs.nodes.Earlier.{named, new_place, noted, or_else, place_of};
 
 use mesh_base::{Node, Nodes};
+use mesh_base_values::Name;
 use mesh_list::{Duplicate, Keyed, Memory, Seq, Sorted};
-use mesh_values::Name;
 use std::alloc::Global;
 use std::cmp::Ordering;
 use std::collections::BTreeMap;
@@ -68,8 +68,8 @@ impl Model for Earlier {
     ghost use Rattle.std.specs.BTreeMap.{get};
     ghost use Rattle.mesh_base.specs.contracts.expressions.Expr as expr;
     ghost use Rattle.mesh_base.specs.declared.snapshots.Node.{Node};
-    ghost use Rattle.mesh_values.specs.Names.{name_cmp};
-    ghost use Rattle.mesh_values.specs.declared.values.Name.{Name};
+    ghost use Rattle.mesh_base_values.specs.Names.{name_cmp};
+    ghost use Rattle.mesh_base_values.specs.declared.values.Name.{Name};
     ghost use Rattle.mesh_project.specs.nodes.Earlier.{place_of};
 
     ghost Value = { List Node };

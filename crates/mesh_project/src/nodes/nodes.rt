@@ -4,8 +4,8 @@ ghost use Rattle.std.specs.List.{AllByRecursion, slice_get};
 ghost use Rattle.std.specs.Option.{is_some, option_copied};
 ghost use Rattle.sha2.specs.Sha256.{sha256};
 ghost use Rattle.mesh_canon_text.specs.Text.{node_text};
-ghost use Rattle.mesh_files.specs.files.Loading.{Gives, in_file};
-ghost use Rattle.mesh_files.specs.declared.files.faults.LoadFault.TheVariants as fault;
+ghost use Rattle.mesh_project_files.specs.Loading.{Gives, in_file};
+ghost use Rattle.mesh_project_files.specs.declared.faults.LoadFault.TheVariants as fault;
 ghost use Rattle.mesh_resolve.specs.Owns.{is_seed, own};
 ghost use Rattle.mesh_project.specs.nodes.Earlier.{place_at};
 ghost use Rattle.mesh_project.specs.nodes.Nodes.{IsWhole, input_at, input_of, inputs_at, known_to, model_over, node_over, nodes_of, own_over, parents_of, ref_at, refs_at, with_file, with_model};
@@ -15,13 +15,13 @@ use crate::nodes::earlier::{Earlier, Place, named};
 use crate::nodes::reads::text_reads;
 use crate::order::Ranked;
 use mesh_base::{Indexes, Input, Inputs, Node, Own, Ref, Refs};
+use mesh_base_columns::columns_of;
+use mesh_base_values::{Kind, Rows, is_incremental};
+use mesh_canon::fingerprint::fingerprint;
 use mesh_canon_text::node_text;
-use mesh_columns::columns_of;
-use mesh_files::files::{LoadFault, ModelFile, ProjectFiles, in_file};
-use mesh_fingerprint::fingerprint;
 use mesh_list::{Duplicate, Memory, Seq, Sorted};
+use mesh_project_files::{LoadFault, ModelFile, ProjectFiles, in_file};
 use mesh_resolve::{Known, own_of};
-use mesh_values::{Kind, Rows, is_incremental};
 use std::alloc::Global;
 
 // The model at a place.

@@ -3,11 +3,11 @@ ghost use Rattle.std.specs.Prelude.{◌≡◌, ◌++◌, IfOk, OnOk};
 ghost use Rattle.std.specs.List.{flat_map};
 ghost use Rattle.mesh_project.specs.nodes.Reads.{cte_reads, from_reads, join_reads, join_rel, query_reads, rel_reads, select_reads, text_reads, union_reads};
 
+use mesh_base_values::{Name, Names};
 use mesh_list::{Memory, Seq, both};
-use mesh_surface::{
+use mesh_query_grammar::surface::{
     Surface, SurfaceCte, SurfaceFrom, SurfaceJoin, SurfaceRel, SurfaceSelect, SurfaceUnion,
 };
-use mesh_values::{Name, Names};
 use std::alloc::Global;
 
 fn add_rel(names: &mut Names, rel: &SurfaceRel) -> Result<(), Memory>

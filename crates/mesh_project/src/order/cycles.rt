@@ -6,8 +6,8 @@ ghost use Rattle.mesh_project.specs.order.Seen.{AreNamed, IsNext};
 
 use crate::order::readers::Reader;
 use crate::order::seen::reaches_itself;
+use mesh_base_values::{Name, Names};
 use mesh_list::{Duplicate, Memory, Seq};
-use mesh_values::{Name, Names};
 use std::alloc::Global;
 
 // A copy of the name at a place.

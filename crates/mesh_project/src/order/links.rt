@@ -3,13 +3,13 @@ ghost use Rattle.std.specs.Prelude.{◌≡◌, ◌≤◌, ◌++◌, [], length, 
 ghost use Rattle.std.specs.Option.{option_to_list};
 ghost use Rattle.std.specs.List.{filter_map};
 ghost use Rattle.std.specs.BTreeMap.{IsOrdered, get, values};
-ghost use Rattle.mesh_values.specs.Names.{name_cmp};
+ghost use Rattle.mesh_base_values.specs.Names.{name_cmp};
 ghost use Rattle.mesh_project.specs.order.Order.{AreApart};
 ghost use Rattle.mesh_project.specs.order.Links.{AreByName, AreLinks, ArePlaces};
 
 use crate::order::readers::Reader;
+use mesh_base_values::Name;
 use mesh_list::{Duplicate, Memory, Seq, together};
-use mesh_values::Name;
 use std::alloc::Global;
 use std::collections::BTreeMap;
 

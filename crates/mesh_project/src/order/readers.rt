@@ -1,6 +1,6 @@
 // Models as they read one another, and what comes of it.
+use mesh_base_values::{Name, Names};
 use mesh_list::Seq;
-use mesh_values::{Name, Names};
 
 /// A model, and the relations that its query names, in any order, some of them perhaps no models.
 pub struct Reader {

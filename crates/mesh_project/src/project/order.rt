@@ -1,15 +1,15 @@
 // The models of a project by rank and name.
 ghost use Rattle.std.specs.Prelude.{◌≡◌, ◌≤◌, length, map, Ok, IfOk, IsErrOf};
 ghost use Rattle.mesh_project.specs.order.Order.{AreApart};
-ghost use Rattle.mesh_files.specs.declared.files.faults.LoadFault.TheVariants as fault;
+ghost use Rattle.mesh_project_files.specs.declared.faults.LoadFault.TheVariants as fault;
 ghost use Rattle.mesh_project.specs.project.Project.{IsOrdered, cycle, reader_of};
 
 use crate::nodes::text_reads;
 use crate::order::{Order, OrderFault, Reader, in_order};
-use mesh_files::files::{LoadFault, ModelFile};
+use mesh_base_values::Names;
 use mesh_list::{Duplicate, Memory, Seq};
-use mesh_tokens::FaultKind;
-use mesh_values::Names;
+use mesh_project_files::{LoadFault, ModelFile};
+use mesh_query_tokens::FaultKind;
 use std::alloc::Global;
 
 fn reader_of(alloc: Global, file: &ModelFile) -> Result<Reader, Memory>

@@ -1,17 +1,17 @@
 // Reads a project.
 ghost use Rattle.std.specs.List.{AllByRecursion};
 ghost use Rattle.std.specs.Prelude.{IsErrOf};
-ghost use Rattle.mesh_files.specs.files.Loading.{AsksAs, Gives};
-ghost use Rattle.mesh_files.specs.declared.files.faults.LoadFault.TheVariants as fault;
+ghost use Rattle.mesh_project_files.specs.Loading.{AsksAs, Gives};
+ghost use Rattle.mesh_project_files.specs.declared.faults.LoadFault.TheVariants as fault;
 ghost use Rattle.mesh_project.specs.nodes.Nodes.{IsWhole};
 ghost use Rattle.mesh_project.specs.project.Project.{IsLoaded, IsMeant, checked, counted};
 
 use crate::nodes::{are_apart, nodes_of};
 use crate::project::order::ordered;
-use mesh_files::files::{LoadFault, ModelFile, ProjectFiles, read_files, too_large};
+use mesh_base::rules::Project;
+use mesh_base_values::{MOST_MODELS, Str};
 use mesh_io::Folder;
-use mesh_rules::Project;
-use mesh_values::{MOST_MODELS, Str};
+use mesh_project_files::{LoadFault, ModelFile, ProjectFiles, read_files, too_large};
 use std::alloc::Global;
 
 // As many models as a project may have.

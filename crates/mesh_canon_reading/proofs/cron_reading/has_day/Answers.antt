@@ -1,6 +1,6 @@
 use Rattle.std.proofs.Common.{◌∙◌, ◌+◌, ◌&&◌, sym}
 use Rattle.std.specs.Prelude.{nat_lt}
-use Rattle.mesh_values.specs.Crons.{has, has_day, longest}
+use Rattle.mesh_base_values.specs.Crons.{has, has_day, longest}
 use Rattle.mesh_canon_reading.proofs.Below.{some_from, some_more, some_none}
 use Rattle.mesh_canon_reading.proofs.cron_reading.has_day.Goals as goal
 

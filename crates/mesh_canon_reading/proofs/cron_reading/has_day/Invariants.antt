@@ -1,6 +1,6 @@
 use Rattle.std.proofs.Common.{◌≡◌, ◌+◌, ◌&&◌, false}
 use Rattle.std.specs.Prelude.{nat_lt}
-use Rattle.mesh_values.specs.Crons.{has, longest, some_below}
+use Rattle.mesh_base_values.specs.Crons.{has, longest, some_below}
 use Rattle.mesh_canon_reading.proofs.cron_reading.has_day.Given as goal
 
 abbrev pub invariant-loop-day : goal.invariant-loop-day

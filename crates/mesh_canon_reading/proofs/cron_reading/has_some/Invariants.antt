@@ -1,5 +1,5 @@
 use Rattle.std.proofs.Common.{◌≡◌, false}
-use Rattle.mesh_values.specs.Crons.{has, some_below}
+use Rattle.mesh_base_values.specs.Crons.{has, some_below}
 use Rattle.mesh_canon_reading.proofs.cron_reading.has_some.Given as goal
 
 abbrev pub invariant-loop-value : goal.invariant-loop-value

@@ -1,7 +1,7 @@
 use Rattle.std.proofs.Common.{rules, ◌≡◌, FitsSigned, w64, to_z, of_z, ℤ, subst, None}
 use Rattle.std.proofs.lemmas.Int.{to_z-of_z}
 use Rattle.mesh_plan.specs.Plans.{IsPlanOf}
-use Rattle.mesh_plan_laws.proofs.Executable.{plan_executable}
+use Rattle.mesh_exec.proofs.plans.Executable.{plan_executable}
 use Rattle.mesh_cases_gates.proofs.making.planned.Goals as goal
 
 pub returns-in-Ok : goal.returns-in-Ok

@@ -1,7 +1,7 @@
 use Rattle.std.proofs.Common.{◌∙◌}
 use Rattle.std.proofs.lemmas.Result.{IfOk-weaker}
 use Rattle.std.specs.List.{flat_map}
-use Rattle.mesh_meaning.specs.Sel.{groups}
+use Rattle.mesh_spec_query.specs.Sel.{groups}
 use Rattle.mesh_eval.proofs.groups.grouped_rows.Goals as goal
 
 pub returns : goal.returns

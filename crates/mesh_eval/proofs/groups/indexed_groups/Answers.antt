@@ -1,8 +1,8 @@
 use Rattle.std.proofs.Common.{◌<◌, List, length, sym, subst, ◌∙◌}
-use Rattle.mesh_values.specs.declared.values.Cell.{Cell}
-use Rattle.mesh_joined.specs.index.Places.{places}
-use Rattle.mesh_meaning.specs.Sel.{Group, same_row}
-use Rattle.mesh_expressions.specs.Frames.{picked}
+use Rattle.mesh_base_values.specs.declared.values.Cell.{Cell}
+use Rattle.mesh_eval_rows.specs.joins.index.Places.{places}
+use Rattle.mesh_spec_query.specs.Sel.{Group, same_row}
+use Rattle.mesh_eval_expressions.specs.Frames.{picked}
 use Rattle.mesh_eval.specs.Placed.{output_row}
 use Rattle.mesh_eval.proofs.Picked.{group-added, group-passed}
 use Rattle.mesh_eval.proofs.groups.indexed_groups.Goals.{then-is_first+in_ok-add_group, else-is_first}

@@ -1,9 +1,9 @@
 use Rattle.std.proofs.Common.{◌≡◌, map, take}
 use Rattle.std.specs.List.{flat_map}
-use Rattle.mesh_joined.specs.index.Places.{places}
-use Rattle.mesh_meaning.specs.Aggregates.{distinct}
-use Rattle.mesh_meaning.specs.Sel.{same_row}
-use Rattle.mesh_expressions.specs.Frames.{picked}
+use Rattle.mesh_eval_rows.specs.joins.index.Places.{places}
+use Rattle.mesh_spec_query.specs.Aggregates.{distinct}
+use Rattle.mesh_spec_query.specs.Sel.{same_row}
+use Rattle.mesh_eval_expressions.specs.Frames.{picked}
 use Rattle.mesh_eval.specs.Placed.{output_row}
 use Rattle.mesh_eval.proofs.groups.indexed_groups.Given as goal
 

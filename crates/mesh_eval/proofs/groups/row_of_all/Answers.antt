@@ -1,6 +1,6 @@
 use Rattle.std.proofs.Common.{[], ◌++◌, get_or, ap, ◌∙◌}
 use Rattle.std.specs.List.{range_with_len}
-use Rattle.mesh_expressions.specs.Frames.{picked}
+use Rattle.mesh_eval_expressions.specs.Frames.{picked}
 use Rattle.mesh_eval.specs.Placed.{output_row}
 use Rattle.mesh_eval.proofs.Picked.{picked-all, plus_0}
 use Rattle.mesh_eval.proofs.groups.row_of_all.Goals as goal

@@ -1,8 +1,8 @@
 use Rattle.std.proofs.Common.{length, map, ap, sym, ◌∙◌}
 use Rattle.std.proofs.lemmas.List.{length-map}
-use Rattle.mesh_joined.specs.joined.Joined.{shown}
-use Rattle.mesh_bound.specs.Meaning.{Given, bound_value, row_alone}
-use Rattle.mesh_values.specs.declared.values.Cell.{Cell}
+use Rattle.mesh_eval_rows.specs.joins.joined.Joined.{shown}
+use Rattle.mesh_eval_expressions.specs.bound.Meaning.{Given, bound_value, row_alone}
+use Rattle.mesh_base_values.specs.declared.values.Cell.{Cell}
 use Rattle.mesh_eval.proofs.placing.add_values.Goals as goal
 
 pub push-requires : goal.push-requires

@@ -1,5 +1,5 @@
-use Rattle.mesh_meaning.specs.Ev.{Ev}
-use Rattle.mesh_bound.specs.Meaning.{given_scope}
+use Rattle.mesh_spec_query.specs.Ev.{Ev}
+use Rattle.mesh_eval_expressions.specs.bound.Meaning.{given_scope}
 use Rattle.mesh_eval.proofs.Placed.{condition-some, condition-none}
 use Rattle.mesh_eval.proofs.placing.bind_condition.Goals as goal
 

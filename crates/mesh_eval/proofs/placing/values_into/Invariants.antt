@@ -1,5 +1,5 @@
 use Rattle.std.proofs.Common.{◌≡◌, take}
-use Rattle.mesh_joined.specs.joined.Joined.{shown}
+use Rattle.mesh_eval_rows.specs.joins.joined.Joined.{shown}
 use Rattle.mesh_eval.specs.Placed.{values_at}
 use Rattle.mesh_eval.proofs.placing.values_into.Given as goal
 

@@ -1,5 +1,5 @@
 use Rattle.std.proofs.Common.{sym, ◌∙◌, ap}
-use Rattle.mesh_meaning.specs.Tables.{relation}
+use Rattle.mesh_spec_query.specs.Tables.{relation}
 use Rattle.mesh_eval.proofs.tables.relation.Goals as goal
 
 pub returns-in-Named : goal.returns-in-Named

@@ -1,5 +1,5 @@
 use Rattle.std.proofs.Common.{◌≡◌, ℕ, Ok, map, sym, ap, subst, ◌∙◌}
-use Rattle.mesh_works.specs.Works.{part_of, parts, parts_from}
+use Rattle.mesh_exec_works.specs.Works.{part_of, parts, parts_from}
 use Rattle.mesh_exec.specs.Answers.{Executes}
 use Rattle.mesh_exec.proofs.Fitting.{parts_fit}
 use Rattle.mesh_exec.proofs.Ranks.{lower_before}

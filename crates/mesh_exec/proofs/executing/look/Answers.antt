@@ -1,5 +1,5 @@
 use Rattle.std.proofs.Common.{map}
-use Rattle.mesh_works.specs.Works.{part_of}
+use Rattle.mesh_exec_works.specs.Works.{part_of}
 use Rattle.mesh_exec.proofs.Whole.{look_clear, look_lacks, look_stops}
 use Rattle.mesh_exec.proofs.executing.look.Goals as goal
 

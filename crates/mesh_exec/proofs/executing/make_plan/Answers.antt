@@ -1,6 +1,6 @@
 use Rattle.std.proofs.Common.{◌≡◌, refl}
-use Rattle.mesh_works.specs.Plain.{models, plain_models}
-use Rattle.mesh_works.specs.Works.{parts}
+use Rattle.mesh_exec_works.specs.Plain.{models, plain_models}
+use Rattle.mesh_exec_works.specs.Works.{parts}
 use Rattle.mesh_exec.proofs.Whole.{at_plan, count_stops, open_stops, parts_stop, plan_made}
 use Rattle.mesh_exec.proofs.executing.make_plan.Goals as goal
 

@@ -1,9 +1,9 @@
 use Rattle.std.proofs.Common.{◌≡◌, List, length, map, ap, ◌∙◌, arith}
-use Rattle.mesh_values.specs.declared.values.Cell.{Cell}
+use Rattle.mesh_base_values.specs.declared.values.Cell.{Cell}
 use Rattle.mesh_base.specs.declared.plans.Entry.{Entry}
-use Rattle.mesh_works.specs.Plain.{model_of}
+use Rattle.mesh_exec_works.specs.Plain.{model_of}
 use Rattle.mesh_exec.specs.Fills.{first_pool, run_rows}
-use Rattle.mesh_wave.specs.wave.Waves.{job_rows}
+use Rattle.mesh_exec_wave.specs.wave.Waves.{job_rows}
 use Rattle.mesh_exec.proofs.Filling.{few_jobs, jobs_rows, ok_more, pools_there}
 use Rattle.mesh_exec.proofs.fills.computed.Goals as goal
 

@@ -1,6 +1,6 @@
 use Rattle.std.proofs.Common.{◌≡◌, ℕ, List, length}
 use Rattle.mesh_base.specs.declared.jobs.Input.{Input}
-use Rattle.mesh_works.specs.Plain.{model_of}
+use Rattle.mesh_exec_works.specs.Plain.{model_of}
 use Rattle.mesh_exec.specs.Fills.{fillings, first_pool}
 use Rattle.mesh_exec.proofs.Filling.{ok_at}
 use Rattle.mesh_exec.proofs.fills.fill_all.Goals as goal

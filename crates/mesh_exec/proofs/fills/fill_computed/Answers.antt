@@ -3,7 +3,7 @@ use Rattle.mesh_house.specs.declared.world.Change.{Change}
 use Rattle.mesh_house.specs.Runs.{Makes}
 use Rattle.mesh_house.proofs.Runs.{memory_then, ran_nothing}
 use Rattle.mesh_lineage.specs.Joinable.{is_joinable}
-use Rattle.mesh_works.specs.Plain.{model_of}
+use Rattle.mesh_exec_works.specs.Plain.{model_of}
 use Rattle.mesh_exec.specs.Fills.{fillings, first_pool, run_fillings}
 use Rattle.mesh_exec.specs.Runs.{are_fit_runs}
 use Rattle.mesh_exec.proofs.Filling.{ok_more, runs_fill}

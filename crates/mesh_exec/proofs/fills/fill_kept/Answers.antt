@@ -2,7 +2,7 @@ use Rattle.std.proofs.Common.{List, [], subst, refl, ◌∙◌}
 use Rattle.mesh_house.specs.declared.world.Change.{Change}
 use Rattle.mesh_house.specs.Runs.{Makes}
 use Rattle.mesh_house.proofs.Runs.{memory_then, ran_nothing}
-use Rattle.mesh_works.specs.Plain.{model_of}
+use Rattle.mesh_exec_works.specs.Plain.{model_of}
 use Rattle.mesh_exec.specs.Fills.{fillings}
 use Rattle.mesh_exec.proofs.fills.fill_kept.Goals as goal
 

@@ -1,6 +1,6 @@
 use Rattle.std.proofs.Common.{◌+◌, length, take, drop, ap, arith, length-take, length-append, length-drop}
 use Rattle.mesh_house.proofs.Runs.{makes_err, memory_then, ran_then}
-use Rattle.mesh_works.specs.Plain.{model_of}
+use Rattle.mesh_exec_works.specs.Plain.{model_of}
 use Rattle.mesh_exec.proofs.Filling.{fill_more, fill_parts, fill_rest}
 use Rattle.mesh_exec.proofs.Running.{some_fit}
 use Rattle.mesh_exec.specs.Fills.{first_pool, run_fillings}

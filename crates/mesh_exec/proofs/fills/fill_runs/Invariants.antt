@@ -1,7 +1,7 @@
 use Rattle.std.proofs.Common.{◌≡◌, ◌≤◌, ◌-◌, length, take}
 use Rattle.mesh_list.specs.Counts.{risen}
 use Rattle.mesh_house.specs.Runs.{Ran}
-use Rattle.mesh_works.specs.Plain.{model_of}
+use Rattle.mesh_exec_works.specs.Plain.{model_of}
 use Rattle.mesh_exec.specs.Fills.{first_pool, run_fillings}
 use Rattle.mesh_exec.proofs.fills.fill_runs.Given as goal
 

@@ -3,7 +3,7 @@ use Rattle.mesh_house.specs.declared.world.Change.{Change}
 use Rattle.mesh_house.specs.Runs.{Makes}
 use Rattle.mesh_house.proofs.Runs.{memory_then, ran_nothing}
 use Rattle.std.proofs.Common.{refl, []}
-use Rattle.mesh_works.specs.Plain.{model_of}
+use Rattle.mesh_exec_works.specs.Plain.{model_of}
 use Rattle.mesh_exec.specs.Fills.{first_pool, run_fillings}
 use Rattle.mesh_exec.proofs.fills.fill_some.Goals as goal
 

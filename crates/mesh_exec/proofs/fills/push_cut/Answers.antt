@@ -1,9 +1,9 @@
 use Rattle.std.proofs.Common.{◌++◌, List, ap, ◌∙◌}
-use Rattle.mesh_values.specs.declared.values.Cell.{Cell}
+use Rattle.mesh_base_values.specs.declared.values.Cell.{Cell}
 use Rattle.mesh_base.specs.declared.plans.Due.{Due}
-use Rattle.mesh_works.specs.Cuts.{cut_to}
-use Rattle.mesh_works.specs.Plain.{model_of}
-use Rattle.mesh_works.specs.Written.{written}
+use Rattle.mesh_exec_works.specs.Cuts.{cut_to}
+use Rattle.mesh_exec_works.specs.Plain.{model_of}
+use Rattle.mesh_exec_works.specs.Written.{written}
 use Rattle.mesh_exec.proofs.More.{one_behind}
 use Rattle.mesh_exec.proofs.fills.push_cut.Goals as goal
 

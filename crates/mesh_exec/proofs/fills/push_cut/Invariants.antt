@@ -1,6 +1,6 @@
 use Rattle.std.proofs.Common.{◌≡◌, ◌++◌, take}
-use Rattle.mesh_works.specs.Cuts.{cut_fills}
-use Rattle.mesh_works.specs.Plain.{model_of}
+use Rattle.mesh_exec_works.specs.Cuts.{cut_fills}
+use Rattle.mesh_exec_works.specs.Plain.{model_of}
 use Rattle.mesh_exec.proofs.fills.push_cut.Given as goal
 
 abbrev pub invariant-loop-due : goal.invariant-loop-due

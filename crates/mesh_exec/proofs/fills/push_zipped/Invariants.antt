@@ -1,5 +1,5 @@
 use Rattle.std.proofs.Common.{◌≡◌, ◌++◌, drop}
-use Rattle.mesh_works.specs.Plain.{model_of}
+use Rattle.mesh_exec_works.specs.Plain.{model_of}
 use Rattle.mesh_exec.specs.Fills.{zipped}
 use Rattle.mesh_exec.proofs.fills.push_zipped.Given as goal
 

@@ -1,4 +1,4 @@
-use Rattle.mesh_wave.proofs.wave.Ascending.{sorted_rows}
+use Rattle.mesh_exec_wave.proofs.wave.Ascending.{sorted_rows}
 use Rattle.mesh_exec.proofs.fills.sorted.Goals as goal
 
 pub returns : goal.returns

@@ -1,5 +1,5 @@
 use Rattle.std.proofs.Common.{◌++◌, ◌∙◌}
-use Rattle.mesh_works.specs.Plain.{model_of}
+use Rattle.mesh_exec_works.specs.Plain.{model_of}
 use Rattle.mesh_exec.specs.Fills.{each_with}
 use Rattle.mesh_exec.proofs.fills.viewed.Goals as goal
 

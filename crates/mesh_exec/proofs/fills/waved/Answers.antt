@@ -1,6 +1,6 @@
 use Rattle.std.proofs.Common.{◌++◌, List, ap, ◌∙◌}
 use Rattle.mesh_house.specs.declared.world.Change.{Change}
-use Rattle.mesh_works.specs.Plain.{model_of}
+use Rattle.mesh_exec_works.specs.Plain.{model_of}
 use Rattle.mesh_exec.proofs.Filling.{zip_fills}
 use Rattle.mesh_exec.specs.Fills.{zipped}
 use Rattle.mesh_exec.proofs.fills.waved.Goals as goal

@@ -2,8 +2,8 @@ use Rattle.std.proofs.Common.{List, [], subst, refl, ◌∙◌, map}
 use Rattle.mesh_house.specs.declared.world.Change.{Change}
 use Rattle.mesh_house.specs.Runs.{Makes}
 use Rattle.mesh_house.proofs.Runs.{memory_then, ran_nothing}
-use Rattle.mesh_works.specs.Fronts.{each_pool}
-use Rattle.mesh_works.specs.Plain.{plain_models}
+use Rattle.mesh_exec_works.specs.Fronts.{each_pool}
+use Rattle.mesh_exec_works.specs.Plain.{plain_models}
 use Rattle.mesh_exec.specs.Cuts.{cut_part}
 use Rattle.mesh_exec.specs.Fronts.{front_changes}
 use Rattle.mesh_exec.proofs.fronts.make_front.Goals as goal

@@ -1,6 +1,6 @@
 use Rattle.std.proofs.Common.{◌≡◌, ◌++◌, List, sym, ap, ◌∙◌}
 use Rattle.mesh_house.specs.declared.world.Change.{Change}
-use Rattle.mesh_works.specs.Plain.{work_model}
+use Rattle.mesh_exec_works.specs.Plain.{work_model}
 use Rattle.mesh_exec.specs.Fills.{fillings, zipped}
 use Rattle.mesh_exec.proofs.Fronting.{on_ok, zipped_fills}
 use Rattle.mesh_exec.proofs.fronts.push_fills.Goals as goal

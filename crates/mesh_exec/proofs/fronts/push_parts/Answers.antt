@@ -1,6 +1,6 @@
 use Rattle.std.proofs.Common.{length, ap, ◌∙◌}
 use Rattle.std.specs.Prelude.{min}
-use Rattle.mesh_works.specs.Plain.{plain_models}
+use Rattle.mesh_exec_works.specs.Plain.{plain_models}
 use Rattle.mesh_exec.proofs.Fronting.{cut_at, cut_fits, parts_more}
 use Rattle.mesh_exec.proofs.fronts.push_parts.Goals as goal
 

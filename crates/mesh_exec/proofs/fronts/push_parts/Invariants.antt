@@ -1,6 +1,6 @@
 use Rattle.std.proofs.Common.{◌≡◌, ◌++◌, List, drop, length, map}
 use Rattle.mesh_base.specs.declared.jobs.Input.{Input}
-use Rattle.mesh_works.specs.Plain.{plain_models}
+use Rattle.mesh_exec_works.specs.Plain.{plain_models}
 use Rattle.mesh_exec.specs.Cuts.{cut_part}
 use Rattle.mesh_exec.specs.Fronts.{cut_rows, front_changes}
 use Rattle.mesh_exec.proofs.fronts.push_parts.Given as goal

@@ -1,9 +1,9 @@
 use Rattle.std.proofs.Common.{◌≡◌, List, length, map, sym, ap, subst, ◌∙◌, arith}
 use Rattle.std.specs.Prelude.{nat_lt}
 use Rattle.std.specs.List.{All, list_all}
-use Rattle.mesh_values.specs.declared.values.Cell.{Cell}
-use Rattle.mesh_wave.specs.wave.Waves.{job_rows}
-use Rattle.mesh_works.specs.Fronts.{each_pool}
+use Rattle.mesh_base_values.specs.declared.values.Cell.{Cell}
+use Rattle.mesh_exec_wave.specs.wave.Waves.{job_rows}
+use Rattle.mesh_exec_works.specs.Fronts.{each_pool}
 use Rattle.mesh_exec.specs.Fronts.{cut_jobs, cut_rows}
 use Rattle.mesh_exec.proofs.Filling.{ok_more}
 use Rattle.mesh_exec.proofs.Fronting.{There, all_rows, few_cuts, jobs_there}

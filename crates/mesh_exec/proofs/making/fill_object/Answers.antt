@@ -1,6 +1,6 @@
 use Rattle.std.proofs.Common.{length, ap, arith}
-use Rattle.mesh_works.specs.Plain.{plain_models}
-use Rattle.mesh_works.specs.Works.{part_of}
+use Rattle.mesh_exec_works.specs.Plain.{plain_models}
+use Rattle.mesh_exec_works.specs.Works.{part_of}
 use Rattle.mesh_exec.proofs.Models.{filling_ok, filling_stops, memory_stops, tables_stop}
 use Rattle.mesh_exec.specs.Fills.{first_pool}
 use Rattle.mesh_exec.proofs.making.fill_object.Goals as goal

@@ -1,4 +1,4 @@
-use Rattle.mesh_works.specs.Plain.{plain_models}
+use Rattle.mesh_exec_works.specs.Plain.{plain_models}
 use Rattle.mesh_exec.proofs.Nexts.{first_makes, first_stops}
 use Rattle.mesh_exec.proofs.making.make_first.Goals as goal
 

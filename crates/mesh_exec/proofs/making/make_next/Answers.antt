@@ -1,6 +1,6 @@
 use Rattle.std.proofs.Common.{take, map, sym, ap, subst, ◌∙◌, List, arith}
-use Rattle.mesh_works.specs.Plain.{plain_models}
-use Rattle.mesh_works.specs.Works.{are_fit}
+use Rattle.mesh_exec_works.specs.Plain.{plain_models}
+use Rattle.mesh_exec_works.specs.Works.{are_fit}
 use Rattle.mesh_exec.specs.Cuts.{AreCuts, count_runs, cut_part}
 use Rattle.mesh_exec.specs.declared.ready.Cut.{Cut}
 use Rattle.mesh_exec.proofs.Fronting.{count_taken, cuts_taken}

@@ -2,8 +2,8 @@ use Rattle.std.proofs.Common.{◌≡◌, List, [], ◌++◌, subst, refl, ap, �
 use Rattle.mesh_house.specs.declared.world.Change.{Change}
 use Rattle.mesh_house.specs.Runs.{Makes}
 use Rattle.mesh_house.proofs.Runs.{memory_then, ran_nothing}
-use Rattle.mesh_works.specs.Plain.{making, plain_models}
-use Rattle.mesh_works.specs.Works.{part_of}
+use Rattle.mesh_exec_works.specs.Plain.{making, plain_models}
+use Rattle.mesh_exec_works.specs.Works.{part_of}
 use Rattle.mesh_exec.proofs.making.make_object.Goals as goal
 
 pub returns-in_err-push_making-clause-makes : goal.returns-in_err-push_making-clause-makes

@@ -1,5 +1,5 @@
-use Rattle.mesh_works.specs.Plain.{plain_models}
-use Rattle.mesh_works.specs.Works.{part_of}
+use Rattle.mesh_exec_works.specs.Plain.{plain_models}
+use Rattle.mesh_exec_works.specs.Works.{part_of}
 use Rattle.mesh_exec.proofs.Models.{object_stops, part_ok, part_stops_there, sum_stops}
 use Rattle.mesh_exec.proofs.making.make_part.Goals as goal
 

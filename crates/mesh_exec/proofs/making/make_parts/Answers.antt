@@ -1,4 +1,4 @@
-use Rattle.mesh_works.specs.Plain.{plain_models}
+use Rattle.mesh_exec_works.specs.Plain.{plain_models}
 use Rattle.mesh_exec.proofs.Nexts.{some_more, some_stop, some_within, sum_stops_there}
 use Rattle.mesh_exec.proofs.making.make_parts.Goals as goal
 

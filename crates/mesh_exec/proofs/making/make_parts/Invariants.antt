@@ -1,6 +1,6 @@
 use Rattle.std.proofs.Common.{◌≤◌, ◌-◌, drop, length, map, take}
-use Rattle.mesh_works.specs.Plain.{plain_models}
-use Rattle.mesh_works.specs.Works.{part_of}
+use Rattle.mesh_exec_works.specs.Plain.{plain_models}
+use Rattle.mesh_exec_works.specs.Works.{part_of}
 use Rattle.mesh_exec.proofs.Models.{SoFar}
 use Rattle.mesh_exec.proofs.making.make_parts.Given as goal
 

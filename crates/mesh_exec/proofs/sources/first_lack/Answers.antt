@@ -3,8 +3,8 @@ use Rattle.std.specs.Option.{is_some, option_or}
 use Rattle.std.specs.declared.option.Option.{Option}
 use Rattle.mesh_base.specs.declared.jobs.Input.{Input}
 use Rattle.mesh_layer.proofs.Finding.{and_then, answers, part_fails, told_later}
-use Rattle.mesh_works.specs.declared.works.Work.{Work}
-use Rattle.mesh_works.specs.Works.{part_of}
+use Rattle.mesh_exec_works.specs.declared.works.Work.{Work}
+use Rattle.mesh_exec_works.specs.Works.{part_of}
 use Rattle.mesh_exec.specs.Sources.{first_lack, part_lack}
 use Rattle.mesh_exec.proofs.sources.first_lack.Goals as goal
 

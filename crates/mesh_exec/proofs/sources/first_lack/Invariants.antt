@@ -1,7 +1,7 @@
 use Rattle.std.proofs.Common.{◌≡◌, drop, map, IsTrue}
 use Rattle.mesh_house.specs.Sources.{are_plain}
 use Rattle.mesh_layer.proofs.Finding.{Has}
-use Rattle.mesh_works.specs.Works.{part_of}
+use Rattle.mesh_exec_works.specs.Works.{part_of}
 use Rattle.mesh_exec.specs.Sources.{first_lack}
 use Rattle.mesh_exec.proofs.sources.first_lack.Given as goal
 

@@ -1,6 +1,6 @@
 use Rattle.std.proofs.Common.{◌≡◌, true, sym, ap, ◌∙◌}
 use Rattle.std.specs.Option.{option_map}
-use Rattle.mesh_values.specs.Names.{has_two_underscores}
+use Rattle.mesh_base_values.specs.Names.{has_two_underscores}
 use Rattle.mesh_base.specs.declared.jobs.Input.{Input}
 use Rattle.mesh_layer.proofs.Finding.{answers, house_fails, stays}
 use Rattle.mesh_layer.proofs.Reading.{no_source}

@@ -1,11 +1,11 @@
 use Rattle.std.proofs.Common.{◌≡◌, true, [], ℕ, List, sym, ◌∙◌, ap}
 use Rattle.std.proofs.lemmas.Result.{on_ok_weaker}
 use Rattle.mesh_list.specs.Keyed.{placed, ascends}
-use Rattle.mesh_values.specs.declared.values.Name.{Name}
+use Rattle.mesh_base_values.specs.declared.values.Name.{Name}
 use Rattle.mesh_base.specs.declared.snapshots.Ref.{Ref}
 use Rattle.mesh_base.specs.Keys.{ref_cmp, snapshot_ref}
-use Rattle.mesh_book.specs.declared.book.Book.{Book}
-use Rattle.mesh_book.specs.Changes.{delete_snapshot}
+use Rattle.mesh_house_book.specs.declared.book.Book.{Book}
+use Rattle.mesh_house_book.specs.Changes.{delete_snapshot}
 use Rattle.mesh_house.specs.Outside.{itself}
 use Rattle.mesh_house.specs.Gone.{thinned}
 use Rattle.mesh_house.proofs.Settled.{snapshot_waits, snapshot_goes}

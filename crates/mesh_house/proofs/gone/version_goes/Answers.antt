@@ -1,10 +1,10 @@
 use Rattle.std.proofs.Common.{◌≡◌, true, [], sym, ◌∙◌, ap}
 use Rattle.std.proofs.lemmas.Result.{on_ok_weaker}
 use Rattle.mesh_list.specs.Keyed.{placed, ascends}
-use Rattle.mesh_values.specs.declared.values.Name.{Name}
-use Rattle.mesh_values.specs.Names.{name_cmp}
-use Rattle.mesh_book.specs.declared.book.Book.{Book}
-use Rattle.mesh_book.specs.Changes.{version_object}
+use Rattle.mesh_base_values.specs.declared.values.Name.{Name}
+use Rattle.mesh_base_values.specs.Names.{name_cmp}
+use Rattle.mesh_house_book.specs.declared.book.Book.{Book}
+use Rattle.mesh_house_book.specs.Changes.{version_object}
 use Rattle.mesh_house.specs.Outside.{itself}
 use Rattle.mesh_house.specs.Gone.{thinned}
 use Rattle.mesh_house.proofs.Settled.{version_waits, version_goes}

@@ -1,6 +1,6 @@
 use Rattle.std.proofs.Common.{◌≡◌, drop}
 use Rattle.mesh_list.specs.Keyed.{found}
-use Rattle.mesh_values.specs.Names.{text_cmp}
+use Rattle.mesh_base_values.specs.Names.{text_cmp}
 use Rattle.mesh_io.specs.Files.{path_of}
 use Rattle.mesh_io.proofs.files.find_file.Given as goal
 

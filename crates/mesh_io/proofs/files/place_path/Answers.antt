@@ -1,7 +1,7 @@
 use Rattle.std.proofs.Common.{sym, ◌∙◌, ap, arith}
 use Rattle.mesh_list.specs.Keyed.{placed}
 use Rattle.mesh_list.proofs.Placed.{placed_same}
-use Rattle.mesh_values.specs.Names.{text_cmp}
+use Rattle.mesh_base_values.specs.Names.{text_cmp}
 use Rattle.mesh_io.specs.Files.{same_path}
 use Rattle.mesh_io.proofs.files.place_path.Goals as goal
 

@@ -1,6 +1,6 @@
 use Rattle.std.proofs.Common.{◌≡◌, ◌++◌, take, drop, length}
 use Rattle.mesh_list.specs.Keyed.{placed}
-use Rattle.mesh_values.specs.Names.{text_cmp}
+use Rattle.mesh_base_values.specs.Names.{text_cmp}
 use Rattle.mesh_io.specs.Files.{same_path}
 use Rattle.mesh_io.proofs.files.place_path.Given as goal
 

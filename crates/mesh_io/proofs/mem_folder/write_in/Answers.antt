@@ -1,6 +1,6 @@
 use Rattle.std.proofs.Common.{◌≡◌, true, sym, ◌∙◌, ap, arith}
 use Rattle.std.specs.Ordering.{is_eq}
-use Rattle.mesh_values.specs.Names.{text_cmp}
+use Rattle.mesh_base_values.specs.Names.{text_cmp}
 use Rattle.mesh_io.specs.Files.{rewritten}
 use Rattle.mesh_io.proofs.Edited.{rewritten_same}
 use Rattle.mesh_io.proofs.mem_folder.write_in.Goals as goal

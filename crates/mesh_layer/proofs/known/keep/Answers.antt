@@ -1,5 +1,5 @@
 use Rattle.std.proofs.Common.{sym, subst}
-use Rattle.mesh_values.specs.declared.values.Name.{Name}
+use Rattle.mesh_base_values.specs.declared.values.Name.{Name}
 use Rattle.mesh_layer.specs.declared.known.Found.{Found}
 use Rattle.mesh_layer.specs.Read.{AreKnown, IsFound}
 use Rattle.mesh_layer.proofs.Reading.{kept}

@@ -1,5 +1,5 @@
 use Rattle.std.proofs.Common.{◌≡◌, take, drop, []}
-use Rattle.mesh_shown.specs.Shown.{ctes_there, stored_relations}
+use Rattle.mesh_spec_changes.specs.shown.Shown.{ctes_there, stored_relations}
 use Rattle.mesh_layer.proofs.seen.ctes_there.Given as goal
 
 abbrev pub invariant-loop-i : goal.invariant-loop-i

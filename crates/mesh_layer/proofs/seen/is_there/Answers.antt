@@ -3,8 +3,8 @@ use Rattle.std.specs.List.{slice_get}
 use Rattle.std.specs.Option.{is_some}
 use Rattle.mesh_base.specs.declared.queries.Rel.{Rel}
 use Rattle.mesh_base.specs.Outputs.{select_columns}
-use Rattle.mesh_rules.specs.Seen.{rel_columns}
-use Rattle.mesh_shown.specs.Shown.{stored_relations}
+use Rattle.mesh_base.specs.rules.Seen.{rel_columns}
+use Rattle.mesh_spec_changes.specs.shown.Shown.{stored_relations}
 use Rattle.mesh_layer.proofs.Naming.{cte_there, relation_there}
 use Rattle.mesh_layer.proofs.seen.is_there.Goals as goal
 

@@ -1,5 +1,5 @@
 use Rattle.std.proofs.Common.{◌≡◌, take}
-use Rattle.mesh_shown.specs.Shown.{selects_there, stored_relations}
+use Rattle.mesh_spec_changes.specs.shown.Shown.{selects_there, stored_relations}
 use Rattle.mesh_layer.proofs.seen.selects_there.Given as goal
 
 abbrev pub invariant-loop-s : goal.invariant-loop-s

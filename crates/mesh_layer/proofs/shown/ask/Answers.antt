@@ -1,5 +1,5 @@
 use Rattle.std.proofs.Common.{◌≡◌, List, Some, map, subst, ◌∙◌}
-use Rattle.mesh_values.specs.declared.values.Name.{Name}
+use Rattle.mesh_base_values.specs.declared.values.Name.{Name}
 use Rattle.mesh_layer.specs.Asked.{lost_model}
 use Rattle.mesh_layer.specs.Lost.{first_of}
 use Rattle.mesh_layer.proofs.Asking.{asked_lost, shows}

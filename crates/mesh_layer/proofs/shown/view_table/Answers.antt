@@ -1,7 +1,7 @@
 use Rattle.std.proofs.Common.{Some, sym, ap, ◌∙◌}
 use Rattle.mesh_house.specs.World.{view}
 use Rattle.mesh_layer.specs.Asked.{lost_table, table_behind}
-use Rattle.mesh_changes.specs.Environments.{view_in}
+use Rattle.mesh_spec_changes.specs.Environments.{view_in}
 use Rattle.mesh_layer.proofs.Finding.{answers, and_then, by_read, house_fails, part_fails, read_is, stays, told_later, wants}
 use Rattle.mesh_layer.proofs.Heights.{target_is}
 use Rattle.mesh_layer.proofs.shown.view_table.Goals as goal

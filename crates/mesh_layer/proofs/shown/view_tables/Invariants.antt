@@ -1,6 +1,6 @@
 use Rattle.std.proofs.Common.{◌≡◌, take, map, Some, IsTrue}
 use Rattle.mesh_house.specs.Sources.{are_plain}
-use Rattle.mesh_shown.specs.Shown.{each_there}
+use Rattle.mesh_spec_changes.specs.shown.Shown.{each_there}
 use Rattle.mesh_layer.specs.Asked.{view_table}
 use Rattle.mesh_layer.specs.Read.{AreKnown}
 use Rattle.mesh_layer.proofs.Finding.{Has}

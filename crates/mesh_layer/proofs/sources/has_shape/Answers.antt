@@ -2,9 +2,9 @@ use Rattle.std.proofs.Common.{◌≡◌, ℕ, ◌+◌, ◌<◌, Bool, true, List
 use Rattle.std.specs.Prelude.{◌&&◌}
 use Rattle.std.specs.List.{find, list_all}
 use Rattle.std.proofs.lemmas.List.Folds.{list_all_kept, list_all_more}
-use Rattle.mesh_values.specs.Picked.{same_text}
-use Rattle.mesh_values.specs.declared.values.Column.{Column}
-use Rattle.mesh_scratch.specs.Sources.{is_of_type}
+use Rattle.mesh_base_values.specs.Picked.{same_text}
+use Rattle.mesh_base_values.specs.declared.values.Column.{Column}
+use Rattle.mesh_spec_model.specs.Sources.{is_of_type}
 use Rattle.mesh_layer.proofs.sources.has_shape.Goals.{then-each, else-each}
 use Rattle.mesh_layer.proofs.sources.has_shape.Goals as goal
 

@@ -1,5 +1,5 @@
 use Rattle.std.proofs.Common.{◌≡◌, take}
-use Rattle.mesh_scratch.specs.Sources.{has_shape}
+use Rattle.mesh_spec_model.specs.Sources.{has_shape}
 use Rattle.mesh_layer.proofs.sources.has_shape.Given as goal
 
 abbrev pub invariant-loop-column : goal.invariant-loop-column

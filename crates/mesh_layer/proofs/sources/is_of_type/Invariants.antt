@@ -1,7 +1,7 @@
 use Rattle.std.proofs.Common.{◌≡◌, drop}
 use Rattle.std.specs.List.{find}
-use Rattle.mesh_values.specs.Picked.{same_text}
-use Rattle.mesh_values.specs.declared.values.Column.{Column}
+use Rattle.mesh_base_values.specs.Picked.{same_text}
+use Rattle.mesh_base_values.specs.declared.values.Column.{Column}
 use Rattle.mesh_layer.proofs.sources.is_of_type.Given as goal
 
 abbrev pub invariant-loop-column : goal.invariant-loop-column

@@ -1,5 +1,5 @@
 use Rattle.std.proofs.Common.{sym, ap, ◌∙◌, map}
-use Rattle.mesh_values.specs.declared.values.Column.{Column}
+use Rattle.mesh_base_values.specs.declared.values.Column.{Column}
 use Rattle.mesh_layer.specs.Places.{are_in_order, are_wide}
 use Rattle.mesh_layer.proofs.Placing.{picked_themselves, rows_at-places_of}
 use Rattle.mesh_layer.proofs.sources.picked_rows.Goals as goal

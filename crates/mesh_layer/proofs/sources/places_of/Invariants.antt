@@ -1,5 +1,5 @@
 use Rattle.std.proofs.Common.{◌≡◌, take, map}
-use Rattle.mesh_values.specs.declared.values.Column.{Column}
+use Rattle.mesh_base_values.specs.declared.values.Column.{Column}
 use Rattle.mesh_layer.specs.Places.{places_of}
 use Rattle.mesh_layer.proofs.sources.places_of.Given as goal
 

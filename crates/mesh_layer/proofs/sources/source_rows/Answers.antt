@@ -1,6 +1,6 @@
 use Rattle.std.proofs.Common.{◌≡◌, true, false, sym, ap, ◌∙◌}
-use Rattle.mesh_values.specs.Names.{has_two_underscores}
-use Rattle.mesh_scratch.specs.Sources.{declared_rows}
+use Rattle.mesh_base_values.specs.Names.{has_two_underscores}
+use Rattle.mesh_spec_model.specs.Sources.{declared_rows}
 use Rattle.mesh_layer.proofs.Finding.{answers, by_read, house_fails, read_is, stays}
 use Rattle.mesh_layer.proofs.Reading.{no_source, source_read}
 use Rattle.mesh_layer.proofs.sources.source_rows.Goals as goal

@@ -1,5 +1,5 @@
 use Rattle.std.proofs.Common.{◌∙◌, arith}
-use Rattle.mesh_scratch.specs.Sources.{declared}
+use Rattle.mesh_spec_model.specs.Sources.{declared}
 use Rattle.mesh_layer.proofs.Finding.{and_then, one_more, part_fails, told_later}
 use Rattle.mesh_layer.proofs.sources.source_tables.Goals as goal
 

@@ -1,5 +1,5 @@
 use Rattle.std.proofs.Common.{◌≡◌, take, map, IsTrue}
-use Rattle.mesh_scratch.specs.Sources.{declared}
+use Rattle.mesh_spec_model.specs.Sources.{declared}
 use Rattle.mesh_house.specs.Sources.{are_plain}
 use Rattle.mesh_layer.proofs.Finding.{Has}
 use Rattle.mesh_layer.proofs.sources.source_tables.Given as goal

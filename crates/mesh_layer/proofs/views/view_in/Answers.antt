@@ -1,7 +1,7 @@
 use Rattle.std.proofs.Common.{◌≡◌, Bool, false, cond, ◌++◌, codes, sym, ap, ◌∙◌, append_assoc}
-use Rattle.mesh_values.specs.declared.values.Name.{Name}
-use Rattle.mesh_values.specs.Picked.{same_text}
-use Rattle.mesh_changes.specs.Environments.{prod}
+use Rattle.mesh_base_values.specs.declared.values.Name.{Name}
+use Rattle.mesh_base_values.specs.Picked.{same_text}
+use Rattle.mesh_spec_changes.specs.Environments.{prod}
 use Rattle.mesh_layer.proofs.views.view_in.Goals as goal
 
 pub returns : goal.returns

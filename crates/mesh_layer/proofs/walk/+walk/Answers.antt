@@ -1,10 +1,10 @@
 use Rattle.std.proofs.Common.{◌≡◌, List, Some, None, map, take, refl, sym, ap, ◌∙◌, subst, arith}
 use Rattle.std.specs.Option.{option_map}
 use Rattle.std.proofs.lemmas.List.{take_all}
-use Rattle.mesh_values.specs.declared.values.Pair.{Pair}
+use Rattle.mesh_base_values.specs.declared.values.Pair.{Pair}
 use Rattle.mesh_house.specs.declared.objects.Body.TheVariants.{Rows, Stored}
 use Rattle.mesh_house.specs.World.{object_at, body_of}
-use Rattle.mesh_shown.specs.Shown.{each_there, rows_through, target_table}
+use Rattle.mesh_spec_changes.specs.shown.Shown.{each_there, rows_through, target_table}
 use Rattle.mesh_layer.specs.declared.kept.Kept.TheVariants as kept
 use Rattle.mesh_layer.specs.Lost.{lost_behind, lost_through}
 use Rattle.mesh_layer.specs.Read.{kept_of}

@@ -1,5 +1,5 @@
 use Rattle.std.proofs.Common.{◌≡◌, ◌*◌, ◌+◌, ◌≤◌, take, map, Some}
-use Rattle.mesh_shown.specs.Shown.{each_there, rows_through, target_table}
+use Rattle.mesh_spec_changes.specs.shown.Shown.{each_there, rows_through, target_table}
 use Rattle.mesh_layer.specs.Read.{AreKnown, Given}
 use Rattle.mesh_layer.proofs.Finding.{Has}
 use Rattle.mesh_layer.proofs.walk.+walk.Given as goal

@@ -1,6 +1,6 @@
 use Rattle.std.proofs.Common.{◌≡◌, ◌++◌, take, map}
 use Rattle.std.specs.List.{flat_map}
-use Rattle.mesh_meaning.specs.Named.{columns, when_columns}
+use Rattle.mesh_spec_query.specs.Named.{columns, when_columns}
 use Rattle.mesh_lineage.proofs.columns.+columns.Given as goal
 
 abbrev pub invariant-add_all_columns-loop-e : goal.invariant-add_all_columns-loop-e

@@ -1,7 +1,7 @@
 use Rattle.std.proofs.Common.{[], ◌∷◌, ◌++◌, ap, ap₂, sym, ◌∙◌}
 use Rattle.std.specs.List.{flat_map}
 use Rattle.std.proofs.lemmas.List.{take_all}
-use Rattle.mesh_scratch.specs.Closures.{closures}
+use Rattle.mesh_spec_model.specs.Closures.{closures}
 use Rattle.mesh_lineage.specs.Unsteady.{unsteady_pair}
 use Rattle.mesh_lineage.specs.Reaches.{node_pair, node_reach}
 use Rattle.mesh_lineage.proofs.Nodes.{pairs_more, reaches_more}

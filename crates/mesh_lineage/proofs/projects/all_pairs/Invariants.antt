@@ -1,6 +1,6 @@
 use Rattle.std.proofs.Common.{◌≡◌, map, take}
 use Rattle.std.specs.List.{flat_map}
-use Rattle.mesh_scratch.specs.Closures.{closures}
+use Rattle.mesh_spec_model.specs.Closures.{closures}
 use Rattle.mesh_lineage.specs.Reaches.{reach}
 use Rattle.mesh_lineage.specs.Unsteady.{unsteady_pair}
 use Rattle.mesh_lineage.proofs.projects.all_pairs.Given as goal

@@ -1,5 +1,5 @@
 use Rattle.std.proofs.Common.{◌++◌, subst}
-use Rattle.mesh_laws.specs.Reads.{selects_readings}
+use Rattle.mesh_law_query.specs.Reads.{selects_readings}
 use Rattle.mesh_lineage.specs.Alike.{IsAlike}
 use Rattle.mesh_lineage.proofs.Alike.{all_taken, one_more}
 use Rattle.mesh_lineage.proofs.readings.add_ctes_reads.Goals as goal

@@ -3,7 +3,7 @@ use Rattle.std.specs.Borrow.{Bor}
 use Rattle.std.specs.List.{flat_map}
 use Rattle.std.proofs.lemmas.List.Folds.{flat_map-map}
 use Rattle.mesh_base.specs.declared.definitions.Reading.{Reading}
-use Rattle.mesh_laws.specs.Reads.{reading_at}
+use Rattle.mesh_law_query.specs.Reads.{reading_at}
 use Rattle.mesh_lineage.specs.Alike.{IsAlike}
 use Rattle.mesh_lineage.specs.Named.{place_of}
 use Rattle.mesh_lineage.proofs.Alike.{all_taken, before, equal_alike, once_more, one_more}

@@ -1,8 +1,8 @@
 use Rattle.std.proofs.Common.{◌++◌, sym, ap, ◌∙◌, subst}
 use Rattle.std.specs.List.{flat_map}
 use Rattle.std.proofs.lemmas.Result.{on_ok_weaker}
-use Rattle.mesh_meaning.specs.Named.{columns}
-use Rattle.mesh_laws.specs.Reads.{expressions, reading_at}
+use Rattle.mesh_spec_query.specs.Named.{columns}
+use Rattle.mesh_law_query.specs.Reads.{expressions, reading_at}
 use Rattle.mesh_lineage.specs.Alike.{IsAlike}
 use Rattle.mesh_lineage.specs.Named.{places_of}
 use Rattle.mesh_lineage.proofs.Alike.{given_alike}

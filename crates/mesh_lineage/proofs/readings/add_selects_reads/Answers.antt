@@ -1,4 +1,4 @@
-use Rattle.mesh_laws.specs.Reads.{select_readings}
+use Rattle.mesh_law_query.specs.Reads.{select_readings}
 use Rattle.mesh_lineage.proofs.Alike.{all_taken, one_more}
 use Rattle.mesh_lineage.proofs.readings.add_selects_reads.Goals as goal
 

@@ -1,6 +1,6 @@
 use Rattle.std.proofs.Common.{◌++◌, take}
 use Rattle.std.specs.List.{flat_map}
-use Rattle.mesh_laws.specs.Reads.{select_readings}
+use Rattle.mesh_law_query.specs.Reads.{select_readings}
 use Rattle.mesh_lineage.specs.Alike.{IsAlike}
 use Rattle.mesh_lineage.proofs.readings.add_selects_reads.Given as goal
 

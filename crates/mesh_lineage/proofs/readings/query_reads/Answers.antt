@@ -1,6 +1,6 @@
 use Rattle.std.proofs.Common.{◌++◌, subst}
 use Rattle.std.specs.List.{flat_map}
-use Rattle.mesh_laws.specs.Reads.{selects_readings}
+use Rattle.mesh_law_query.specs.Reads.{selects_readings}
 use Rattle.mesh_lineage.specs.Alike.{IsAlike}
 use Rattle.mesh_lineage.proofs.Alike.{two_parts}
 use Rattle.mesh_lineage.proofs.readings.query_reads.Goals as goal

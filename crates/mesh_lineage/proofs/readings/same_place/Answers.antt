@@ -1,5 +1,5 @@
 use Rattle.std.proofs.Common.{◌≡◌, sym, ◌∙◌}
-use Rattle.mesh_laws.proofs.ReadColumns.{text_is}
+use Rattle.mesh_law_query.proofs.ReadColumns.{text_is}
 use Rattle.mesh_lineage.proofs.readings.same_place.Goals as goal
 
 pub returns-then-a-b : goal.returns-then-a-b

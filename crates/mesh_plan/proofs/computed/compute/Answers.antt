@@ -1,5 +1,5 @@
 use Rattle.std.proofs.Common.{◌≡◌, sym, subst, w64, to_z, of_z}
-use Rattle.mesh_scratch.specs.Horizons.{Shows}
+use Rattle.mesh_spec_model.specs.Horizons.{Shows}
 use Rattle.mesh_plan.proofs.Whole.{second_whole}
 use Rattle.mesh_plan.proofs.computed.compute.Goals as goal
 

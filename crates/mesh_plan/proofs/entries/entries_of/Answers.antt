@@ -2,7 +2,7 @@ use Rattle.std.proofs.Common.{◌≡◌, ◌+◌, Some, length, refl, ◌∙◌,
 use Rattle.std.specs.List.{slice_get}
 use Rattle.std.proofs.lemmas.List.{take_all}
 use Rattle.std.proofs.lemmas.Option.{slice_get_read}
-use Rattle.mesh_values.specs.declared.values.Name.{Name}
+use Rattle.mesh_base_values.specs.declared.values.Name.{Name}
 use Rattle.mesh_plan.specs.Entries.{entries_of}
 use Rattle.mesh_plan.proofs.Models.{entries_long, one_more_entry}
 use Rattle.mesh_plan.proofs.entries.entries_of.Goals as goal

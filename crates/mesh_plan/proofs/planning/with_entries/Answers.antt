@@ -2,13 +2,13 @@ use Rattle.std.proofs.Common.{◌≡◌, true, false, List, length, sym, ap, ◌
 use Rattle.std.specs.Option.{option_copied}
 use Rattle.mesh_base.specs.declared.snapshots.Node.{Node}
 use Rattle.mesh_base.specs.declared.snapshots.Ref.{Ref}
-use Rattle.mesh_rules.specs.declared.plans.Plan.{Plan}
-use Rattle.mesh_scratch.specs.Closures.{closures}
-use Rattle.mesh_scratch.specs.Horizons.{Clock, Shows}
-use Rattle.mesh_listed.specs.Listed.{is_list_fit}
-use Rattle.mesh_due.specs.Dues.{again, dues}
-use Rattle.mesh_due.specs.Plans.{planned}
-use Rattle.mesh_marks.specs.Long.{first_too_long}
+use Rattle.mesh_base.specs.declared.rules.plans.Plan.{Plan}
+use Rattle.mesh_spec_model.specs.Closures.{closures}
+use Rattle.mesh_spec_model.specs.Horizons.{Clock, Shows}
+use Rattle.mesh_spec_changes.specs.listed.Listed.{is_list_fit}
+use Rattle.mesh_spec_changes.specs.due.Dues.{again, dues}
+use Rattle.mesh_spec_changes.specs.due.Plans.{planned}
+use Rattle.mesh_plan_due.specs.Long.{first_too_long}
 use Rattle.mesh_plan.specs.Plans.{IsPlanOf, Unclashed, removed}
 use Rattle.mesh_plan.proofs.Models.{as_many}
 use Rattle.mesh_plan.proofs.Whole.{second_whole, whole}

@@ -2,15 +2,15 @@ use Rattle.std.proofs.Common.{◌≡◌, true, None, List, [], length, sym, ap, 
 use Rattle.std.specs.Prelude.{IsSome}
 use Rattle.std.specs.List.{AllZip, Contains}
 use Rattle.mesh_base.specs.declared.snapshots.Node.{Node}
-use Rattle.mesh_rules.specs.declared.plans.Plan.{Plan}
-use Rattle.mesh_book.specs.WellFormed.{snapshot_at}
-use Rattle.mesh_scratch.specs.Closures.{closures}
-use Rattle.mesh_scratch.specs.Horizons.{Clock, Shows}
-use Rattle.mesh_listed.specs.Listed.{listed}
-use Rattle.mesh_due.specs.Dues.{again, dues}
-use Rattle.mesh_due.specs.Plans.{planned}
-use Rattle.mesh_due.specs.Versions.{node_ref}
-use Rattle.mesh_marks.specs.Long.{first_too_long}
+use Rattle.mesh_base.specs.declared.rules.plans.Plan.{Plan}
+use Rattle.mesh_house_book.specs.WellFormed.{snapshot_at}
+use Rattle.mesh_spec_model.specs.Closures.{closures}
+use Rattle.mesh_spec_model.specs.Horizons.{Clock, Shows}
+use Rattle.mesh_spec_changes.specs.listed.Listed.{listed}
+use Rattle.mesh_spec_changes.specs.due.Dues.{again, dues}
+use Rattle.mesh_spec_changes.specs.due.Plans.{planned}
+use Rattle.mesh_spec_changes.specs.due.Versions.{node_ref}
+use Rattle.mesh_plan_due.specs.Long.{first_too_long}
 use Rattle.mesh_plan.specs.Entries.{IsRecorded}
 use Rattle.mesh_plan.specs.Running.{IsRunOf}
 use Rattle.mesh_plan.proofs.Beside.{list_fits}

@@ -1,11 +1,11 @@
 use Rattle.std.proofs.Common.{refl, ◌+◌, codes, None, Some, drop, arith, sym, ◌∙◌}
-use Rattle.mesh_surface.specs.declared.signs.Function.TheVariants.{Count}
-use Rattle.mesh_surface.specs.declared.expressions.Test.TheVariants as the_test
-use Rattle.mesh_surface.specs.declared.expressions.Primary.TheVariants as the_primary
-use Rattle.mesh_grammar.specs.Signs.{place}
-use Rattle.mesh_grammar.specs.Rules.{tested, cat, value, named}
-use Rattle.mesh_grammar.specs.Plans.{done, read, take, is_sign}
-use Rattle.mesh_words.specs.declared.fault.Fault.TheVariants.{Syntax}
+use Rattle.mesh_query_grammar.specs.declared.surface.signs.Function.TheVariants.{Count}
+use Rattle.mesh_query_grammar.specs.declared.surface.expressions.Test.TheVariants as the_test
+use Rattle.mesh_query_grammar.specs.declared.surface.expressions.Primary.TheVariants as the_primary
+use Rattle.mesh_query_grammar.specs.Signs.{place}
+use Rattle.mesh_query_grammar.specs.Rules.{tested, cat, value, named}
+use Rattle.mesh_query_grammar.specs.Plans.{done, read, take, is_sign}
+use Rattle.mesh_query_grammar.specs.declared.lookahead.fault.Fault.TheVariants.{Syntax}
 use Rattle.mesh_query.proofs.Steps.{started, noted, past_word, past_sign, past_name, past_type, past_cmp, without, saw, missed, has_read, has_nested, is_done, counted, read_from}
 use Rattle.mesh_query.proofs.Made.{with_read, unread, kept, unclosed, untyped, shut_out, nearer}
 use Rattle.mesh_query.proofs.Descent.{handed, told, stuck_here, lacks, fails_in, fails_nested, too_deep, closed, closed_by, goes_on, alone, name_here, call_left, sum_begun, sum_on, product_begun, product_on, cast_on, failed_from}

@@ -1,7 +1,7 @@
 use Rattle.std.proofs.Common.{true, ◌+◌, ◌*◌, ◌-◌, ◌≤◌, drop, length}
-use Rattle.mesh_grammar.specs.Signs.{place}
-use Rattle.mesh_grammar.specs.Rules.{expr, more_ors, conjunction, more_ands, cat, more_cats, sum, more_sums, product, more_products, post, more_casts, arms, more_arms, exprs, more_exprs}
-use Rattle.mesh_grammar.specs.Plans.{done, read}
+use Rattle.mesh_query_grammar.specs.Signs.{place}
+use Rattle.mesh_query_grammar.specs.Rules.{expr, more_ors, conjunction, more_ands, cat, more_cats, sum, more_sums, product, more_products, post, more_casts, arms, more_arms, exprs, more_exprs}
+use Rattle.mesh_query_grammar.specs.Plans.{done, read}
 use Rattle.mesh_query.specs.Answers.{Onward}
 use Rattle.mesh_query.proofs.expressions.+parser.Given as goal
 

@@ -1,9 +1,9 @@
 use Rattle.std.proofs.Common.{◌≡◌, ◌+◌, ℕ, codes, false, Some, drop, arith, sym, subst, ◌∙◌}
-use Rattle.mesh_surface.specs.declared.expressions.Primary.TheVariants as the_primary
-use Rattle.mesh_grammar.specs.Signs.{place}
-use Rattle.mesh_grammar.specs.Rules.{named}
-use Rattle.mesh_grammar.specs.Plans.{read, done, is_sign}
-use Rattle.mesh_grammar.specs.Machine.{begins}
+use Rattle.mesh_query_grammar.specs.declared.surface.expressions.Primary.TheVariants as the_primary
+use Rattle.mesh_query_grammar.specs.Signs.{place}
+use Rattle.mesh_query_grammar.specs.Rules.{named}
+use Rattle.mesh_query_grammar.specs.Plans.{read, done, is_sign}
+use Rattle.mesh_query_grammar.specs.Machine.{begins}
 use Rattle.mesh_query.proofs.Steps.{past_name, past_sign, missed, without, is_done, counted}
 use Rattle.mesh_query.proofs.Descent.{told, lacks, fails_in, closed, name_left}
 use Rattle.mesh_query.proofs.literals.column.Goals as goal

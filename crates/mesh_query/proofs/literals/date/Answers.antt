@@ -1,10 +1,10 @@
 use Rattle.std.proofs.Common.{◌≡◌, ℕ, true, drop, rules, arith, FitsSigned, w32, sym, subst}
 use Rattle.std.proofs.lemmas.Int.{to_z-of_z}
 use Rattle.std.proofs.lemmas.Bool.{and_parts}
-use Rattle.mesh_grammar.specs.Signs.{place}
-use Rattle.mesh_grammar.specs.Rules.{named}
-use Rattle.mesh_grammar.specs.Plans.{read, done, is_text}
-use Rattle.mesh_grammar.specs.Machine.{begins}
+use Rattle.mesh_query_grammar.specs.Signs.{place}
+use Rattle.mesh_query_grammar.specs.Rules.{named}
+use Rattle.mesh_query_grammar.specs.Plans.{read, done, is_text}
+use Rattle.mesh_query_grammar.specs.Machine.{begins}
 use Rattle.mesh_query.proofs.Steps.{started, past_name, saw, is_done, counted}
 use Rattle.mesh_query.proofs.Descent.{told, fails_in, has_day, has_no_day, closed, date_is_name}
 use Rattle.mesh_query.proofs.literals.date.Goals as goal

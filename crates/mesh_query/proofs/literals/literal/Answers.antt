@@ -1,9 +1,9 @@
 use Rattle.std.proofs.Common.{codes, arith, drop, ap, refl}
-use Rattle.mesh_tokens.specs.declared.tokens.TokenKind.TheVariants as the_kind
-use Rattle.mesh_surface.specs.declared.expressions.Primary.TheVariants as the_primary
-use Rattle.mesh_grammar.specs.Signs.{place}
-use Rattle.mesh_grammar.specs.Plans.{done, number_in, bytes_of, kind_is_number, kind_is_text, kind_is_macro, kind_is_word}
-use Rattle.mesh_words.proofs.NextToken.{next_at, begins_past}
+use Rattle.mesh_query_tokens.specs.declared.tokens.TokenKind.TheVariants as the_kind
+use Rattle.mesh_query_grammar.specs.declared.surface.expressions.Primary.TheVariants as the_primary
+use Rattle.mesh_query_grammar.specs.Signs.{place}
+use Rattle.mesh_query_grammar.specs.Plans.{done, number_in, bytes_of, kind_is_number, kind_is_text, kind_is_macro, kind_is_word}
+use Rattle.mesh_query_grammar.proofs.lookahead.NextToken.{next_at, begins_past}
 use Rattle.mesh_query.proofs.Steps.{without, is_done, counted}
 use Rattle.mesh_query.proofs.Descent.{stuck_here, unlike, unnumbered, unworded, past_said}
 use Rattle.mesh_query.proofs.literals.literal.Goals as goal

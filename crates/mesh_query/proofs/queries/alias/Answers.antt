@@ -1,5 +1,5 @@
 use Rattle.std.proofs.Common.{◌+◌, codes, Some, arith, sym, ◌∙◌}
-use Rattle.mesh_grammar.specs.Plans.{done}
+use Rattle.mesh_query_grammar.specs.Plans.{done}
 use Rattle.mesh_query.proofs.Steps.{started, past_word, past_name, without, is_done}
 use Rattle.mesh_query.proofs.Descent.{told, lacks, no_fault, both}
 use Rattle.mesh_query.proofs.queries.alias.Goals as goal

@@ -1,7 +1,7 @@
 use Rattle.std.proofs.Common.{codes, drop, arith}
-use Rattle.mesh_grammar.specs.Signs.{place}
-use Rattle.mesh_grammar.specs.Rules.{union}
-use Rattle.mesh_grammar.specs.Plans.{take, nest, done, is_word, is_sign}
+use Rattle.mesh_query_grammar.specs.Signs.{place}
+use Rattle.mesh_query_grammar.specs.Rules.{union}
+use Rattle.mesh_query_grammar.specs.Plans.{take, nest, done, is_word, is_sign}
 use Rattle.mesh_query.proofs.Steps.{started, noted, past_word, past_sign, past_name, has_nested, is_done}
 use Rattle.mesh_query.proofs.Descent.{told, lacks, fails_nested, too_deep}
 use Rattle.mesh_query.proofs.queries.cte.Goals as goal

@@ -1,6 +1,6 @@
 use Rattle.std.proofs.Common.{false, ◌-◌, ◌≤◌, drop, length}
-use Rattle.mesh_grammar.specs.Rules.{cte_list, more_ctes}
-use Rattle.mesh_grammar.specs.Plans.{done, read}
+use Rattle.mesh_query_grammar.specs.Rules.{cte_list, more_ctes}
+use Rattle.mesh_query_grammar.specs.Plans.{done, read}
 use Rattle.mesh_query.specs.Answers.{Onward}
 use Rattle.mesh_query.proofs.queries.cte_list.Given as goal
 

@@ -1,5 +1,5 @@
 use Rattle.std.proofs.Common.{codes, drop, arith, sym, ◌∙◌}
-use Rattle.mesh_grammar.specs.Rules.{ctes}
+use Rattle.mesh_query_grammar.specs.Rules.{ctes}
 use Rattle.mesh_query.proofs.Steps.{started, past_word, without, is_done}
 use Rattle.mesh_query.proofs.Descent.{handed, fails_in, closed_by}
 use Rattle.mesh_query.proofs.queries.ctes.Goals as goal

@@ -1,10 +1,10 @@
 use Rattle.std.proofs.Common.{codes, drop, arith, sym, ◌∙◌, ap}
 use Rattle.std.proofs.Common.{◌∷◌}
-use Rattle.mesh_surface.specs.declared.queries.SurfaceItem.TheVariants as the_item
-use Rattle.mesh_grammar.specs.Signs.{place}
-use Rattle.mesh_grammar.specs.Plans.{done}
-use Rattle.mesh_grammar.specs.Machine.{begins_star}
-use Rattle.mesh_grammar.proofs.Takes.{starless_name, starless_dot, starless_times}
+use Rattle.mesh_query_grammar.specs.declared.surface.queries.SurfaceItem.TheVariants as the_item
+use Rattle.mesh_query_grammar.specs.Signs.{place}
+use Rattle.mesh_query_grammar.specs.Plans.{done}
+use Rattle.mesh_query_grammar.specs.Machine.{begins_star}
+use Rattle.mesh_query_grammar.proofs.Takes.{starless_name, starless_dot, starless_times}
 use Rattle.mesh_query.proofs.Steps.{started, noted, past_sign, without, has_read, no_star_here, is_done, read_from}
 use Rattle.mesh_query.proofs.Descent.{told, fails_in, no_fault, both, all_of, failed_from}
 use Rattle.mesh_query.proofs.queries.item.Goals as goal

@@ -1,6 +1,6 @@
 use Rattle.std.proofs.Common.{false, ◌-◌, ◌≤◌, drop, length}
-use Rattle.mesh_grammar.specs.Rules.{items, more_items}
-use Rattle.mesh_grammar.specs.Plans.{done, read}
+use Rattle.mesh_query_grammar.specs.Rules.{items, more_items}
+use Rattle.mesh_query_grammar.specs.Plans.{done, read}
 use Rattle.mesh_query.specs.Answers.{Onward}
 use Rattle.mesh_query.proofs.queries.items.Given as goal
 

@@ -1,8 +1,8 @@
 use Rattle.std.proofs.Common.{false, codes, drop, arith, sym, subst}
 use Rattle.std.proofs.Common.{ℕ}
-use Rattle.mesh_grammar.specs.Signs.{place}
-use Rattle.mesh_grammar.specs.Rules.{select, selected}
-use Rattle.mesh_grammar.specs.Plans.{read, done}
+use Rattle.mesh_query_grammar.specs.Signs.{place}
+use Rattle.mesh_query_grammar.specs.Rules.{select, selected}
+use Rattle.mesh_query_grammar.specs.Plans.{read, done}
 use Rattle.mesh_query.specs.Answers.{Onward}
 use Rattle.mesh_query.proofs.Steps.{started, noted, past_word, is_done}
 use Rattle.mesh_query.proofs.Descent.{handed, told, lacks, fails_in, closed_by}

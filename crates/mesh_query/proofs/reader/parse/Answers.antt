@@ -1,10 +1,10 @@
 use Rattle.std.proofs.Common.{◌≡◌, ℕ, [], List, take, drop, subst, ap, sym, ◌∙◌, inl}
-use Rattle.mesh_surface.specs.declared.queries.Surface.{Surface}
-use Rattle.mesh_tokens.specs.declared.tokens.Token.{Token}
-use Rattle.mesh_words.specs.Places.{deepest}
-use Rattle.mesh_grammar.specs.Grammar.{Spells, query}
-use Rattle.mesh_grammar.specs.Beginnings.{IsQuery}
-use Rattle.mesh_grammar.proofs.Faults.{is_spelled, only_read, one_tree}
+use Rattle.mesh_query_grammar.specs.declared.surface.queries.Surface.{Surface}
+use Rattle.mesh_query_tokens.specs.declared.tokens.Token.{Token}
+use Rattle.mesh_query_grammar.specs.lookahead.Places.{deepest}
+use Rattle.mesh_query_grammar.specs.Grammar.{Spells, query}
+use Rattle.mesh_query_grammar.specs.Beginnings.{IsQuery}
+use Rattle.mesh_query_grammar.proofs.Faults.{is_spelled, only_read, one_tree}
 use Rattle.mesh_query.specs.Refusals.{IsAmiss, IsRefusal}
 use Rattle.mesh_query.specs.Sizes.{is_within}
 use Rattle.mesh_query.proofs.Descent.{both}

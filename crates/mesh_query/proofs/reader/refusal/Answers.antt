@@ -1,5 +1,5 @@
 use Rattle.std.proofs.Common.{drop, subst}
-use Rattle.mesh_words.specs.declared.fault.Fault.{Fault}
+use Rattle.mesh_query_grammar.specs.declared.lookahead.fault.Fault.{Fault}
 use Rattle.mesh_query.specs.Refusals.{IsAmiss}
 use Rattle.mesh_query.proofs.Refused.{syntax_refused}
 use Rattle.mesh_query.proofs.reader.refusal.Goals as goal

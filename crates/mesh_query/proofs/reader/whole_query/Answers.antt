@@ -1,8 +1,8 @@
 use Rattle.std.proofs.Common.{List, drop, subst, false}
 use Rattle.std.proofs.lemmas.List.{drop_all}
-use Rattle.mesh_tokens.specs.declared.tokens.Token.{Token}
-use Rattle.mesh_words.specs.Places.{deepest}
-use Rattle.mesh_grammar.specs.Rules.{query}
+use Rattle.mesh_query_tokens.specs.declared.tokens.Token.{Token}
+use Rattle.mesh_query_grammar.specs.lookahead.Places.{deepest}
+use Rattle.mesh_query_grammar.specs.Rules.{query}
 use Rattle.mesh_query.specs.Counts.{Reads}
 use Rattle.mesh_query.proofs.Steps.{read_from}
 use Rattle.mesh_query.proofs.Descent.{told, failed_from}

@@ -1,5 +1,5 @@
 use Rattle.std.proofs.Common.{◌+◌, codes, Some, None, arith, sym, ◌∙◌}
-use Rattle.mesh_grammar.specs.Plans.{accept, take, done, said, is_sign, is_name}
+use Rattle.mesh_query_grammar.specs.Plans.{accept, take, done, said, is_sign, is_name}
 use Rattle.mesh_query.proofs.Steps.{started, past_sign, past_name, without, is_done}
 use Rattle.mesh_query.proofs.Descent.{told, lacks}
 use Rattle.mesh_query.proofs.relations.qualified.Goals as goal

@@ -1,7 +1,7 @@
 use Rattle.std.proofs.Common.{false, ◌-◌, ◌≤◌, drop, length}
-use Rattle.mesh_grammar.specs.Signs.{place}
-use Rattle.mesh_grammar.specs.Rules.{relations, more_joins}
-use Rattle.mesh_grammar.specs.Plans.{done, read}
+use Rattle.mesh_query_grammar.specs.Signs.{place}
+use Rattle.mesh_query_grammar.specs.Rules.{relations, more_joins}
+use Rattle.mesh_query_grammar.specs.Plans.{done, read}
 use Rattle.mesh_query.specs.Answers.{Onward}
 use Rattle.mesh_query.proofs.relations.relations.Given as goal
 

@@ -1,9 +1,9 @@
 use Rattle.std.proofs.Common.{arith, sym, ap, ap₂, ◌∙◌, refl}
 use Rattle.std.specs.Ordering.{is_lt}
 use Rattle.mesh_list.proofs.Standing.{ascends_so_far}
-use Rattle.mesh_values.specs.declared.values.Name.{Name}
-use Rattle.mesh_values.specs.Names.{name_cmp}
-use Rattle.mesh_values.specs.NameOrder.{names_total}
+use Rattle.mesh_base_values.specs.declared.values.Name.{Name}
+use Rattle.mesh_base_values.specs.Names.{name_cmp}
+use Rattle.mesh_base_values.specs.NameOrder.{names_total}
 use Rattle.mesh_resolve.proofs.catalog.is_ascending.Goals as goal
 
 pub loop-i-preserved : goal.loop-i-preserved

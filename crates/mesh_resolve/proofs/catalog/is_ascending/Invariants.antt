@@ -1,6 +1,6 @@
 use Rattle.std.proofs.Common.{◌≡◌, true, take, length}
 use Rattle.mesh_list.specs.Keyed.{ascends}
-use Rattle.mesh_values.specs.Names.{name_cmp}
+use Rattle.mesh_base_values.specs.Names.{name_cmp}
 use Rattle.mesh_resolve.proofs.catalog.is_ascending.Given as goal
 
 abbrev pub invariant-loop-i : goal.invariant-loop-i

@@ -1,6 +1,6 @@
 use Rattle.std.proofs.Common.{◌-◌, ◌≤◌, length}
 use Rattle.mesh_list.specs.Keyed.{place_of}
-use Rattle.mesh_values.specs.Names.{name_cmp}
+use Rattle.mesh_base_values.specs.Names.{name_cmp}
 use Rattle.mesh_resolve.proofs.catalog.seek.Given as goal
 
 abbrev pub invariant-loop-low : goal.invariant-loop-low

@@ -1,5 +1,5 @@
 use Rattle.std.proofs.Common.{sym, ◌∙◌}
-use Rattle.mesh_selects.proofs.outputs.Places.{no_place}
+use Rattle.mesh_resolve_selects.proofs.outputs.Places.{no_place}
 use Rattle.mesh_resolve.proofs.queries.cte.Goals as goal
 
 pub push-requires : goal.push-requires

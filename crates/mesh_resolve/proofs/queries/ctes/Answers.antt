@@ -1,7 +1,7 @@
 use Rattle.std.proofs.Common.{[]}
 use Rattle.std.proofs.lemmas.Result.{err_from_is_err_and}
 use Rattle.mesh_resolve.specs.Queries.{cte}
-use Rattle.mesh_selects.proofs.outputs.Steps.{one_more, stops}
+use Rattle.mesh_resolve_selects.proofs.outputs.Steps.{one_more, stops}
 use Rattle.mesh_resolve.proofs.queries.ctes.Goals as goal
 
 pub returns-in_err-cte : goal.returns-in_err-cte

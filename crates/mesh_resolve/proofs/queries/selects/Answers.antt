@@ -1,10 +1,10 @@
 use Rattle.std.proofs.Common.{[], ◌∷◌, ◌++◌, Ok, sym, ap, subst, ◌∙◌}
 use Rattle.std.proofs.lemmas.Result.{err_from_is_err_and}
-use Rattle.mesh_tokens.specs.Gives.{◌>>=◌, Refuses}
-use Rattle.mesh_tokens.specs.Walk.{along}
+use Rattle.mesh_query_tokens.specs.Gives.{◌>>=◌, Refuses}
+use Rattle.mesh_query_tokens.specs.Walk.{along}
 use Rattle.mesh_resolve.specs.Queries.{one_select, selects}
 use Rattle.mesh_resolve.specs.Selects.{select}
-use Rattle.mesh_selects.proofs.outputs.Steps.{one_more, refused_on, stops}
+use Rattle.mesh_resolve_selects.proofs.outputs.Steps.{one_more, refused_on, stops}
 use Rattle.mesh_resolve.proofs.queries.selects.Goals as goal
 
 pub returns-in_err-side : goal.returns-in_err-side

@@ -1,6 +1,6 @@
 use Rattle.std.proofs.lemmas.Result.{err_from_is_err_and}
 use Rattle.mesh_resolve.specs.Relations.{joined}
-use Rattle.mesh_selects.proofs.outputs.Steps.{one_more, stops}
+use Rattle.mesh_resolve_selects.proofs.outputs.Steps.{one_more, stops}
 use Rattle.mesh_resolve.proofs.relations.all_joined.Goals as goal
 
 pub returns-in_err-joined : goal.returns-in_err-joined

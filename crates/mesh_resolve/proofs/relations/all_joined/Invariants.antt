@@ -1,5 +1,5 @@
 use Rattle.std.proofs.Common.{◌≡◌, take, Ok}
-use Rattle.mesh_tokens.specs.Walk.{along}
+use Rattle.mesh_query_tokens.specs.Walk.{along}
 use Rattle.mesh_resolve.specs.Relations.{joined}
 use Rattle.mesh_resolve.proofs.relations.all_joined.Given as goal
 

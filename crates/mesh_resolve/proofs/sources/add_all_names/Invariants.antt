@@ -1,5 +1,5 @@
 use Rattle.std.proofs.Common.{◌≡◌, ◌++◌, take}
-use Rattle.mesh_rules.specs.Proper.{names_of_all}
+use Rattle.mesh_base.specs.rules.Proper.{names_of_all}
 use Rattle.mesh_resolve.proofs.sources.add_all_names.Given as goal
 
 abbrev pub invariant-loop-c : goal.invariant-loop-c

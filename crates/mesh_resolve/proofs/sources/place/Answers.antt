@@ -3,7 +3,7 @@ use Rattle.std.proofs.Math.ListN.{set}
 use Rattle.std.specs.Ordering.{is_eq}
 use Rattle.mesh_list.specs.Keyed.{place_of}
 use Rattle.mesh_list.proofs.Standing.{put_over, put_between, put_last}
-use Rattle.mesh_values.specs.Names.{name_cmp}
+use Rattle.mesh_base_values.specs.Names.{name_cmp}
 use Rattle.mesh_resolve.specs.Relations.{decl_name}
 use Rattle.mesh_resolve.proofs.sources.place.Goals as goal
 

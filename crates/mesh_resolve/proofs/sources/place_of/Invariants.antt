@@ -1,6 +1,6 @@
 use Rattle.std.proofs.Common.{◌≡◌, ◌+◌, drop}
 use Rattle.mesh_list.specs.Keyed.{place_of}
-use Rattle.mesh_values.specs.Names.{name_cmp}
+use Rattle.mesh_base_values.specs.Names.{name_cmp}
 use Rattle.mesh_resolve.specs.Relations.{decl_name}
 use Rattle.mesh_resolve.proofs.sources.place_of.Given as goal
 

@@ -1,5 +1,5 @@
 use Rattle.std.proofs.Common.{◌≡◌, ◌&&◌, false}
-use Rattle.mesh_values.specs.Crons.{has, has_day, some_below}
+use Rattle.mesh_base_values.specs.Crons.{has, has_day, some_below}
 use Rattle.mesh_time.proofs.crontab.has_date.Given as goal
 
 abbrev pub invariant-loop-month : goal.invariant-loop-month

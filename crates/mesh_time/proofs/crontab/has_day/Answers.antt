@@ -1,5 +1,5 @@
 use Rattle.std.proofs.Common.{◌∙◌, ◌+◌, ◌&&◌, nat_lt, sym}
-use Rattle.mesh_values.specs.Crons.{has, has_day, longest}
+use Rattle.mesh_base_values.specs.Crons.{has, has_day, longest}
 use Rattle.mesh_time.proofs.SetLaws.{some_from, some_more, some_none}
 use Rattle.mesh_time.proofs.crontab.has_day.Goals as goal
 

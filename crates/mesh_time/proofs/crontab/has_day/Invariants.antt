@@ -1,5 +1,5 @@
 use Rattle.std.proofs.Common.{◌≡◌, ◌&&◌, ◌+◌, false, nat_lt}
-use Rattle.mesh_values.specs.Crons.{has, longest, some_below}
+use Rattle.mesh_base_values.specs.Crons.{has, longest, some_below}
 use Rattle.mesh_time.proofs.crontab.has_day.Given as goal
 
 abbrev pub invariant-loop-day : goal.invariant-loop-day

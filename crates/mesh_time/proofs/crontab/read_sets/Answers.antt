@@ -1,6 +1,6 @@
 use Rattle.std.proofs.Common.{◌≤◌, ◌<◌, ◌∙◌, ap, subst, sym, IsTrue, Ok}
 use Rattle.std.proofs.lemmas.Bool.{lt-ltb, le-ltb}
-use Rattle.mesh_values.specs.Crons.{is_cron}
+use Rattle.mesh_base_values.specs.Crons.{is_cron}
 use Rattle.mesh_time.specs.CronText.{sets_of}
 use Rattle.mesh_time.proofs.MadeCron.{all_well, cron_made, matching_is, never_is, no_tick, sets_made, too_fine}
 use Rattle.mesh_time.proofs.crontab.read_sets.Goals as goal

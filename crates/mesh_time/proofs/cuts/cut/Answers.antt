@@ -2,7 +2,7 @@ use Rattle.std.proofs.Common.{◌∙◌, ap, w64, rules, get_or, pos, List}
 use Rattle.std.specs.Prelude.{FitsSigned}
 use Rattle.std.proofs.lemmas.Int.{to_z-of_z}
 use Rattle.std.proofs.lemmas.List.{take_rest}
-use Rattle.mesh_values.specs.declared.times.Bounds.{Bounds}
+use Rattle.mesh_base_values.specs.declared.times.Bounds.{Bounds}
 use Rattle.mesh_time.specs.Edits.{spans_without_each}
 use Rattle.mesh_time.proofs.Apart.{lt_says, lt_not}
 use Rattle.mesh_time.proofs.Without.{beyond, goes_on, rest_goes_on, order_goes_on}

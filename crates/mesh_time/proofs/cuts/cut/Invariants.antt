@@ -1,5 +1,5 @@
 use Rattle.std.proofs.Common.{◌≡◌, true, List, ◌++◌, drop}
-use Rattle.mesh_values.specs.declared.times.Bounds.{Bounds}
+use Rattle.mesh_base_values.specs.declared.times.Bounds.{Bounds}
 use Rattle.mesh_time.specs.Ranges.{is_apart_after}
 use Rattle.mesh_time.specs.Edits.{filled, rises, spans_without_each}
 use Rattle.mesh_time.proofs.cuts.cut.Given as goal

@@ -1,5 +1,5 @@
 use Rattle.std.proofs.Common.{subst, ◌≤◌, List, length, pos}
-use Rattle.mesh_values.specs.declared.times.Bounds.{Bounds}
+use Rattle.mesh_base_values.specs.declared.times.Bounds.{Bounds}
 use Rattle.mesh_time.proofs.Without.{all_cut, rest_apart, span_cut}
 use Rattle.mesh_time.proofs.cuts.cut_all.Goals as goal
 

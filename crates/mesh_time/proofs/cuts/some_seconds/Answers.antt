@@ -1,7 +1,7 @@
 use Rattle.std.proofs.Common.{◌∙◌, ap, ◌++◌, ◌∷◌, [], List, filter, get_or, pos, sym}
 use Rattle.std.specs.Int.Signed.{lt_z}
 use Rattle.std.proofs.lemmas.List.Elements.{filter_more}
-use Rattle.mesh_values.specs.declared.times.Bounds.{Bounds}
+use Rattle.mesh_base_values.specs.declared.times.Bounds.{Bounds}
 use Rattle.mesh_time.proofs.cuts.some_seconds.Goals as goal
 
 abbrev none : Bounds

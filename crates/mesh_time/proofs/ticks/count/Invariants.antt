@@ -1,5 +1,5 @@
 use Rattle.std.proofs.Common.{◌≡◌, ◌≤◌}
-use Rattle.mesh_values.specs.Crons.{count_below, has}
+use Rattle.mesh_base_values.specs.Crons.{count_below, has}
 use Rattle.mesh_time.proofs.ticks.count.Given as goal
 
 abbrev pub invariant-loop-value : goal.invariant-loop-value

@@ -1,6 +1,6 @@
 use Rattle.std.proofs.Common.{sym, subst, rules, FitsSigned, w64, ℤ}
 use Rattle.std.proofs.lemmas.Int.{to_z-of_z}
-use Rattle.mesh_days.specs.Moments.{moment}
+use Rattle.mesh_time_days.specs.Moments.{moment}
 use Rattle.mesh_time.specs.Ticks.{IsFloor}
 use Rattle.mesh_time.proofs.TickLaws.{from_epoch}
 use Rattle.mesh_time.proofs.ticks.floor.Goals as goal

@@ -1,5 +1,5 @@
 use Rattle.std.proofs.Common.{◌-◌}
-use Rattle.mesh_days.specs.Moments.{moment}
+use Rattle.mesh_time_days.specs.Moments.{moment}
 use Rattle.mesh_time.specs.Ticks.{IsQuiet}
 use Rattle.mesh_time.proofs.ticks.last_before.Given as goal
 

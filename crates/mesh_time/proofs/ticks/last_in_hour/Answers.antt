@@ -1,5 +1,5 @@
 use Rattle.std.proofs.Common.{◌∙◌, ap, sym, arith}
-use Rattle.mesh_values.specs.Crons.{has, CronSets}
+use Rattle.mesh_base_values.specs.Crons.{has, CronSets}
 use Rattle.mesh_time.proofs.TickLaws.{hour_off}
 use Rattle.mesh_time.proofs.ticks.last_in_hour.Goals as goal
 

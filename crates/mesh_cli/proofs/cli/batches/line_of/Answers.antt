@@ -1,6 +1,6 @@
 use Rattle.std.proofs.Common.{List, ℕ, sym, ◌∙◌, ap, subst}
-use Rattle.mesh_line.specs.Lines.{IsLine}
-use Rattle.mesh_options.specs.scripts.Scripts.{words_of}
+use Rattle.mesh_cli_words.specs.Lines.{IsLine}
+use Rattle.mesh_cli_values.specs.scripts.Scripts.{words_of}
 use Rattle.mesh_cli.proofs.cli.Fitting.{fits}
 use Rattle.mesh_cli.proofs.cli.Lining.{line_fit, line_usage}
 use Rattle.mesh_cli.proofs.cli.batches.line_of.Goals as goal

@@ -1,6 +1,6 @@
 use Rattle.std.proofs.Common.{drop}
 use Rattle.mesh_cli.specs.cli.Sides.{sides}
-use Rattle.mesh_printed.specs.printed.Printing.{sinks}
+use Rattle.mesh_cli_print.specs.printed.Printing.{sinks}
 use Rattle.mesh_cli.proofs.cli.Scripting.{GoesOn}
 use Rattle.mesh_cli.proofs.cli.batches.steps.Given as goal
 

@@ -1,5 +1,5 @@
 use Rattle.std.proofs.Common.{Err, ap}
-use Rattle.mesh_printed.specs.declared.printed.refusals.Refusal.{Refusal}
+use Rattle.mesh_cli_print.specs.declared.printed.refusals.Refusal.{Refusal}
 use Rattle.mesh_cli.specs.cli.Scripts.{IsTextLine}
 use Rattle.mesh_cli.proofs.cli.Asking.{asked_answered, asked_refused, not_batch}
 use Rattle.mesh_cli.proofs.cli.batches.text_answer.Goals as goal

@@ -1,5 +1,5 @@
 use Rattle.std.proofs.Common.{sym, subst}
-use Rattle.mesh_line.specs.declared.line.Command.{Command}
+use Rattle.mesh_cli_words.specs.declared.line.Command.{Command}
 use Rattle.mesh_cli.specs.cli.Ends.{Commanded}
 use Rattle.mesh_cli.specs.cli.Sides.{sides}
 use Rattle.mesh_cli.proofs.cli.command.answered.Goals as goal

@@ -1,6 +1,6 @@
 use Rattle.std.proofs.Common.{Bool, sym, subst}
 use Rattle.std.specs.Option.{option_copied}
-use Rattle.mesh_line.specs.declared.line.Command.TheVariants.{Plan}
+use Rattle.mesh_cli_words.specs.declared.line.Command.TheVariants.{Plan}
 use Rattle.mesh_cli.specs.cli.Ends.{Commanded}
 use Rattle.mesh_cli.specs.cli.Sides.{sides}
 use Rattle.mesh_cli.proofs.cli.command.planned_or_applied.Goals as goal

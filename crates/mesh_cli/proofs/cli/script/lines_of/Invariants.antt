@@ -1,5 +1,5 @@
 use Rattle.std.proofs.Common.{◌≡◌, ◌++◌, drop}
-use Rattle.mesh_options.specs.scripts.Scripts.{lines, lines_from}
+use Rattle.mesh_cli_values.specs.scripts.Scripts.{lines, lines_from}
 use Rattle.mesh_cli.proofs.cli.script.lines_of.Given as goal
 
 -- the lines so far, and those of the bytes that are left

@@ -1,5 +1,5 @@
 use Rattle.std.proofs.Common.{refl, sym, ◌∙◌}
-use Rattle.mesh_line.specs.Lines.{IsLine}
+use Rattle.mesh_cli_words.specs.Lines.{IsLine}
 use Rattle.mesh_cli.specs.cli.Scripts.{asked, batch}
 use Rattle.mesh_cli.proofs.cli.Asking.{asked_answered}
 use Rattle.mesh_cli.proofs.cli.top.done.Goals as goal

@@ -1,8 +1,8 @@
 use Rattle.std.proofs.Common.{Err, refl, ap, subst}
-use Rattle.mesh_line.specs.Lines.{IsLine}
-use Rattle.mesh_line.specs.declared.line.UsageFault.{UsageFault}
-use Rattle.mesh_printed.specs.declared.printed.refusals.Refusal.{Refusal}
-use Rattle.mesh_printed.specs.printed.Printing.{Printed, sinks}
+use Rattle.mesh_cli_words.specs.Lines.{IsLine}
+use Rattle.mesh_cli_words.specs.declared.line.UsageFault.{UsageFault}
+use Rattle.mesh_cli_print.specs.declared.printed.refusals.Refusal.{Refusal}
+use Rattle.mesh_cli_print.specs.printed.Printing.{Printed, sinks}
 use Rattle.mesh_cli.specs.cli.Scripts.{asked, of_usage}
 use Rattle.mesh_cli.proofs.cli.Asking.{asked_refused, of_usage_is, usage_is}
 use Rattle.mesh_cli.proofs.cli.Fitting.{fits}

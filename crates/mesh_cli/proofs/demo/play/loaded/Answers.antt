@@ -1,6 +1,6 @@
 use Rattle.std.proofs.Common.{false, refl}
 use Rattle.mesh_io.specs.Held.{folder_told}
-use Rattle.mesh_asking.specs.upkeep.Ingesting.{IngestGives, IngestMakes}
+use Rattle.mesh_cli_look.specs.upkeep.Ingesting.{IngestGives, IngestMakes}
 use Rattle.mesh_cli.specs.demo.Demos.{ProdApplied, here, nothing, orders_name, orders_path}
 use Rattle.mesh_cli.proofs.demo.Playing.{at_value, ended_by, still, went_by}
 use Rattle.mesh_cli.proofs.demo.play.loaded.Goals as goal

@@ -1,5 +1,5 @@
 use Rattle.std.proofs.Common.{codes}
-use Rattle.mesh_applying.specs.Applying.{RunGives, RunMakes}
+use Rattle.mesh_cli_apply.specs.Applying.{RunGives, RunMakes}
 use Rattle.mesh_cli.specs.demo.Demos.{DevRan, late, prod, units_of}
 use Rattle.mesh_cli.proofs.demo.Playing.{at_value, ended_by, went_on}
 use Rattle.mesh_cli.proofs.demo.play.prod_ran.Goals as goal

@@ -1,6 +1,6 @@
 use Rattle.std.proofs.Common.{◌∙◌, ap}
 use Rattle.std.proofs.lemmas.Result.{on_ok_weaker, on_err_weaker}
-use Rattle.mesh_book.specs.Changes.{delete_snapshot}
+use Rattle.mesh_house_book.specs.Changes.{delete_snapshot}
 use Rattle.mesh_house.specs.declared.world.World.{World}
 use Rattle.mesh_house.specs.Gone.{thinned}
 use Rattle.mesh_house.specs.Step.{with_book}

@@ -1,6 +1,6 @@
 use Rattle.mesh_list.proofs.Ascends.{ascends-placed}
-use Rattle.mesh_values.specs.Names.{name_cmp}
-use Rattle.mesh_values.specs.NameOrder.{names_total}
+use Rattle.mesh_base_values.specs.Names.{name_cmp}
+use Rattle.mesh_base_values.specs.NameOrder.{names_total}
 use Rattle.mesh_house.specs.Objects.{object_name, is_physical}
 use Rattle.mesh_house.proofs.Tested.{all-placed}
 use Rattle.mesh_house.proofs.objects.Objects.place.Goals as goal

@@ -1,5 +1,5 @@
-use Rattle.mesh_values.specs.Names.{name_cmp}
-use Rattle.mesh_values.specs.NameOrder.{names_total}
+use Rattle.mesh_base_values.specs.Names.{name_cmp}
+use Rattle.mesh_base_values.specs.NameOrder.{names_total}
 use Rattle.mesh_house.specs.Objects.{object_name, is_physical}
 use Rattle.mesh_house.specs.Outside.{stays}
 use Rattle.mesh_house.proofs.Thinned.{ascends_left, all_left}

@@ -1,5 +1,5 @@
 use Rattle.std.proofs.Common.{not, ap}
-use Rattle.mesh_values.specs.Names.{name_cmp}
+use Rattle.mesh_base_values.specs.Names.{name_cmp}
 use Rattle.mesh_house.specs.Objects.{is_physical}
 use Rattle.mesh_base.specs.Keys.{input_name}
 use Rattle.mesh_house.proofs.Tested.{all-placed}

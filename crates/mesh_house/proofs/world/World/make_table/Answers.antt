@@ -1,8 +1,8 @@
 use Rattle.std.proofs.Common.{◌≡◌, ◌∙◌, refl}
 use Rattle.std.specs.declared.option.Option.{Option}
 use Rattle.std.proofs.lemmas.Result.{IfOk-at_ok, on_err_weaker}
-use Rattle.mesh_book.specs.declared.versions.Version.{Version}
-use Rattle.mesh_book.specs.Changes.{as_table}
+use Rattle.mesh_house_book.specs.declared.versions.Version.{Version}
+use Rattle.mesh_house_book.specs.Changes.{as_table}
 use Rattle.mesh_house.specs.World.{version_of}
 use Rattle.mesh_house.proofs.Undone.{all_undone}
 use Rattle.mesh_house.proofs.world.World.make_table.Goals as goal

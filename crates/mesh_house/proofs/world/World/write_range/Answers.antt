@@ -1,7 +1,7 @@
 use Rattle.std.proofs.Common.{◌≡◌, true, rules, ◌∙◌, ap, List, Result, Ok, IfOk, ℤ, to_z, of_z, w64, FitsSigned}
 use Rattle.std.proofs.lemmas.Result.{IfOk-at_ok}
-use Rattle.mesh_values.specs.declared.values.Cell.{Cell}
-use Rattle.mesh_values.specs.declared.values.Name.{Name}
+use Rattle.mesh_base_values.specs.declared.values.Cell.{Cell}
+use Rattle.mesh_base_values.specs.declared.values.Name.{Name}
 use Rattle.mesh_house.specs.declared.objects.Object.{Object}
 use Rattle.std.proofs.lemmas.Int.{to_z-of_z}
 use Rattle.std.proofs.lemmas.Result.{on_ok_weaker, on_err_weaker}

@@ -1,7 +1,7 @@
 use Rattle.std.proofs.Common.{[], get_or, ◌∙◌, sym, ap, subst}
 use Rattle.std.proofs.lemmas.Result.{err_from_is_err_and}
 use Rattle.mesh_project.specs.declared.order.readers.Ranked.{Ranked}
-use Rattle.mesh_files.specs.files.Loading.{Refuses}
+use Rattle.mesh_project_files.specs.Loading.{Refuses}
 use Rattle.mesh_project.specs.nodes.Nodes.{with_model}
 use Rattle.mesh_project.proofs.nodes.Steps.{one_more_at, stops_at}
 use Rattle.mesh_project.proofs.nodes.nodes.nodes_of.Goals as goal

@@ -1,5 +1,5 @@
 use Rattle.std.proofs.Common.{◌≡◌, ◌∙◌, ap, subst}
-use Rattle.mesh_files.specs.files.Loading.{Gives, in_file}
+use Rattle.mesh_project_files.specs.Loading.{Gives, in_file}
 use Rattle.mesh_resolve.specs.Owns.{own}
 use Rattle.mesh_project.specs.nodes.Nodes.{known_to, parents_of}
 use Rattle.mesh_project.proofs.nodes.Tables.{named_suffice}

@@ -1,7 +1,7 @@
 use Rattle.std.proofs.Common.{◌≡◌, ◌++◌, List, OnOk, ap, subst, ◌∙◌}
 use Rattle.std.specs.List.{flat_map}
-use Rattle.mesh_values.specs.declared.values.Name.{Name}
-use Rattle.mesh_surface.specs.declared.queries.SurfaceJoin.{SurfaceJoin}
+use Rattle.mesh_base_values.specs.declared.values.Name.{Name}
+use Rattle.mesh_query_grammar.specs.declared.surface.queries.SurfaceJoin.{SurfaceJoin}
 use Rattle.mesh_project.specs.nodes.Reads.{join_reads, rel_reads}
 use Rattle.mesh_project.proofs.nodes.reads.add_from.Goals as goal
 

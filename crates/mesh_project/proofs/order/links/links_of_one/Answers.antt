@@ -2,7 +2,7 @@ use Rattle.std.proofs.Common.{ℕ, ◌++◌, ◌∙◌, ap}
 use Rattle.std.specs.Option.{option_to_list}
 use Rattle.std.specs.declared.option.Option.{Option}
 use Rattle.std.specs.BTreeMap.{get}
-use Rattle.mesh_values.specs.Names.{name_cmp}
+use Rattle.mesh_base_values.specs.Names.{name_cmp}
 use Rattle.mesh_project.proofs.order.Places.{found_more}
 use Rattle.mesh_project.proofs.order.links.links_of_one.Goals as goal
 

@@ -1,6 +1,6 @@
 use Rattle.std.specs.BTreeMap.{get}
-use Rattle.mesh_values.specs.declared.values.Name.{Name}
-use Rattle.mesh_values.specs.Names.{name_cmp}
+use Rattle.mesh_base_values.specs.declared.values.Name.{Name}
+use Rattle.mesh_base_values.specs.Names.{name_cmp}
 use Rattle.mesh_project.specs.order.Links.{IsPlaceOf}
 use Rattle.mesh_project.proofs.order.links.places_of.Given as goal
 

@@ -1,7 +1,7 @@
 use Rattle.std.proofs.Common.{Ok, Err}
-use Rattle.mesh_rules.specs.Proper.{ProjectNodes}
-use Rattle.mesh_files.specs.files.Project.{AreFiles}
-use Rattle.mesh_files.proofs.files.Asking.{asks_alone, asks_err}
+use Rattle.mesh_base.specs.rules.Proper.{ProjectNodes}
+use Rattle.mesh_project_files.specs.Project.{AreFiles}
+use Rattle.mesh_project_files.proofs.Asking.{asks_alone, asks_err}
 use Rattle.mesh_project.specs.project.Project.{IsLoaded}
 use Rattle.mesh_project.proofs.project.Kept.{all_whole}
 use Rattle.mesh_project.proofs.project.Meant.{refuses_itself}

@@ -1,8 +1,8 @@
 use Rattle.std.proofs.Common.{◌≡◌, ◌≤◌, length, ◌∙◌, true, map, sym, ap, subst, Ok}
 use Rattle.std.proofs.lemmas.Result.{err_from_is_err_and}
-use Rattle.mesh_rules.specs.Proper.{is_proper}
+use Rattle.mesh_base.specs.rules.Proper.{is_proper}
 use Rattle.mesh_project.specs.order.Order.{AreApart, IsOrder}
-use Rattle.mesh_files.specs.files.Loading.{Refuses}
+use Rattle.mesh_project_files.specs.Loading.{Refuses}
 use Rattle.mesh_project.specs.nodes.Nodes.{nodes_of}
 use Rattle.mesh_project.specs.project.Project.{TellsCycle, reader_of}
 use Rattle.mesh_project.proofs.project.Alone.{readers_apart}

@@ -1,5 +1,0 @@
-use Rattle.mesh_along.proofs.Along.{along_front}
-use Rattle.mesh_along.proofs.laws.worlds_are_sound_at_every_exit.Goals as goal
-
-pub returns : goal.returns
-returns c = along_front

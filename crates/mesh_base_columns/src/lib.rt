@@ -1,0 +1,7 @@
+//! The columns of a model. Its contract: `columns_of` gives the columns that a definition has, and `select_columns` those
+//! of a query. It stands on `mesh_list`, `mesh_base_values` and `mesh_base`.
+#![tactic(auto)]
+
+mod outputs;
+
+pub use outputs::{columns_of, select_columns};

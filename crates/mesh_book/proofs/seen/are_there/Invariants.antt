@@ -1,7 +1,0 @@
-use Rattle.std.proofs.Common.{◌≡◌, take}
-use Rattle.mesh_rules.specs.Seen.{are_there}
-use Rattle.mesh_book.specs.WellFormed.{relations_of}
-use Rattle.mesh_book.proofs.seen.are_there.Given as goal
-
-abbrev pub invariant-loop-f : goal.invariant-loop-f
-invariant-loop-f l = l.each ≡ are_there (relations_of l.all l.s) l.ctes (take l.f-index l.from)

@@ -1,7 +1,0 @@
-use Rattle.std.proofs.Common.{◌≡◌, take}
-use Rattle.mesh_rules.specs.Seen.{items_see}
-use Rattle.mesh_book.specs.WellFormed.{tables_in}
-use Rattle.mesh_book.proofs.seen.sees_items.Given as goal
-
-abbrev pub invariant-loop-item : goal.invariant-loop-item
-invariant-loop-item l = l.each ≡ items_see (tables_in l.all l.s l.ctes l.from) (take l.item-index l.items)

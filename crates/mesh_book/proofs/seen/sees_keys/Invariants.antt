@@ -1,7 +1,0 @@
-use Rattle.std.proofs.Common.{◌≡◌, take}
-use Rattle.mesh_rules.specs.Seen.{keys_see}
-use Rattle.mesh_book.specs.WellFormed.{tables_in}
-use Rattle.mesh_book.proofs.seen.sees_keys.Given as goal
-
-abbrev pub invariant-loop-key : goal.invariant-loop-key
-invariant-loop-key l = l.each ≡ keys_see (tables_in l.all l.s l.ctes l.from) (take l.key-index l.keys)

@@ -1,0 +1,7 @@
+use Rattle.mesh_cli_words.proofs.apps.plan_command.Goals as goal
+
+pub returns-clause-app : goal.returns-clause-app
+returns-clause-app c = c.with_arg.ensures.app _ _ c.flag-apply.ensures.rule c.repeatable.ensures.app
+
+pub returns-clause-local : goal.returns-clause-local
+returns-clause-local c = c.with_arg.ensures.local c.repeatable.ensures.local

@@ -1,2 +1,0 @@
--- Moments: days and moments, their texts, and the time value of a cell.
-pub mod Moments

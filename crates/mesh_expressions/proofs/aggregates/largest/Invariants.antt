@@ -1,8 +1,0 @@
-use Rattle.std.proofs.Common.{◌≡◌, take}
-use Rattle.std.specs.List.{fold}
-use Rattle.mesh_values.specs.declared.values.Cell.TheVariants.{Null}
-use Rattle.mesh_meaning.specs.Aggregates.{larger}
-use Rattle.mesh_expressions.proofs.aggregates.largest.Given as goal
-
-abbrev pub invariant-loop-c : goal.invariant-loop-c
-invariant-loop-c l = l.best ≡ fold larger Null (take l.c-index l.cells)

@@ -1,2 +1,0 @@
--- Frames: what a bound expression is given, as a frame has it.
-pub mod Frames

@@ -1,6 +1,0 @@
-use Rattle.std.proofs.Common.{◌≡◌, take, filter}
-use Rattle.mesh_files.specs.files.Places.{is_read}
-use Rattle.mesh_files.proofs.files.files.only_read.Given as goal
-
-abbrev pub invariant-loop-path : goal.invariant-loop-path
-invariant-loop-path l = l.kept.items ≡ filter is_read (take l.path-index l.paths)

@@ -1,9 +1,0 @@
-use Rattle.std.proofs.Common.{◌≡◌, ◌≤◌, take, filter, length}
-use Rattle.mesh_files.specs.files.Places.{is_sql}
-use Rattle.mesh_files.proofs.files.files.sql_count.Given as goal
-
-abbrev pub invariant-loop-path : goal.invariant-loop-path
-invariant-loop-path l = record {
-  within : l.count ≤ l.path-index;
-  counted : l.count ≡ length (filter is_sql (take l.path-index l.paths));
-}

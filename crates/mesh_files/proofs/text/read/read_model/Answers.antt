@@ -1,6 +1,0 @@
-use Rattle.std.proofs.Common.{Err}
-use Rattle.mesh_tokens.specs.declared.faults.ReadFault.TheVariants as faults
-use Rattle.mesh_files.proofs.text.read.read_model.Goals as goal
-
-pub returns-in-Err : goal.returns-in-Err
-returns-in-Err c = (Err faults.Memory, tt, tt)

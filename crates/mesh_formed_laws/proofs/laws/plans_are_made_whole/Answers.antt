@@ -1,8 +1,0 @@
-use Rattle.mesh_formed_laws.proofs.Commands.{applies_whole, runs_whole}
-use Rattle.mesh_formed_laws.proofs.laws.plans_are_made_whole.Goals as goal
-
-pub returns-clause-applies : goal.returns-clause-applies
-returns-clause-applies c = applies_whole
-
-pub returns-clause-runs : goal.returns-clause-runs
-returns-clause-runs c = runs_whole

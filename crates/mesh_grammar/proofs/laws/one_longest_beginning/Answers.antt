@@ -1,5 +1,0 @@
-use Rattle.mesh_grammar.proofs.Faults.{one_longest}
-use Rattle.mesh_grammar.proofs.laws.one_longest_beginning.Goals as goal
-
-pub returns : goal.returns
-returns c = one_longest

@@ -1,6 +1,0 @@
-//! Rows as the evaluator holds them: `index` finds rows by what they are, and `joined` has rows side by side where they lie.
-//! Each module says its contract; they stand on the definitions of `mesh_meaning`.
-#![tactic(auto)]
-
-pub mod index;
-pub mod joined;

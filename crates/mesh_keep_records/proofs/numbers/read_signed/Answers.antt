@@ -1,0 +1,23 @@
+use Rattle.std.proofs.Common.{◌≡◌, sym, ap, ◌∙◌, arith}
+use Rattle.std.specs.Fmt.{signed_decimal}
+use Rattle.std.proofs.lemmas.Int.{to_z-of_z}
+use Rattle.std.proofs.lemmas.Result.{err_from_is_err_and}
+use Rattle.mesh_canon_reading.proofs.Exact.{differs, refused}
+use Rattle.mesh_keep_records.specs.Parts.{signed_in}
+use Rattle.mesh_keep_records.proofs.Again.{signed_is_read}
+use Rattle.mesh_keep_records.proofs.numbers.read_signed.Goals as goal
+
+pub returns-in_err-made-clause-only : goal.returns-in_err-made-clause-only
+returns-in_err-made-clause-only c = λ x fits is.
+    let p = err_from_is_err_and c.from_residual.result c.from_residual.ensures.1 in
+    rw (p.1, p.2) (refused c.in_err-made.field-0.0 (signed_in c.args.bytes.now) x c.in_err-made.ensures (ap signed_in is ∙ signed_is_read x fits))
+
+pub returns-then-is_same-clause-only : goal.returns-then-is_same-clause-only
+returns-then-is_same-clause-only c = λ x fits is.
+    let h = sym (ap signed_in is ∙ signed_is_read x fits) ∙ c.in_ok-made.ensures in
+    grind (arith, to_z-of_z)
+
+pub returns-clause-only : goal.returns-clause-only
+returns-clause-only c = λ x fits is.
+    let written : c.as_slice.result.now ≡ signed_decimal c.in_ok-made.made = grind (arith, to_z-of_z) in
+    absurd (differs signed_decimal signed_in c.in_ok-made.made x c.args.bytes.now c.as_slice.result.now c.is_same.result (signed_is_read x fits) is c.in_ok-made.ensures written c.is_same.ensures c.if-is_same.false)

@@ -1,6 +1,0 @@
-use Rattle.std.proofs.Common.{◌≡◌, take, map}
-use Rattle.mesh_kept.specs.touched.Touched.{forget_thing}
-use Rattle.mesh_kept.proofs.touched.listing.units.Given as goal
-
-abbrev pub invariant-loop-forget : goal.invariant-loop-forget
-invariant-loop-forget l = l.made ≡ map forget_thing (take l.forget-index l.list)

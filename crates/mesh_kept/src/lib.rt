@@ -1,9 +1,0 @@
-//! A warehouse over the records of a keeper: `bodies` writes what records say, `touched` tells which records a change is about,
-//! `stored` reads the world that records say, and `kept` is the warehouse. Each module says its contract; they stand on
-//! `mesh_keep` for what it is to know a world, and on `mesh_record_text` and `mesh_record_reading` for texts.
-#![tactic(auto)]
-
-pub mod bodies;
-pub mod kept;
-pub mod stored;
-pub mod touched;

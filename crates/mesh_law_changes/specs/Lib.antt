@@ -1,0 +1,2 @@
+-- along: the definitions of the module `along`.
+pub mod along

@@ -1,0 +1,2 @@
+-- isolation: the definitions of the module `isolation`.
+pub mod isolation

@@ -1,0 +1,8 @@
+//! What the views of a world that is kept well show, each the contract of a function with an empty body: each of them shows rows,
+//! whatever is in doubt; the models of a plan look at nothing but themselves and models before them; and a sweep leaves the
+//! views of each environment that stays, at every exit. It stands on `mesh_spec_promise`, `mesh_law_plans::opens`, `mesh_law_plans::puts` and
+//! `mesh_law_upkeep::sweep`.
+
+mod laws;
+
+pub use laws::{every_view_shows_rows, plans_are_apart, sweeps_leave_other_views};

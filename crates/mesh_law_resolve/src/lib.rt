@@ -1,0 +1,17 @@
+//! The laws of resolving. Its contract: what a query is resolved to names only what is in sight, its items have distinct
+//! names and values of their types, and the definition of a model that is made of it is well formed. It stands on
+//! `mesh_resolve`, `mesh_spec_query` and `mesh_spec_model`, and says that rows fit columns in the words of `mesh_model_csv::seeds`.
+#![tactic(auto)]
+
+mod laws;
+mod sight;
+mod typing;
+
+pub use laws::{
+    named_models_are_parents, own_definitions_are_well_formed, own_definitions_keep_their_files,
+};
+pub use sight::{one_query_or_one_fault, output_names_are_distinct, what_is_resolved_is_in_sight};
+pub use typing::{
+    models_fill_their_columns, resolved_operands_fit, resolved_rows_fit_columns,
+    values_have_their_types,
+};

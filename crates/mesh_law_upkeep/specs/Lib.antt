@@ -1,0 +1,2 @@
+-- again: the definitions of the module `again`.
+pub mod again

@@ -1,5 +1,0 @@
-use Rattle.mesh_laws.proofs.ReadColumns.{exactly, once, of_one}
-use Rattle.mesh_laws.proofs.laws.definitions_read_what_they_name.Goals as goal
-
-pub returns : goal.returns
-returns c = record { exactly = exactly; once = once; of_one = of_one }

@@ -1,5 +1,0 @@
-use Rattle.mesh_laws.proofs.Projects.{stand_before, closures_there}
-use Rattle.mesh_laws.proofs.laws.parents_stand_before_their_models.Goals as goal
-
-pub returns : goal.returns
-returns c = record { earlier = stand_before; closures = closures_there }

@@ -1,5 +1,0 @@
-use Rattle.mesh_laws.proofs.Projects.{have_crons, find_all}
-use Rattle.mesh_laws.proofs.laws.proper_projects_find_all.Goals as goal
-
-pub returns : goal.returns
-returns c = record { crons = have_crons; found = find_all }

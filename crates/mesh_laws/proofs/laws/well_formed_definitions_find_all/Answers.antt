@@ -1,5 +1,0 @@
-use Rattle.mesh_laws.proofs.Finding.{queries_find, definitions_find, closures_find}
-use Rattle.mesh_laws.proofs.laws.well_formed_definitions_find_all.Goals as goal
-
-pub returns : goal.returns
-returns c = record { query = queries_find; definition = definitions_find; closure = closures_find }

@@ -1,7 +1,0 @@
-use Rattle.mesh_line.proofs.apps.invalidate_command.Goals as goal
-
-pub returns-clause-app : goal.returns-clause-app
-returns-clause-app c = c.with_arg.ensures.app _ _ c.needed_place-env.ensures.rule c.bare.ensures.app
-
-pub returns-clause-local : goal.returns-clause-local
-returns-clause-local c = c.with_arg.ensures.local c.bare.ensures.local

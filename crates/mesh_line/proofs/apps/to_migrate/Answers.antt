@@ -1,7 +1,0 @@
-use Rattle.mesh_line.proofs.apps.to_migrate.Goals as goal
-
-pub returns-clause-app : goal.returns-clause-app
-returns-clause-app c = c.with_command.ensures.app _ _ c.to_invalidate.ensures.app c.bare.ensures.app c.bare.ensures.local
-
-pub returns-clause-local : goal.returns-clause-local
-returns-clause-local c = c.with_command.ensures.local c.to_invalidate.ensures.local c.bare.ensures.local

@@ -1,5 +1,0 @@
-use Rattle.mesh_listed.proofs.Projects.{closures_are, closures_by_reference}
-use Rattle.mesh_listed.proofs.laws.projects_of_lists_have_the_closures_of_the_book.Goals as goal
-
-pub returns : goal.returns
-returns c = record { snapshots = closures_are; references = closures_by_reference }

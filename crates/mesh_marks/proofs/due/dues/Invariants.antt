@@ -1,9 +1,0 @@
-use Rattle.std.proofs.Common.{◌≡◌, map, take}
-use Rattle.mesh_scratch.specs.Closures.{closures}
-use Rattle.mesh_scratch.specs.Horizons.{Clock, horizon}
-use Rattle.mesh_due.specs.Dues.{dues}
-use Rattle.mesh_due.specs.Plans.{planned}
-use Rattle.mesh_marks.proofs.due.dues.Given as goal
-
-abbrev pub invariant-loop-at : goal.invariant-loop-at
-invariant-loop-at l = (clock : Clock) → l.horizons ≡ map (horizon clock) (closures l.nodes) → l.made ≡ dues clock l.b l.forgets (take l.at (planned l.nodes l.entries))

@@ -1,6 +1,0 @@
-use Rattle.std.proofs.Common.{take}
-use Rattle.mesh_marks.specs.Marked.{HaveSpots}
-use Rattle.mesh_marks.proofs.marks.spots_by_name.Given as goal
-
-abbrev pub invariant-loop-at : goal.invariant-loop-at
-invariant-loop-at l = HaveSpots l.nodes (take l.at l.nodes) l.seconds l.map.entries

@@ -1,6 +1,0 @@
-use Rattle.mesh_meaning.proofs.Keys.{of_group}
-use Rattle.mesh_meaning.proofs.Nodes.{of_key}
-use Rattle.mesh_meaning.proofs.laws.keys_keep_their_value_in_a_group.Goals as goal
-
-pub returns : goal.returns
-returns c = record { each_row = of_group; key_values = of_key }

@@ -1,6 +1,0 @@
-use Rattle.std.proofs.Common.{◌≡◌, take}
-use Rattle.mesh_meaning.specs.Cells.{coalesce}
-use Rattle.mesh_operators.proofs.texts.first_known.Given as goal
-
-abbrev pub invariant-loop-x : goal.invariant-loop-x
-invariant-loop-x l = l.first ≡ coalesce (take l.x-index l.x-items)

@@ -1,3 +1,0 @@
--- Held: a cell that lies elsewhere, or one that was made. Plain: a cell that owns no memory.
-pub mod Held
-pub mod Plain

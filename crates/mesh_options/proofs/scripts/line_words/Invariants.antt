@@ -1,8 +1,0 @@
-use Rattle.std.proofs.Common.{◌≡◌, drop}
-use Rattle.mesh_options.specs.scripts.Scripts.{words_of}
-use Rattle.mesh_options.specs.scripts.Splitting.{resumed}
-use Rattle.mesh_options.proofs.scripts.line_words.Given as goal
-
--- what was split and what is left give the words of the line
-abbrev pub invariant-loop-b : goal.invariant-loop-b
-invariant-loop-b l = resumed l.splitting (drop l.b-index l.line) ≡ words_of l.line

@@ -1,5 +1,0 @@
-use Rattle.mesh_promise_laws.proofs.Promise.{run_leaves_final}
-use Rattle.mesh_promise_laws.proofs.laws.runs_leave_their_environment_final.Goals as goal
-
-pub returns : goal.returns
-returns c = run_leaves_final

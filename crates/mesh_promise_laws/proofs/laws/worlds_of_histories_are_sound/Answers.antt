@@ -1,5 +1,0 @@
-use Rattle.mesh_promise_laws.proofs.Promise.{history_sound}
-use Rattle.mesh_promise_laws.proofs.laws.worlds_of_histories_are_sound.Goals as goal
-
-pub returns : goal.returns
-returns c = λ w x h. history_sound c.the_empty_world_is_sound.ensures h

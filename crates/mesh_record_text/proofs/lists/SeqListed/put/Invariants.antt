@@ -1,5 +1,0 @@
-use Rattle.std.proofs.Common.{◌≡◌, ◌++◌, map, take}
-use Rattle.mesh_record_text.proofs.lists.SeqListed.put.Given as goal
-
-abbrev pub invariant-loop-value : goal.invariant-loop-value
-invariant-loop-value g l = l.out ≡ l.fn.out ++ map g.T.Part.text (take l.value-index l.self)

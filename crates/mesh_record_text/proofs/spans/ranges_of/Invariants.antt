@@ -1,7 +1,0 @@
-use Rattle.std.proofs.Common.{take}
-use Rattle.std.specs.Prelude.{◌↔◌, ℤ}
-use Rattle.mesh_time.specs.Ranges.{Has}
-use Rattle.mesh_record_text.proofs.spans.ranges_of.Given as goal
-
-abbrev pub invariant-loop-span : goal.invariant-loop-span
-invariant-loop-span l = (t : ℤ) → Has l.made t ↔ Has (take l.span-index l.spans) t

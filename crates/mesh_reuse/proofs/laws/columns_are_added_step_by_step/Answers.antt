@@ -1,5 +1,0 @@
-use Rattle.mesh_reuse.proofs.Compatible.{additive_through}
-use Rattle.mesh_reuse.proofs.laws.columns_are_added_step_by_step.Goals as goal
-
-pub returns : goal.returns
-returns c = additive_through

@@ -1,5 +1,0 @@
-use Rattle.mesh_reuse_laws.proofs.Single.{single}
-use Rattle.mesh_reuse_laws.proofs.laws.no_table_is_given_twice.Goals as goal
-
-pub returns : goal.returns
-returns c clock b nodes restate plan well proper is shared p q h k share = single clock b nodes restate plan well proper is shared p q h k share

@@ -1,6 +1,0 @@
-use Rattle.mesh_scratch.specs.Closures.{own_of}
-use Rattle.mesh_reuse_laws.proofs.Staying.{staying_twins}
-use Rattle.mesh_reuse_laws.proofs.laws.tables_stay_with_twins.Goals as goal
-
-pub returns : goal.returns
-returns c old new category h k p q = staying_twins old new category (own_of new.closure).kind h k p q

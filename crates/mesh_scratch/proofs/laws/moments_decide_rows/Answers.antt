@@ -1,5 +1,0 @@
-use Rattle.mesh_scratch.proofs.Moments.{one_horizon, one_list_of_rows}
-use Rattle.mesh_scratch.proofs.laws.moments_decide_rows.Goals as goal
-
-pub returns : goal.returns
-returns c = record { horizons = one_horizon; rows = one_list_of_rows }

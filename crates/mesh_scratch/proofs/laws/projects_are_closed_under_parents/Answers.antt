@@ -1,5 +1,0 @@
-use Rattle.mesh_scratch.proofs.Listed.{one_each, with_their_parents, at_their_places}
-use Rattle.mesh_scratch.proofs.laws.projects_are_closed_under_parents.Goals as goal
-
-pub returns : goal.returns
-returns c = record { one_each = one_each; closed = with_their_parents; places = at_their_places }

@@ -1,5 +1,0 @@
-use Rattle.mesh_scratch.proofs.Rows.{seeds, views, fulls, incrementals, pieces, untimed}
-use Rattle.mesh_scratch.proofs.laws.rows_go_by_the_kind.Goals as goal
-
-pub returns : goal.returns
-returns c = record { seed = seeds; view = views; full = fulls; incremental = incrementals; piece = pieces; none = untimed }

@@ -1,5 +1,0 @@
-use Rattle.mesh_scratch.proofs.Cut.{by_second, in_one}
-use Rattle.mesh_scratch.proofs.laws.rows_lie_in_a_unit_by_their_second.Goals as goal
-
-pub returns : goal.returns
-returns c = record { lies = by_second; one = in_one }

@@ -1,8 +1,0 @@
-use Rattle.std.proofs.Common.{◌≡◌, ◌+◌, drop}
-use Rattle.std.specs.Option.{option_map}
-use Rattle.mesh_seconds.specs.Rows.{column_at}
-use Rattle.mesh_seconds.proofs.rows.column_at.Given as goal
-
--- where the column stands in what is left
-abbrev pub invariant-loop-i : goal.invariant-loop-i
-invariant-loop-i l = option_map (λ n. l.i + n) (column_at (drop l.i l.columns) l.time) ≡ column_at l.columns l.time

@@ -1,5 +1,0 @@
-use Rattle.mesh_seconds.proofs.Seconds.{second_is}
-use Rattle.mesh_seconds.proofs.rows.second_of.Goals as goal
-
-pub returns : goal.returns
-returns c = second_is c.args.cell.now c.time_value.result c.time_value.ensures

@@ -1,5 +1,0 @@
-use Rattle.mesh_shown.proofs.Behind.{behind_no_object, behind_plain_target}
-use Rattle.mesh_shown.proofs.laws.objects_alone_are_shown.Goals as goal
-
-pub returns : goal.returns
-returns c = record { object = behind_no_object; view = behind_plain_target }

@@ -1,7 +1,0 @@
-use Rattle.std.proofs.Common.{◌≡◌, take}
-use Rattle.mesh_sight.specs.Sight.{meant}
-use Rattle.mesh_sight.specs.Sole.{sole}
-use Rattle.mesh_sight.proofs.names.meant_among.Given as goal
-
-abbrev pub invariant-loop-seen : goal.invariant-loop-seen
-invariant-loop-seen l = l.found ≡ sole (meant l.item l.name (take l.seen-index l.from))

@@ -1,5 +1,0 @@
-use Rattle.mesh_sound.proofs.Moments.{source_loaded}
-use Rattle.mesh_sound.proofs.laws.loading_a_source_keeps_the_world_sound.Goals as goal
-
-pub returns : goal.returns
-returns c = source_loaded

@@ -1,5 +1,0 @@
-use Rattle.mesh_sound.proofs.Views.{object_shown}
-use Rattle.mesh_sound.proofs.laws.objects_up_to_date_show_rows_from_scratch.Goals as goal
-
-pub returns : goal.returns
-returns c = λ x w clock sound now s h. object_shown x w clock sound now s h

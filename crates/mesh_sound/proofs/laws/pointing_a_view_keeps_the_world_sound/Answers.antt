@@ -1,5 +1,0 @@
-use Rattle.mesh_sound.proofs.Pointed.{view_pointed}
-use Rattle.mesh_sound.proofs.laws.pointing_a_view_keeps_the_world_sound.Goals as goal
-
-pub returns : goal.returns
-returns c = view_pointed

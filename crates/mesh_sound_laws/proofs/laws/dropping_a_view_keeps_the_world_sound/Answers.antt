@@ -1,5 +1,0 @@
-use Rattle.mesh_sound_laws.proofs.ViewGone.{view_dropped}
-use Rattle.mesh_sound_laws.proofs.laws.dropping_a_view_keeps_the_world_sound.Goals as goal
-
-pub returns : goal.returns
-returns c = view_dropped

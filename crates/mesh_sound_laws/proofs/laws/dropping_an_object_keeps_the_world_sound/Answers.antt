@@ -1,5 +1,0 @@
-use Rattle.mesh_sound_laws.proofs.ObjectGone.{object_dropped}
-use Rattle.mesh_sound_laws.proofs.laws.dropping_an_object_keeps_the_world_sound.Goals as goal
-
-pub returns : goal.returns
-returns c = object_dropped

@@ -1,5 +1,0 @@
-use Rattle.mesh_sound_laws.proofs.EnvLaws.{env_expired}
-use Rattle.mesh_sound_laws.proofs.laws.expiring_an_environment_keeps_the_world_sound.Goals as goal
-
-pub returns : goal.returns
-returns c = env_expired

@@ -1,5 +1,0 @@
-use Rattle.mesh_sound_laws.proofs.EnvLaws.{env_finalized}
-use Rattle.mesh_sound_laws.proofs.laws.finalizing_keeps_the_world_sound.Goals as goal
-
-pub returns : goal.returns
-returns c = env_finalized

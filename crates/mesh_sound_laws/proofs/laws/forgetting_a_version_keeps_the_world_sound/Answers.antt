@@ -1,5 +1,0 @@
-use Rattle.mesh_sound_laws.proofs.VersionGone.{version_forgotten}
-use Rattle.mesh_sound_laws.proofs.laws.forgetting_a_version_keeps_the_world_sound.Goals as goal
-
-pub returns : goal.returns
-returns c = version_forgotten

@@ -1,5 +1,0 @@
-use Rattle.mesh_sound_laws.proofs.Forgetting.{units_forgotten}
-use Rattle.mesh_sound_laws.proofs.laws.forgetting_units_keeps_the_world_sound.Goals as goal
-
-pub returns : goal.returns
-returns c = units_forgotten

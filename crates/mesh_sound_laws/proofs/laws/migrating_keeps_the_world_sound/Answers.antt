@@ -1,5 +1,0 @@
-use Rattle.mesh_sound_laws.proofs.Migrating.{book_moved}
-use Rattle.mesh_sound_laws.proofs.laws.migrating_keeps_the_world_sound.Goals as goal
-
-pub returns : goal.returns
-returns c = book_moved

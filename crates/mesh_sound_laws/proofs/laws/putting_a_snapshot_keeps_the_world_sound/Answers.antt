@@ -1,5 +1,0 @@
-use Rattle.mesh_sound_laws.proofs.Putting.{snapshot_put}
-use Rattle.mesh_sound_laws.proofs.laws.putting_a_snapshot_keeps_the_world_sound.Goals as goal
-
-pub returns : goal.returns
-returns c = snapshot_put

@@ -1,5 +1,0 @@
-use Rattle.mesh_sound_laws.proofs.Replacing.{rows_replaced}
-use Rattle.mesh_sound_laws.proofs.laws.replacing_rows_keeps_the_world_sound.Goals as goal
-
-pub returns : goal.returns
-returns c = rows_replaced

@@ -1,5 +1,0 @@
-use Rattle.mesh_sound_laws.proofs.Pending.{env_pending}
-use Rattle.mesh_sound_laws.proofs.laws.setting_an_environment_pending_keeps_the_world_sound.Goals as goal
-
-pub returns : goal.returns
-returns c = env_pending

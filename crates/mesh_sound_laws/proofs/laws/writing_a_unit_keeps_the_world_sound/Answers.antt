@@ -1,5 +1,0 @@
-use Rattle.mesh_sound_laws.proofs.Writing.{unit_written}
-use Rattle.mesh_sound_laws.proofs.laws.writing_a_unit_keeps_the_world_sound.Goals as goal
-
-pub returns : goal.returns
-returns c = unit_written

@@ -1,8 +1,0 @@
-use Rattle.mesh_state_sync.specs.janitor.Walk.{discards}
-use Rattle.mesh_state_sync.proofs.naming.Pushed.{one_more_made}
-use Rattle.mesh_state_sync.proofs.janitor.changes.push_discards.Goals as goal
-
-pub loop-name-preserved : goal.loop-name-preserved
-loop-name-preserved c =
-    one_more_made discards c.args.changes.now c.args.names.now c.loop-name.name-index c.name-item.result _ _ c.discarding.result c.loop-name-test.true c.name-item.is c.loop-name.invariant c.discarding.ensures
-    c.in_ok-push_made.ensures

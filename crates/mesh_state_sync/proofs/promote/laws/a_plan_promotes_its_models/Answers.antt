@@ -1,5 +1,0 @@
-use Rattle.mesh_state_sync.proofs.promote.Left.{promotes_its_models}
-use Rattle.mesh_state_sync.proofs.promote.laws.a_plan_promotes_its_models.Goals as goal
-
-pub returns : goal.returns
-returns c = promotes_its_models

@@ -1,6 +1,0 @@
-use Rattle.std.proofs.Common.{◌≡◌, ◌-◌, [], length}
-use Rattle.mesh_statement.specs.Values.{columns_from}
-use Rattle.mesh_statement.proofs.values.columns_from.Given as goal
-
-abbrev pub invariant-loop : goal.invariant-loop
-invariant-loop l = columns_from (length l.tokens - l.counter) l.columns l.rest ≡ columns_from (length l.tokens) [] l.tokens

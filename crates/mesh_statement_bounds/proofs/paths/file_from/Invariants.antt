@@ -1,6 +1,0 @@
-use Rattle.std.proofs.Common.{◌≡◌, [], drop}
-use Rattle.mesh_statement_bounds.specs.Paths.{file_from}
-use Rattle.mesh_statement_bounds.proofs.paths.file_from.Given as goal
-
-abbrev pub invariant-loop-i : goal.invariant-loop-i
-invariant-loop-i l = file_from l.folder l.part (drop l.i l.path) ≡ file_from l.fn.folder [] l.path

@@ -1,8 +1,0 @@
-// What the definitions give.
-ghost use Rattle.mesh_house.specs.declared.world.World.{World};
-ghost use Rattle.mesh_steady.specs.Arrives.{Arrives};
-
-/// Sources that stay as they are arrive.
-pub fn unchanged_sources_arrive()
-    ensures { (w : World) → Arrives w w.sources }
-{}

@@ -1,8 +1,0 @@
-//! Steady projects: models whose computed rows don't change as time goes on, closures whose units lie within one another,
-//! and sources that change in later rows alone. Its definitions are read in this order: `Steady`, `Even` and `Arrives`. It
-//! stands on `mesh_scratch` and `mesh_listed`.
-#![tactic(auto)]
-
-mod laws;
-
-pub use laws::unchanged_sources_arrive;

@@ -1,5 +1,0 @@
-use Rattle.mesh_steady_laws.proofs.Worlds.{nothing_moves}
-use Rattle.mesh_steady_laws.proofs.laws.nothing_moves_in_steady_projects.Goals as goal
-
-pub returns : goal.returns
-returns c = nothing_moves

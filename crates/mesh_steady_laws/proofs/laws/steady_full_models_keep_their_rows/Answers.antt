@@ -1,5 +1,0 @@
-use Rattle.mesh_steady_laws.proofs.Even.{full_stays}
-use Rattle.mesh_steady_laws.proofs.laws.steady_full_models_keep_their_rows.Goals as goal
-
-pub returns : goal.returns
-returns c = full_stays

@@ -1,5 +1,0 @@
-use Rattle.mesh_steady_laws.proofs.Units.{unit_of_day}
-use Rattle.mesh_steady_laws.proofs.laws.steady_models_read_near_rows.Goals as goal
-
-pub returns-clause-units : goal.returns-clause-units
-returns-clause-units c = unit_of_day

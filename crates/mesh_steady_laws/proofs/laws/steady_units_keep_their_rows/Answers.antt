@@ -1,5 +1,0 @@
-use Rattle.mesh_steady_laws.proofs.Even.{units_stay}
-use Rattle.mesh_steady_laws.proofs.laws.steady_units_keep_their_rows.Goals as goal
-
-pub returns : goal.returns
-returns c = units_stay

@@ -1,8 +1,0 @@
-//! The changes of two commands keep a world well, each the contract of a function with an empty body: those of the janitor,
-//! which sweeps away what is over and what nothing uses, and the one of a load. It stands on `mesh_state_sync::janitor`,
-//! `mesh_sound_laws`, `mesh_again_laws` and `mesh_along`.
-#![tactic(auto)]
-
-mod laws;
-
-pub use laws::{loads_keep_the_world_sound, sweeps_keep_the_world_sound};

@@ -1,6 +1,0 @@
-use Rattle.std.proofs.Common.{◌≡◌, map}
-use Rattle.mesh_types.specs.Forms.{when}
-use Rattle.mesh_types.proofs.cases.whens.Given as goal
-
-abbrev pub invariant-loop-a : goal.invariant-loop-a
-invariant-loop-a l = l.made ≡ map when l.yielded

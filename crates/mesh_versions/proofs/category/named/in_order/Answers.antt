@@ -1,5 +1,0 @@
-use Rattle.mesh_versions.proofs.category.Places.{ascending_from_sort}
-use Rattle.mesh_versions.proofs.category.named.in_order.Goals as goal
-
-pub returns-in-Ok-clause-ascending : goal.returns-in-Ok-clause-ascending
-returns-in-Ok-clause-ascending c = rw c.from_vec.ensures (ascending_from_sort c.sort.new.self.items c.in-Ok.ensures.sorted)

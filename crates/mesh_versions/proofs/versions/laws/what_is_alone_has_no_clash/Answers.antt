@@ -1,5 +1,0 @@
-use Rattle.mesh_versions.proofs.versions.Without.{none_clashes}
-use Rattle.mesh_versions.proofs.versions.laws.what_is_alone_has_no_clash.Goals as goal
-
-pub returns : goal.returns
-returns c = none_clashes

@@ -1,5 +1,0 @@
-use Rattle.mesh_wave.proofs.claims.Steps.{opens}
-use Rattle.mesh_wave.proofs.claims.seats.table.Goals as goal
-
-pub of_words-requires : goal.of_words-requires
-of_words-requires c = opens
