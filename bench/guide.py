@@ -1,7 +1,7 @@
 #!/usr/bin/env python3
 """Compares `docs/GUIDE.md` with the worked examples that run its command lines: the lines `./mesh ..` with the text below each are the
-commands of the sections `== guide_..` of `crates/mesh_answers/stdout` with what they print, all of them and each section's in its order;
-each file that the page shows is one of these examples; and their projects are those of `examples/`.
+commands of the worked examples `guide_..` of `mesh_answers` with what their files `expected` say, all of them and each example's in its
+order; each file that the page shows is one of these examples; and their projects are those of `examples/`.
 
 Given a program, it also runs these examples with it as a user would, each in an empty folder and over warehouses in files, but for the
 one whose calls are made to fail, and the page's lines of `sqlite3` after `guide_starter`, and compares what is printed.
@@ -66,11 +66,10 @@ def files(page):
 def examples():
     """The commands of each example of the guide, with what they print."""
     found = {}
-    for section in read(f"{TOP}/crates/mesh_answers/stdout").split("== ")[1:]:
-        name, _, text = section.partition("\n")
+    for name in sorted(os.listdir(ROWS)):
         if name.startswith("guide_"):
             found[name] = []
-            for step in re.split(r"^> ", text, flags=re.M)[1:]:
+            for step in re.split(r"^> ", read(f"{ROWS}/{name}/expected"), flags=re.M)[1:]:
                 line, _, answer = step.partition("\n")
                 status, _, printed = answer.partition("\n")
                 printed = re.sub(r"\A(out|err):\n", "", printed)

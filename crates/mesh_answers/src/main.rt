@@ -1,15 +1,17 @@
 //! The cases of the libraries, as data: the suites of the crates `mesh_cases_text`, `mesh_cases_files`, `mesh_cases_house`,
 //! `mesh_cases_plans`, `mesh_cases_queries` and `mesh_cases_rows`, one after another. A suite's files lie in the folder of
-//! its name in `data/`, and its crate's head says what their lines are. What is printed is compared with `stdout`, whose
-//! values were worked out by hand.
+//! its name in `data/`, and its crate's head says what their lines are. The file `expected` beside them has what comes of
+//! them, each worked example of `rows` has its own; its values were worked out by hand. Printed is a line a suite, and what
+//! differs from an expected text. Where there is no such file, all that comes of the cases is printed.
 //!
 //! The words of the command line name the suites that are run, in their order: `text`, `files`, `house`, `plans`, `queries`
 //! and `rows`; with no word all of them are, in this order. A word that names none ends with status 2. A suite that can't be
 //! run to its end is the last one, and the status is 1.
 #![tactic(auto)]
 
-use mesh_cases::{Trouble, is_printed};
+use mesh_cases::{Trouble, expected_of, is_printed, put_differences};
 use mesh_io::DirFolder;
+use std::alloc::Global;
 use std::env::{Env, FillError};
 use std::process::ExitCode;
 use std::thread::Threads;
@@ -87,7 +89,7 @@ fn asked(rt: &HostRuntime) -> Result<Option<Vec<Suite>>, Trouble> {
     Ok(Some(suites))
 }
 
-/// Adds what comes of the cases of a suite, some of which are computed by several workers.
+/// Adds what comes of the cases of a suite, some of which are computed by several workers; of `rows` what differs.
 fn run<R: Threads + Sync>(
     rt: &HostRuntime,
     workers: &R,
@@ -106,11 +108,48 @@ fn run<R: Threads + Sync>(
     }
 }
 
+/// Adds that what came of a suite is as expected, or what differs, or all where nothing is expected.
+fn put_comparison(
+    alloc: Global,
+    data: &mut DirFolder,
+    suite: Suite,
+    came: &[u8],
+    report: &mut Vec<u8>,
+) -> Result<(), Trouble> {
+    let name = name_of(suite);
+    let Some(expected) = expected_of(alloc, data, name)? else {
+        report.extend_from_slice(came)?;
+        return Ok(());
+    };
+    if put_differences(alloc, report, name, expected.as_slice(), came)? {
+        report.extend_from_slice(name)?;
+        report.extend_from_slice(b": as expected\n")?;
+    }
+    Ok(())
+}
+
+/// Runs a suite, and adds whether what comes of it is as expected, or what differs.
+fn compare<R: Threads + Sync>(
+    rt: &HostRuntime,
+    workers: &R,
+    suite: Suite,
+    report: &mut Vec<u8>,
+) -> Result<(), Trouble> {
+    if let Suite::Rows = suite {
+        return run(rt, workers, suite, report);
+    }
+    let mut came = Vec::new(rt.alloc());
+    let done = run(rt, workers, suite, &mut came);
+    let mut data = DirFolder::new(rt);
+    put_comparison(rt.alloc(), &mut data, suite, came.as_slice(), report)?;
+    done
+}
+
 /// Runs suites and prints what comes of each, up to the first that can't be run to its end. Whether there is none.
 fn are_run<R: Threads + Sync>(rt: &HostRuntime, workers: &R, suites: &[Suite]) -> bool {
     for suite in suites {
         let mut report = Vec::new(rt.alloc());
-        let done = run(rt, workers, *suite, &mut report);
+        let done = compare(rt, workers, *suite, &mut report);
         if !is_printed(rt, report.as_slice(), done) {
             return false;
         }

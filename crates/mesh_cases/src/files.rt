@@ -27,6 +27,16 @@ pub fn file_of(
     data.read(alloc, &path, MOST_BYTES)?.ok_or(Trouble::Case)
 }
 
+/// The expected text of a folder of cases, if there is one.
+pub fn expected_of(
+    alloc: Global,
+    data: &mut DirFolder,
+    folder: &[u8],
+) -> Result<Option<Str>, Trouble> {
+    let path = path_of(alloc, folder, b"expected")?;
+    Ok(data.read(alloc, &path, MOST_BYTES)?)
+}
+
 /// The lines of a file that hold something and don't begin with `#`, without their line feeds.
 pub fn cases_of<'a>(alloc: Global, file: &'a [u8]) -> Result<Vec<&'a [u8]>, Trouble> {
     let mut cases = Vec::new(alloc);

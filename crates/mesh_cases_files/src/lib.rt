@@ -1,5 +1,5 @@
 //! Values and files, and what lies outside, as data. Each line of a file of `data/files` of `mesh_answers` is one call, and is
-//! reported with what the call answered; the program's `stdout` has the answers, which were worked out by hand. A line is a
+//! reported with what the call answered; the file `expected` has the answers, which were worked out by hand. A line is a
 //! word and what the word takes, where `\n`, `\r`, `\t`, `\\` and `\xHH` are escapes, and `{N TEXT}` is TEXT N times, a `#`
 //! in it the number of the copy.
 //!

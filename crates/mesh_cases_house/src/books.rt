@@ -3,6 +3,7 @@ use crate::changes::snapshot;
 use crate::line::{Line, Named, Owns, pair, pushed};
 use crate::owns::{add_own, put_columns_of, put_sorted};
 use mesh_base::{Env, Snapshot};
+use mesh_base_values::Str;
 use mesh_cases::{Pen, Trouble, cases_of, front_word};
 use mesh_house_book::{BOOK_VERSION, Book, Version, book_fault};
 use mesh_list::{Duplicate, Memory, Register, Same, Seq};
@@ -137,23 +138,19 @@ fn put_fault(pen: &mut Pen, book: &Book) {
     }
 }
 
-/// Adds the first breach of the book that these lines are of.
-fn put_book(alloc: Global, pen: &mut Pen, lines: &[&[u8]], owns: &[Named]) -> Result<(), Trouble> {
-    match book(alloc, lines, owns) {
-        Ok(book) => {
-            put_fault(pen, &book);
-            put_copied(pen, &book);
-            Ok(())
-        }
-        Err(trouble) => Err(trouble),
-    }
+/// The book of a step `fault`, and the step's title.
+#[derive(Drop)]
+pub struct Titled {
+    pub title: Str,
+    pub book: Book,
 }
 
-/// The lines of a good book, and the same with those that are changed.
+/// The lines of a good book, the same with those that are changed, and the books of the steps `fault` so far.
 #[derive(Drop)]
 struct Stage<'a> {
     good: Vec<&'a [u8]>,
     now: Vec<&'a [u8]>,
+    books: Vec<Titled>,
 }
 
 impl<'a> Stage<'a> {
@@ -169,16 +166,36 @@ impl<'a> Stage<'a> {
         }
     }
 
-    fn fault(&mut self, alloc: Global, pen: &mut Pen, owns: &[Named]) -> Result<(), Trouble> {
-        put_book(alloc, pen, self.now.as_slice(), owns)?;
+    /// Adds the first breach of the book that the lines are of, and keeps the book.
+    fn fault(&mut self, pen: &mut Pen, owns: &[Named], title: &[u8]) -> Result<(), Trouble> {
+        let alloc = pen.alloc();
+        let title = u8::copy_items(alloc, title)?;
+        match book(alloc, self.now.as_slice(), owns) {
+            Ok(book) => {
+                put_fault(pen, &book);
+                put_copied(pen, &book);
+                self.books.push(Titled { title, book })?;
+            }
+            Err(trouble) => {
+                drop(title);
+                return Err(trouble);
+            }
+        }
         self.now = Vec::from_slice(alloc, self.good.as_slice())?;
         Ok(())
     }
 
     /// A step that prints a line.
-    fn shown(&mut self, pen: &mut Pen, line: &Line, owns: &[Named]) -> Result<(), Trouble> {
+    fn shown(
+        &mut self,
+        pen: &mut Pen,
+        line: &Line,
+        owns: &[Named],
+        text: &[u8],
+    ) -> Result<(), Trouble> {
         if line.is(0, b"fault") {
-            self.fault(line.alloc(), pen, owns)
+            let (_, title) = front_word(text);
+            self.fault(pen, owns, title)
         } else if line.is(0, b"columns_of") {
             put_columns_of(pen, line.own(owns, 1)?);
             Ok(())
@@ -198,7 +215,7 @@ impl<'a> Stage<'a> {
     ) -> Result<(), Trouble> {
         pen.put(text);
         pen.put(b": ");
-        self.shown(pen, &Line::of(alloc, text), owns)?;
+        self.shown(pen, &Line::of(alloc, text), owns, text)?;
         pen.put(b"\n");
         Ok(())
     }
@@ -241,13 +258,39 @@ fn steps<'a>(
     pen.done()
 }
 
+fn make_stage<'a>(alloc: Global) -> Stage<'a> {
+    Stage {
+        good: Vec::new(alloc),
+        now: Vec::new(alloc),
+        books: Vec::new(alloc),
+    }
+}
+
 /// Adds what comes of each step of a file.
 pub fn run(alloc: Global, file: &[u8], pen: &mut Pen) -> Result<(), Trouble> {
     pen.put(b"== well-formed books, and the rules that they stand on\n");
     let mut owns = Vec::new(alloc);
-    let mut stage = Stage {
-        good: Vec::new(alloc),
-        now: Vec::new(alloc),
-    };
+    let mut stage = make_stage(alloc);
     steps(alloc, &mut stage, &mut owns, pen, file)
+}
+
+/// The books of the steps `fault` of a file.
+pub fn books_of(alloc: Global, file: &[u8]) -> Result<Vec<Titled>, Trouble> {
+    let mut pen = Pen::new(alloc);
+    let mut owns = Vec::new(alloc);
+    let mut stage = make_stage(alloc);
+    match steps(alloc, &mut stage, &mut owns, &mut pen, file) {
+        Ok(()) => {
+            let Stage {
+                good: _,
+                now: _,
+                books,
+            } = stage;
+            Ok(books)
+        }
+        Err(trouble) => {
+            drop(stage);
+            Err(trouble)
+        }
+    }
 }

@@ -1,7 +1,7 @@
 //! Each kind of change in a house in memory, what that house answers, what stored queries over stored queries show, and
 //! each breach of a well-formed book.
-//! What comes of each step is reported, and is compared with the `stdout` of `mesh_answers`, whose values were
-//! worked out by hand. The files lie in its `data/house`.
+//! What comes of each step is reported, and is compared with the file `expected` beside the cases, whose values were
+//! worked out by hand. The files lie in the folder `data/house` of `mesh_answers`.
 //!
 //! A step is a line, and a line that has nothing or begins with `#` is none. In both files `own WORD TEXT` has WORD call
 //! the definition with this canonical text. A reference `S.M/N` has the fingerprint of 32 bytes N, and one `S.M/N.N..` that of
@@ -60,6 +60,7 @@ mod owns;
 mod shown;
 mod written;
 
+pub use books::{Titled, books_of};
 use mesh_cases::{Pen, Trouble, file_of};
 use mesh_io::DirFolder;
 use std::alloc::Global;

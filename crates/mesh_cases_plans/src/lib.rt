@@ -1,6 +1,6 @@
 //! Projects as data: whether they load, what their models read, which aren't steady, which may be evaluated for several units
 //! at once, and how they stand to the models of another project. Each line of `data/plans/cases.txt` of `mesh_answers` is a
-//! call, but for empty lines and those that begin with `#`; what must be printed stands in the program's `stdout`, and was
+//! call, but for empty lines and those that begin with `#`; what must be printed stands in the file `expected`, and was
 //! worked out by hand. In a line `\n` is a line feed and `{N TEXT}` a text N times, in which `#` is the number of the copy.
 //! - `file PATH | TEXT` puts a file into the folder, and `gone PATH` takes one out; `empty` begins with no file;
 //! - `sources | FILE` puts the file there that declares the sources;

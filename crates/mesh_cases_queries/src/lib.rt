@@ -1,5 +1,5 @@
 //! Queries as data: what they mean, and their rows. Each line of a file of `data/queries` of `mesh_answers` is a case, but for
-//! empty lines and those that begin with `#`; what must be printed stands in the program's `stdout`, and was worked out by hand.
+//! empty lines and those that begin with `#`; what must be printed stands in the file `expected`, and was worked out by hand.
 //!
 //! In `resolved.txt` a case is the text of a query, and what it means is printed below it, as the canonical text of its CTEs
 //! and SELECTs (`mesh_canon_text/specs/Text.antt`), or the line of its first fault. `{N TEXT}` stands for a text N times, in

@@ -1,6 +1,6 @@
 //! Worked examples as data. Each folder `rows/NAME` has a project in `project/` and a `script` of steps, which are run
-//! through the top call of `mesh_cli::cli` over a folder and a warehouse in memory. What each command answers is printed, and
-//! is compared with the program's `stdout`, whose values were worked out by hand.
+//! through the top call of `mesh_cli::cli` over a folder and a warehouse in memory. What each command answers is compared with
+//! the file `expected` beside the script, whose values were worked out by hand, and what differs is printed.
 //!
 //! A script has one step a line, split as the lines of a batch are; empty lines and lines that begin with `#` are no steps:
 //! - `mesh WORD..` runs a command, and prints its status, its number of changes, and what it wrote on `out` and `err`;
@@ -25,6 +25,8 @@
 //! - `cuts PATH WORD..` runs a command with the project's file PATH whole and with each proper prefix in its place, each over
 //!   the world as it is; it counts the cuts, those that are refused with one line of that file and no change, and those that
 //!   end as with the whole file, and prints the others;
+//! - `books WORD..` runs a command over a warehouse that has just a book, for each book of the steps `fault` of the suite
+//!   `house`, and prints each with its title; at the end the warehouse is empty;
 //! - `stops CALL WORD..` runs a command, and then again from the world before with each call of that kind failing in turn,
 //!   each time followed by the whole command, and prints both statuses, whether the views show the same, and the second text;
 //!   at the end the world is as it was;
@@ -43,6 +45,7 @@
 
 mod arrange;
 mod beside;
+mod books;
 mod gated;
 mod mapped;
 mod report;
@@ -52,6 +55,7 @@ mod turns;
 
 use crate::arrange::{arrange, is};
 use crate::beside::{Beside, Tally};
+use crate::books::put_books;
 use crate::gated::{put_counted, put_held};
 use crate::report::{put, put_counts, put_outcome, put_targets, put_views};
 use crate::stage::Stage;
@@ -59,6 +63,7 @@ use crate::trouble::Trouble;
 use crate::turns::{cuts, stops};
 pub use mapped::mesh_over_a_map;
 use mesh_base_values::Str;
+use mesh_cases::{expected_of, file_of, put_differences};
 use mesh_cli_values::scripts::{is_skipped, line_words};
 use mesh_io::{DirFolder, Folder};
 use mesh_list::{Duplicate, Seq};
@@ -114,6 +119,7 @@ fn perform<R: Threads + Sync>(
         [] if is(first, b"targets") => put_targets(report, stage.house.world()),
         [moment] if is(first, b"held") => put_held(rt, stage, moment, report),
         [moment] if is(first, b"counted") => put_counted(rt, stage, moment, report),
+        [_, ..] if is(first, b"books") => put_books(rt, stage, rest, report),
         [path, command @ ..] if is(first, b"cuts") => cuts(rt, stage, path, command, report),
         [kind, command @ ..] if is(first, b"stops") => stops(rt, stage, kind, command, report),
         _ => arrange(stage, first, rest),
@@ -172,6 +178,35 @@ fn furnish(
     Ok(())
 }
 
+/// The expected text of an example, if there is one.
+fn expected_text(alloc: Global, data: &mut DirFolder, name: &[u8]) -> Result<Option<Str>, Trouble> {
+    let mut folder = Vec::from_slice(alloc, b"rows/")?;
+    folder.extend_from_slice(name)?;
+    Ok(expected_of(alloc, data, folder.as_slice())?)
+}
+
+/// Adds what differs from the expected text of an example, or all where there is none.
+fn put_comparison(
+    alloc: Global,
+    report: &mut Vec<u8>,
+    name: &[u8],
+    expected: Option<&Str>,
+    printed: &[u8],
+) -> Result<(), Trouble> {
+    match expected {
+        Some(text) => {
+            let _ = put_differences(alloc, report, name, text.as_slice(), printed)?;
+            Ok(())
+        }
+        None => {
+            put(report, b"== ")?;
+            put(report, name)?;
+            put(report, b"\n")?;
+            put(report, printed)
+        }
+    }
+}
+
 /// The script of an example, whose files are given to the stage.
 fn script_of(
     alloc: Global,
@@ -203,7 +238,7 @@ fn play_beside<R: Threads + Sync>(
     Ok(())
 }
 
-/// Plays an example.
+/// Plays an example, and adds what differs from what is expected.
 fn example<R: Threads + Sync>(
     rt: &R,
     alloc: Global,
@@ -213,18 +248,25 @@ fn example<R: Threads + Sync>(
     tally: &mut Tally,
     report: &mut Vec<u8>,
 ) -> Result<(), Trouble> {
-    put(report, b"== ")?;
-    put(report, name)?;
-    put(report, b"\n")?;
     let mut stage = Stage::new(alloc);
     let script = script_of(alloc, data, paths, name, &mut stage)?;
-    play_beside(rt, &mut stage, &script, tally, report)
+    stage.books = file_of(alloc, data, b"house", b"books.txt")?;
+    let expected = expected_text(alloc, data, name)?;
+    let mut printed = Vec::new(alloc);
+    let done = play_beside(rt, &mut stage, &script, tally, &mut printed);
+    put_comparison(alloc, report, name, expected.as_ref(), printed.as_slice())?;
+    done
 }
 
-fn put_tally(alloc: Global, report: &mut Vec<u8>, tally: Tally) -> Result<(), Trouble> {
+fn put_tally(
+    alloc: Global,
+    report: &mut Vec<u8>,
+    examples: u64,
+    tally: Tally,
+) -> Result<(), Trouble> {
     let (mapped, stored, looks) = (tally.mapped, tally.stored, tally.looks);
     let text = format!(in alloc;
-        "over records in a map {mapped} commands and {looks} looks, over SQLite {stored} commands\n"
+        "rows: {examples} examples, over records in a map {mapped} commands and {looks} looks, over SQLite {stored} commands\n"
     )?;
     put(report, text.as_bytes())
 }
@@ -238,15 +280,18 @@ fn examples<R: Threads + Sync>(
     let rows = u8::copy_items(alloc, b"rows")?;
     let paths = data.list(alloc, &rows)?;
     let mut tally = Tally::new();
+    let mut count = 0u64;
     for path in paths.as_slice() {
         if let Some(name) = path.as_slice().strip_suffix(b"/script") {
             example(rt, alloc, data, paths.as_slice(), name, &mut tally, report)?;
+            count = count.saturating_add(1);
         }
     }
-    put_tally(alloc, report, tally)
+    put_tally(alloc, report, count, tally)
 }
 
-/// Plays all examples, in the order of their names, and adds what is to be printed. Commands compute by the threads of `rt`.
+/// Plays all examples, in the order of their names, and adds what differs and how many there were. Commands compute by the
+/// threads of `rt`.
 pub fn run<R: Threads + Sync>(
     rt: &R,
     alloc: Global,

@@ -29,8 +29,8 @@ pub enum Call {
     Err,
 }
 
-/// The files of the example, those of the project, the warehouse, the moment of the clock, the input, and the call that is
-/// to fail, with its number in a command.
+/// The files of the example, those of the project, the warehouse, the moment of the clock, the input, the books of the suite
+/// `house`, and the call that is to fail, with its number in a command.
 #[derive(Drop)]
 pub struct Stage {
     pub alloc: Global,
@@ -39,6 +39,7 @@ pub struct Stage {
     pub house: MemHouse,
     pub moment: i64,
     pub input: Str,
+    pub books: Str,
     pub failing: Option<(Call, u64)>,
 }
 
@@ -60,6 +61,7 @@ impl Stage {
             house: MemHouse::new(alloc),
             moment: 0,
             input: Seq::new(alloc),
+            books: Seq::new(alloc),
             failing: None,
         }
     }

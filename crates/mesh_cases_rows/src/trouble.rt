@@ -60,6 +60,16 @@ impl From<ShowFault> for Trouble {
     }
 }
 
+impl From<mesh_cases::Trouble> for Trouble {
+    fn from(trouble: mesh_cases::Trouble) -> Trouble {
+        match trouble {
+            mesh_cases::Trouble::Memory => Trouble::Memory,
+            mesh_cases::Trouble::Outside => Trouble::Outside,
+            mesh_cases::Trouble::Case => Trouble::Script,
+        }
+    }
+}
+
 impl Trouble {
     /// The same for any suite: a script or a view that isn't as it has to be is no case.
     pub fn of_cases(self) -> mesh_cases::Trouble {

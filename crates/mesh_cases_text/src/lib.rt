@@ -1,7 +1,7 @@
 //! The cases of what is read from texts: of `mesh_query_tokens`, `mesh_query`, `mesh_model_statement`, `mesh_model` and
 //! `mesh_cli_print::faults`. Each line of a file of `data/text` of `mesh_answers` is a case, but for empty lines and those that begin
-//! with `#`. It is reported as it stands, and below it what the libraries answer, in the notation of that file. The program's
-//! `stdout` has what must be printed; its values were worked out by hand.
+//! with `#`. It is reported as it stands, and below it what the libraries answer, in the notation of that file. The file
+//! `expected` has what must be printed; its values were worked out by hand.
 //!
 //! A line writes a text: `\n`, `\r`, `\t`, `\\` and `\xHH` stand for one byte each, and `{N*TEXT}` for a text N times, in
 //! which `#` is how often it stood before. Where a text has a fault, the fault's line is printed, with `-` for the file.
