@@ -3,9 +3,10 @@
 
 The program runs under a small library that counts the allocations that the program itself asks for, and refuses the one
 of a given number (it is built by `cc` and loaded by LD_PRELOAD; those of the C library aren't counted). First an apply
-runs undisturbed; copies of the file, taken at each of its syncs, are the states after each prefix of its changes. Then, for each number, over a fresh copy of the warehouse before the apply:
+runs undisturbed; copies of the file, taken at each of its syncs, are the states after each prefix of its changes. Then,
+for each number, over a fresh copy of the warehouse before the apply:
 
-- the status is 0, or 4 with the line `want of memory`;
+- the status is 0, or 4 with the line `want of memory`, or 3 with `warehouse fault` where a commit was refused;
 - the records of the file are one of these states, and the last one if the status is 0;
 - the same command again ends with 0, and the views show the rows that they show without a refusal.
 
@@ -156,7 +157,7 @@ def main():
             again = run(program, APPLY, folder)[0]
             rows = [run(program, ask, folder) for ask in ASKS]
             shutil.rmtree(folder)
-            told = (status, err) in ((0, ""), (4, "want of memory\n"))
+            told = (status, err) in ((0, ""), (3, "warehouse fault\n"), (4, "want of memory\n"))
             went = told and made is not None and (status or made == changes) and again == 0 and rows == shown
             return number, status, made, went
 

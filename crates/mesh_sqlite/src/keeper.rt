@@ -75,7 +75,7 @@ impl<S: Alter> Keeper for SqliteKeeper<S> {
     fn write(&mut self, _alloc: Global, writes: &Writes) -> Result<(), KeepFail> {
         match put_all(&mut self.conn, writes.as_slice()) {
             Ok(()) => Ok(()),
-            Err(e) => Err(self.note(e)),
+            Err(fail) => Err(counted(&mut self.faults, fail)),
         }
     }
 

@@ -43,16 +43,22 @@ fn put<S: Alter>(tx: &mut Transaction<'_, S>, write: &Write) -> Result<(), Error
     Ok(())
 }
 
-/// All writes in one transaction.
-pub(crate) fn put_all<S: Alter>(conn: &mut Connection<S>, writes: &[Write]) -> Result<(), Error> {
+/// All writes in one transaction. A commit that is refused has failed whatever its cause was, memory too: the file may
+/// hold the writes or not.
+pub(crate) fn put_all<S: Alter>(
+    conn: &mut Connection<S>,
+    writes: &[Write],
+) -> Result<(), KeepFail> {
     if !conn.is_autocommit() {
-        return Err(Error::SqliteFailure(ErrorCode::TransactionState));
+        return Err(KeepFail::Failed);
     }
     let mut tx = conn.transaction();
     for write in writes {
-        put(&mut tx, write)?;
+        if let Err(error) = put(&mut tx, write) {
+            return Err(fail_of(error));
+        }
     }
-    tx.commit()
+    tx.commit().map_err(|_| KeepFail::Failed)
 }
 
 /// The body of a record.
