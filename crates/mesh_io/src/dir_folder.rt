@@ -8,7 +8,7 @@ use crate::refused::{is_absent, refused};
 use mesh_base_values::{Str, Strs};
 use mesh_list::Seq;
 use std::alloc::Global;
-use std::fs::{DirEntry, File};
+use std::fs::{DirEntry, File, Metadata};
 use std::io::{ErrorKind, Read};
 use std::marker::Model;
 use std::{fs, io};
@@ -51,6 +51,40 @@ impl<'a> DirFolder<'a> {
     }
 }
 
+/// What there is at a path, behind links, or nothing.
+fn at(rt: &HostRuntime, path: &str) -> io::Result<Option<Metadata>> {
+    match fs::metadata(rt, path) {
+        Ok(found) => Ok(Some(found)),
+        Err(error) if is_absent(error.kind()) => Ok(None),
+        Err(error) => Err(error),
+    }
+}
+
+/// Whether there is a link at the path.
+fn is_link(rt: &HostRuntime, path: &str) -> io::Result<bool> {
+    match fs::symlink_metadata(rt, path) {
+        Ok(found) => Ok(found.is_symlink()),
+        Err(error) if is_absent(error.kind()) => Ok(false),
+        Err(error) => Err(error),
+    }
+}
+
+/// Whether there is a folder at the path.
+fn is_folder(rt: &HostRuntime, path: &str) -> io::Result<bool> {
+    match at(rt, path)? {
+        Some(found) => Ok(found.is_dir()),
+        None => Ok(false),
+    }
+}
+
+/// Whether there is a regular file at the path. What is another one, a pipe say, may never end, or never open.
+fn is_regular(rt: &HostRuntime, path: &str) -> io::Result<bool> {
+    match at(rt, path)? {
+        Some(found) => Ok(found.is_file()),
+        None => Ok(false),
+    }
+}
+
 /// Goes through a folder and those below it.
 #[derive(Drop)]
 struct Walk {
@@ -90,18 +124,21 @@ impl Walk {
         })
     }
 
-    /// Notes a path of the host: a folder is to be looked into, and a file is found. What is neither is passed over.
+    /// Notes a path of the host: a folder is to be looked into, and a file is found. What is neither is passed over, and a
+    /// link to a folder, so that each folder is looked into once.
     fn note(&mut self, rt: &HostRuntime, path: &str, depth: u32) -> io::Result<()> {
-        let metadata = match fs::metadata(rt, path) {
-            Ok(metadata) => metadata,
-            Err(error) if is_absent(error.kind()) => return Ok(()),
-            Err(error) => return Err(error),
-        };
-        if metadata.is_dir() {
+        match at(rt, path)? {
+            Some(found) if found.is_file() => self.find(path),
+            Some(found) if found.is_dir() => self.enter(rt, path, depth),
+            _ => Ok(()),
+        }
+    }
+
+    /// Notes a folder that is to be looked into, unless the path is a link to it.
+    fn enter(&mut self, rt: &HostRuntime, path: &str, depth: u32) -> io::Result<()> {
+        if !is_link(rt, path)? {
             let path = String::from_str(self.alloc, path)?;
             self.open.push(Open { path, depth })?;
-        } else if metadata.is_file() {
-            self.find(path)?;
         }
         Ok(())
     }
@@ -167,15 +204,6 @@ fn text_of(bytes: &[u8]) -> io::Result<&str> {
     }
 }
 
-/// Whether there is a folder at the path.
-fn is_folder(rt: &HostRuntime, path: &str) -> io::Result<bool> {
-    match fs::metadata(rt, path) {
-        Ok(metadata) => Ok(metadata.is_dir()),
-        Err(error) if is_absent(error.kind()) => Ok(false),
-        Err(error) => Err(error),
-    }
-}
-
 fn list_files(rt: &HostRuntime, alloc: Global, dir: &[u8]) -> io::Result<Strs> {
     let dir = text_of(dir)?;
     if !is_folder(rt, dir)? {
@@ -213,12 +241,14 @@ fn names_a_file(path: &[u8]) -> bool {
     true
 }
 
-fn read_file(rt: &HostRuntime, alloc: Global, path: &[u8], most: u64) -> io::Result<Str> {
+fn read_file(rt: &HostRuntime, alloc: Global, path: &[u8], most: u64) -> io::Result<Option<Str>> {
+    let path = text_of(path)?;
+    if !is_regular(rt, path)? {
+        return Ok(None);
+    }
     let mut bytes = Vec::new(alloc);
-    File::open(rt, text_of(path)?)?
-        .take(most)
-        .read_to_end(&mut bytes)?;
-    Ok(Seq::from_vec(bytes))
+    File::open(rt, path)?.take(most).read_to_end(&mut bytes)?;
+    Ok(Some(Seq::from_vec(bytes)))
 }
 
 impl Folder for DirFolder<'_> {
@@ -243,7 +273,7 @@ impl Folder for DirFolder<'_> {
             return Ok(None);
         }
         match read_file(self.rt, alloc, path.as_slice(), most) {
-            Ok(bytes) => Ok(Some(bytes)),
+            Ok(found) => Ok(found),
             Err(error) => {
                 if is_absent(error.kind()) {
                     return Ok(None);
