@@ -1,5 +1,5 @@
 #!/usr/bin/env python3
-"""Checks the pages of this repository, README.md and docs/*.md (or those that are named).
+"""Checks the pages of this repository, README.md, CHANGELOG.md and docs/*.md (or those that are named).
 
 - Each relative link leads to a file that is here, and each `#heading` to a heading of that page.
 - `docs/FAULTS.md` has a heading for each fault and a row for each status, `docs/COMMANDS.md` a heading for each command.
@@ -155,7 +155,9 @@ class Folder:
     def run(self, command):
         how = {"stdout": subprocess.PIPE, "stderr": subprocess.STDOUT, "stdin": subprocess.DEVNULL}
         words = ["sh", "-c", f"(exit {self.status})\n{command}"]
-        ran = subprocess.run(words, cwd=self.at, env={**os.environ, "TZ": "UTC", "LC_ALL": "C"}, timeout=120, **how)
+        # Without MESH the tools take the program of the folder.
+        env = {name: value for name, value in os.environ.items() if name != "MESH"} | {"TZ": "UTC", "LC_ALL": "C"}
+        ran = subprocess.run(words, cwd=self.at, env=env, timeout=120, **how)
         self.status = ran.returncode
         return ran.stdout.decode("utf-8", "replace")
 
@@ -200,7 +202,7 @@ def main():
         print(__doc__)
         return 0 if words[:1] in (["--help"], ["-h"]) else 2
     docs = sorted(f"{TOP}/docs/{name}" for name in os.listdir(f"{TOP}/docs") if name.endswith(".md"))
-    pages = [os.path.abspath(word) for word in words] or [f"{TOP}/README.md", *docs]
+    pages = [os.path.abspath(word) for word in words] or [f"{TOP}/README.md", f"{TOP}/CHANGELOG.md", *docs]
     wrong = [line for page in pages for line in links(page)] + ([] if words else places() + signatures())
     with tempfile.TemporaryDirectory(prefix="pages-") as room:
         for page in pages if program else []:
