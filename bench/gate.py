@@ -150,4 +150,5 @@ def main():
     return ran.returncode
 
 
-sys.exit(main())
+if __name__ == "__main__":
+    sys.exit(main())
