@@ -1,12 +1,13 @@
-//! The cases of the libraries, as data: the suites of the crates `mesh_cases_text`, `mesh_cases_files`, `mesh_cases_house`,
-//! `mesh_cases_plans`, `mesh_cases_queries` and `mesh_cases_rows`, one after another. A suite's files lie in the folder of
-//! its name in `data/`, and its crate's head says what their lines are. The file `expected` beside them has what comes of
-//! them, each worked example of `rows` has its own; its values were worked out by hand. Printed is a line a suite, and what
-//! differs from an expected text. Where there is no such file, all that comes of the cases is printed.
+//! The cases of the libraries, as data: the suites of the crates `mesh_cases_text`, `mesh_cases_files`,
+//! `mesh_cases_house`, `mesh_cases_plans`, `mesh_cases_queries` and `mesh_cases_rows`, one after another. A suite's
+//! files lie in the folder of its name in `data/`, and its crate's head says what their lines are. The file
+//! `expected` beside them has what comes of them, each worked example of `rows` has its own; its values were worked
+//! out by hand. Printed is a line a suite, and what differs from an expected text. Where there is no such file, all
+//! that comes of the cases is printed.
 //!
-//! The words of the command line name the suites that are run, in their order: `text`, `files`, `house`, `plans`, `queries`
-//! and `rows`; with no word all of them are, in this order. A word that names none ends with status 2. A suite that can't be
-//! run to its end is the last one, and the status is 1.
+//! The words of the command line name the suites that are run, in their order: `text`, `files`, `house`, `plans`,
+//! `queries` and `rows`; with no word all of them are, in this order. A word that names none ends with status 2. A
+//! suite that can't be run to its end is the last one, and the status is 1.
 #![tactic(auto)]
 
 use mesh_cases::{Trouble, expected_of, is_printed, put_differences};

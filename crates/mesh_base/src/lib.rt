@@ -1,6 +1,5 @@
 //! The resolved forms that every later crate speaks of: expressions and queries, definitions of models, snapshots,
-//! environments and plans. Its contract: a copy is equal and equality is exact. It stands on `mesh_list` and
-//! `mesh_base_values`.
+//! environments and plans. Its contract: a copy is equal and equality is exact.
 //! The module `rules` has well-formed definitions, proper projects and plans.
 #![tactic(auto)]
 

@@ -1,7 +1,6 @@
-//! What makes a definition well formed and a project proper, as definitions, and the two types that keep to it: a `Project`
-//! is proper, and a `Plan` is over a project. Its contract: every `Project` is proper; `is_named`,
-//! `is_declared` and `has_column` test what their definitions say. It stands on `mesh_base_values` and
-//! `mesh_base`.
+//! What makes a definition well formed and a project proper, as definitions, and the two types that keep to it: a
+//! `Project` is proper, and a `Plan` is over a project. Its contract: every `Project` is proper; `is_named`,
+//! `is_declared` and `has_column` test what their definitions say.
 
 mod columns;
 mod names;

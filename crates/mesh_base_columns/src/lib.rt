@@ -1,5 +1,5 @@
-//! The columns of a model. Its contract: `columns_of` gives the columns that a definition has, and `select_columns` those
-//! of a query. It stands on `mesh_list`, `mesh_base_values` and `mesh_base`.
+//! The columns of a model. Its contract: `columns_of` gives the columns that a definition has, and `select_columns`
+//! those of a query.
 #![tactic(auto)]
 
 mod outputs;

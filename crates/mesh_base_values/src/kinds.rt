@@ -14,8 +14,8 @@ pub enum Kind {
     View,
     /// The rows of a file.
     Seed,
-    /// For each unit of the schedule, the query's rows whose time column lies in it. A unit is computed again with each of
-    /// the next `lookback` units of the schedule.
+    /// For each unit of the schedule, the query's rows whose time column lies in it. A unit is computed again with
+    /// each of the next `lookback` units of the schedule.
     Incremental { time: Str, lookback: u32 },
 }
 

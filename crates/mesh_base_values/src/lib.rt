@@ -1,7 +1,7 @@
-//! The values that every crate of `mesh` speaks of: cells and rows with their order, columns and names, kinds of models,
-//! crons, intervals, limits, and the definitions of bags and of the columns that a query picks. Its contract: cells and rows
-//! are ordered as the printed texts are, a copy is equal and equality is exact, and sorted rows are the same bag in
-//! ascending order. It stands on `mesh_list`.
+//! The values that every crate of `mesh` speaks of: cells and rows with their order, columns and names, kinds of
+//! models, crons, intervals, limits, and the definitions of bags and of the columns that a query picks. Its contract:
+//! cells and rows are ordered as the printed texts are, a copy is equal and equality is exact, and sorted rows are
+//! the same bag in ascending order.
 #![tactic(auto)]
 
 mod copies;

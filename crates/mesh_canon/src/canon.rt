@@ -1,9 +1,8 @@
 //! The canonical text of a definition, both ways: the bytes that a model's fingerprint is made of and that a stored
-//! warehouse keeps. Its contract: `own_text` and `node_text` are the text that `mesh_canon_text/specs/Text.antt` spells
-//! out, `read_own` answers exactly the definition that a text is the text of, `read_own_old` the one that it is the former
-//! text of, `read_definition` the one that it is either text of, and two definitions of one text are equal. What a text
-//! says is read by `mesh_canon_reading`; here it is written again and compared. It stands on `mesh_list`, `mesh_base_values`,
-//! `mesh_base`, `mesh_canon_text`, `mesh_canon_words` and `mesh_canon_reading`.
+//! warehouse keeps. Its contract: `own_text` and `node_text` are the text that `mesh_canon_text/specs/Text.antt`
+//! spells out, `read_own` answers exactly the definition that a text is the text of, `read_own_old` the one that it
+//! is the former text of, `read_definition` the one that it is either text of, and two definitions of one text are
+//! equal. What a text says is read by `mesh_canon_reading`; here it is written again and compared.
 
 mod definition_reading;
 mod depth;

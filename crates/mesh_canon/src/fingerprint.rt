@@ -1,5 +1,4 @@
-//! The fingerprint of a text. Its contract: it is the SHA-256 digest of the text, as FIPS 180-4 defines it. It stands on
-//! `mesh_list` and `sha2`.
+//! The fingerprint of a text. Its contract: it is the SHA-256 digest of the text, as FIPS 180-4 defines it.
 
 ghost use Rattle.std.specs.Prelude.{◌≡◌, Ok};
 ghost use Rattle.sha2.specs.Sha256.{sha256};

@@ -1,6 +1,6 @@
-//! What holds of a definition because a program holds it: its numbers are those of their types, its texts are no longer than
-//! memory, and its cron is one. Its contract: each rule says that its value fits as `mesh_canon_reading/specs/Fits.antt` has
-//! it. It stands on `mesh_list`, `mesh_base_values`, `mesh_base` and `mesh_canon_reading`.
+//! What holds of a definition because a program holds it: its numbers are those of their types, its texts are no
+//! longer than memory, and its cron is one. Its contract: each rule says that its value fits as
+//! `mesh_canon_reading/specs/Fits.antt` has it.
 
 mod definitions;
 mod expressions;

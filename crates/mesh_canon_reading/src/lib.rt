@@ -1,8 +1,6 @@
 //! What stands at the front of the bytes of a canonical text, read: cells, rows, columns, names, crons, expressions,
 //! queries, definitions and lists. Its contract: each function gives what `specs/Reading.antt` says, and what is left
-//! behind it; and its lemmas say that this undoes writing, for values that a program can hold (`specs/Fits.antt`). It
-//! stands on `mesh_list`, `mesh_base_values`, `mesh_base`, `mesh_canon_text` and `mesh_canon_words`; `mesh_canon::canon` reads whole
-//! texts by it.
+//! behind it; and its lemmas say that this undoes writing, for values that a program can hold (`specs/Fits.antt`).
 #![tactic(auto)]
 
 mod cron_reading;

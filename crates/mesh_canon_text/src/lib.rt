@@ -1,8 +1,7 @@
 //! The canonical text of a definition, written: the bytes that a model's fingerprint is made of and that a stored
-//! warehouse keeps. Its contract: `own_text`, `own_text_old`, `node_text`, `list_text`, `cell_text` and `type_text` answer
-//! the text that `specs/Text.antt` spells out, or refuse for want of memory. `own_text_old` is the former text, in which
-//! the kind of an incremental model says no lookback. It stands on `mesh_list`, `mesh_base_values`, `mesh_base` and `hex`; `mesh_canon::canon`
-//! reads these texts again.
+//! warehouse keeps. Its contract: `own_text`, `own_text_old`, `node_text`, `list_text`, `cell_text` and `type_text`
+//! answer the text that `specs/Text.antt` spells out, or refuse for want of memory. `own_text_old` is the former
+//! text, in which the kind of an incremental model says no lookback.
 #![tactic(auto)]
 
 mod cron_text;

@@ -1,5 +1,5 @@
--- The words, numbers and texts that parts of a canonical text begin with: each function gives what stands at the front of
--- some bytes and what is left behind it, or nothing where the bytes begin with no such text.
+-- The words, numbers and texts that parts of a canonical text begin with: each function gives what stands at the
+-- front of some bytes and what is left behind it, or nothing where the bytes begin with no such text.
 use Rattle.std.specs.Prelude.{◌≡◌, ℕ, ℤ, pos, negsuc, ◌+◌, ◌-◌, ◌*◌, ◌==◌, nat_le, nat_lt, Bool, true, false, if◌then◌else◌, List, [], ◌∷◌, length, take, drop, codes, Option, Some, None, Result, Ok, Err}
 use Rattle.std.specs.Char.{is_ascii_digit}
 use Rattle.mesh_base_values.specs.declared.values.ColType.{ColType}

@@ -1,6 +1,5 @@
-//! What the parts of a canonical text begin with: words, heads of nodes, numbers and texts, read at the front of some bytes.
-//! Its contract: each function gives what `specs/Words.antt` says, and what is left behind it. It stands on `mesh_list`,
-//! `mesh_base_values`, `mesh_base` and `thiserror`; `mesh_canon_reading` reads definitions by it.
+//! What the parts of a canonical text begin with: words, heads of nodes, numbers and texts, read at the front of some
+//! bytes. Its contract: each function gives what `specs/Words.antt` says, and what is left behind it.
 #![tactic(auto)]
 
 mod fault;

@@ -57,9 +57,9 @@ fn put_lines(report: &mut Vec<u8>, mark: &[u8], lines: &[&[u8]]) -> Result<(), T
     Ok(())
 }
 
-/// Adds the lines by which a printed text isn't the expected one, or nothing if it is: a line with the name and the number of
-/// the first line that differs, the expected lines behind `- `, and the printed ones behind `+ `. Lines that are the same
-/// at the beginning or at the end of both aren't shown. Whether the texts are the same.
+/// Adds the lines by which a printed text isn't the expected one, or nothing if it is: a line with the name and the
+/// number of the first line that differs, the expected lines behind `- `, and the printed ones behind `+ `. Lines
+/// that are the same at the beginning or at the end of both aren't shown. Whether the texts are the same.
 pub fn put_differences(
     alloc: Global,
     report: &mut Vec<u8>,

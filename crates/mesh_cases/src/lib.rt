@@ -1,6 +1,6 @@
-//! What the suites of cases share: their files in the `data/` folder of `mesh_answers`, the lines of such a file, texts that
-//! are written with escapes and copies, cells, a pen that is asked only at the end whether memory was there, why a suite may
-//! end early, and how its report is compared and printed. It stands on `mesh_list`, `mesh_base_values` and `mesh_io`.
+//! What the suites of cases share: their files in the `data/` folder of `mesh_answers`, the lines of such a file,
+//! texts that are written with escapes and copies, cells, a pen that is asked only at the end whether memory was
+//! there, why a suite may end early, and how its report is compared and printed.
 #![tactic(auto)]
 
 mod cells;

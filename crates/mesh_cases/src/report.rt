@@ -17,7 +17,8 @@ pub fn put_count(alloc: Global, report: &mut Vec<u8>, count: u64) -> Result<(), 
     Ok(())
 }
 
-/// Prints the report of a suite, and what it ended with where that is trouble. Whether it ran to its end and is printed.
+/// Prints the report of a suite, and what it ended with where that is trouble. Whether it ran to its end and is
+/// printed.
 pub fn is_printed(rt: &HostRuntime, report: &[u8], done: Result<(), Trouble>) -> bool {
     let mut out = StdSink::output(rt);
     let is_put = out.put(report).is_ok();

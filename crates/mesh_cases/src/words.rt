@@ -4,7 +4,8 @@ use crate::report::put_number;
 use crate::trouble::Trouble;
 use std::alloc::Global;
 
-/// What stands in front of the first such byte of a line, and what behind it. Where there is none, the line and nothing.
+/// What stands in front of the first such byte of a line, and what behind it. Where there is none, the line and
+/// nothing.
 pub fn parted(line: &[u8], byte: u8) -> (&[u8], &[u8]) {
     for (at, other) in line.iter().enumerate() {
         if *other == byte {
@@ -52,8 +53,8 @@ fn put_copies(alloc: Global, made: &mut Vec<u8>, part: &[u8]) -> Result<(), Trou
     Ok(())
 }
 
-/// The bytes that a text with escapes and copies stands for: `{N TEXT}` is TEXT N times, where a `#` in it is the number
-/// of the copy, counted from 0.
+/// The bytes that a text with escapes and copies stands for: `{N TEXT}` is TEXT N times, where a `#` in it is the
+/// number of the copy, counted from 0.
 pub fn filled(alloc: Global, text: &[u8]) -> Result<Vec<u8>, Trouble> {
     let (front, behind) = parted(text, b'{');
     let mut made = Vec::from_slice(alloc, front)?;

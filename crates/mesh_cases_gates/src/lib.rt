@@ -1,5 +1,4 @@
-//! Gates for cases, and a plan that is made with one. It stands on `mesh_plan` and `mesh_exec`, whose calls a command makes with
-//! a gate that is open.
+//! Gates for cases, and a plan that is made with one.
 #![tactic(auto)]
 
 mod gates;

@@ -57,8 +57,8 @@ fn seed_of(m: &ModelText) -> Result<Seed, Memory> {
     Ok(Seed { columns, rows })
 }
 
-/// The definition that a model's file means, or its first fault. No file is read as a seed with a query, or as a model of
-/// another kind without one.
+/// The definition that a model's file means, or its first fault. No file is read as a seed with a query, or as a
+/// model of another kind without one.
 fn definition_of(alloc: Global, known: &Known, file: &Str, text: &[u8]) -> Result<Own, ReadFault> {
     match read_model(file, text) {
         Ok(m) => own_by(alloc, known, &m),

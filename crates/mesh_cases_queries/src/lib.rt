@@ -1,30 +1,27 @@
-//! Queries as data: what they mean, and their rows. Each line of a file of `data/queries` of `mesh_answers` is a case, but for
-//! empty lines and those that begin with `#`; what must be printed stands in the file `expected`, and was worked out by hand.
+//! Queries as data: what they mean, and their rows. Each line of a file of `data/queries` of `mesh_answers` is a
+//! case, but for empty lines and those that begin with `#`; what must be printed stands in the file `expected`, and
+//! was worked out by hand.
 //!
-//! In `resolved.txt` a case is the text of a query, and what it means is printed below it, as the canonical text of its CTEs
-//! and SELECTs (`mesh_canon_text/specs/Text.antt`), or the line of its first fault. `{N TEXT}` stands for a text N times, in
-//! which `#` is the number of the copy. A line may have a head:
-//! - `model | FILE` makes a model known by the text of its file, with the columns that this names;
-//! - `sources | FILE` makes the sources known that a file declares;
-//! - `expr | E` shows the type and the expression of `SELECT E AS x FROM a.t`;
-//! - `macros | QUERY` is a query of an incremental model;
-//! - `read | QUERY` shows alone whether a query means something, or memory ran out;
-//! - `own | FILE`, and `timed | FILE` for an incremental model, show the definition that a model's file means; a seed has
-//!   no rows.
+//! In `resolved.txt` a case is the text of a query, and what it means is printed below it, as the canonical text of
+//! its CTEs and SELECTs (`mesh_canon_text/specs/Text.antt`), or the line of its first fault. `{N TEXT}` stands for a
+//! text N times, in which `#` is the number of the copy. A line may have a head: - `model | FILE` makes a model known
+//! by the text of its file, with the columns that this names; - `sources | FILE` makes the sources known that a file
+//! declares; - `expr | E` shows the type and the expression of `SELECT E AS x FROM a.t`; - `macros | QUERY` is a
+//! query of an incremental model; - `read | QUERY` shows alone whether a query means something, or memory ran out; -
+//! `own | FILE`, and `timed | FILE` for an incremental model, show the definition that a model's file means; a seed
+//! has no rows.
 //!
-//! In `cases.txt` a case is a query, a seed or an expression, of which the rows are shown on one line, over the tables of the
-//! lines before, in the second day of 1970. A query is written as text, all else in canonical text; in it `$` and two
-//! letters stand for the text of a word:
-//! - `$NN | TEXT` makes the word NN of two letters;
-//! - `table NAME | TEXT` makes the table `a.NAME` of a seed's rows, or of a query's; the name is written as in canonical text;
-//! - `(..` is an expression, which is evaluated without a row;
-//! - `sum .. | TEXT` shows how many rows a query has, and the sum of their numbers;
-//! - `distinct .. | TEXT` shows one of each of a seed's rows, as `distinct_rows` of `mesh_eval_rows::joins::index` keeps them;
-//! - `places .. | TEXT` shows, for each of a seed's rows, its places among the rows of the last table, and the first of them,
-//!   as an `Index` of `mesh_eval_rows::joins::index` finds them;
-//! - `.. | TEXT` shows the rows of a query;
-//! - `waves` computes jobs by several workers (`mesh_exec_wave::wave`): none, two of which one waits for the other at a gate, and 256, and
-//!   shows how many lists of rows there are, and whether each stands at the place of its job.
+//! In `cases.txt` a case is a query, a seed or an expression, of which the rows are shown on one line, over the
+//! tables of the lines before, in the second day of 1970. A query is written as text, all else in canonical text; in
+//! it `$` and two letters stand for the text of a word: - `$NN | TEXT` makes the word NN of two letters; - `table
+//! NAME | TEXT` makes the table `a.NAME` of a seed's rows, or of a query's; the name is written as in canonical text;
+//! - `(..` is an expression, which is evaluated without a row; - `sum .. | TEXT` shows how many rows a query has, and
+//! the sum of their numbers; - `distinct .. | TEXT` shows one of each of a seed's rows, as `distinct_rows` of
+//! `mesh_eval_rows::joins::index` keeps them; - `places .. | TEXT` shows, for each of a seed's rows, its places among
+//! the rows of the last table, and the first of them, as an `Index` of `mesh_eval_rows::joins::index` finds them; -
+//! `.. | TEXT` shows the rows of a query; - `waves` computes jobs by several workers (`mesh_exec_wave::wave`): none,
+//! two of which one waits for the other at a gate, and 256, and shows how many lists of rows there are, and whether
+//! each stands at the place of its job.
 //!
 //! `bench/eval.py` and `bench/text.py` have the program run cases of their own.
 #![tactic(auto)]

@@ -168,8 +168,8 @@ fn standins(alloc: Global, snapshot: &Snapshot, tables: &[Str]) -> Result<Snapsh
     Ok(Register::from_vec(made.into_vec()))
 }
 
-/// The snapshots are copies of the first one alone, each with one of these tables and a fingerprint whose bytes are all its
-/// number, from 1 on; and there is no environment.
+/// The snapshots are copies of the first one alone, each with one of these tables and a fingerprint whose bytes are
+/// all its number, from 1 on; and there is no environment.
 fn stand_in(alloc: Global, world: &mut World, tables: &[Str]) -> Result<(), Trouble> {
     let Some(first) = world.book.snapshots.as_slice().first() else {
         return Err(Trouble::Script);
@@ -303,7 +303,8 @@ fn write(stage: &mut Stage, path: &Str, bytes: Result<Str, Trouble>) -> Result<(
     stage.write(path, bytes)
 }
 
-/// A step over a file of the example, with its words: the path of the project's file, that of the example's, and perhaps a number.
+/// A step over a file of the example, with its words: the path of the project's file, that of the example's, and
+/// perhaps a number.
 fn arrange_over(stage: &mut Stage, kind: &Str, words: &[Str], bytes: &Str) -> Result<(), Trouble> {
     match words {
         [path, _] if is(kind, b"write") => write(stage, path, Ok(bytes.copy()?)),

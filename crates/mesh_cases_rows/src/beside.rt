@@ -13,7 +13,8 @@ use sqlite::{Connection, MemStore};
 use std::alloc::Global;
 use std::thread::Threads;
 
-/// How many commands were run over records in a map and over SQLite too, and how often views were shown over the former.
+/// How many commands were run over records in a map and over SQLite too, and how often views were shown over the
+/// former.
 #[derive(Clone, Copy)]
 pub struct Tally {
     pub mapped: u64,
@@ -38,8 +39,8 @@ impl Tally {
     }
 }
 
-/// The two warehouses, whether the example is run over each, the kind of the records that are printed at the end, and what
-/// was run.
+/// The two warehouses, whether the example is run over each, the kind of the records that are printed at the end, and
+/// what was run.
 pub struct Beside {
     mapped: KeptHouse<MapKeeper>,
     stored: SqliteHouse<MemStore>,

@@ -1,46 +1,44 @@
-//! Worked examples as data. Each folder `rows/NAME` has a project in `project/` and a `script` of steps, which are run
-//! through the top call of `mesh_cli::cli` over a folder and a warehouse in memory. What each command answers is compared with
-//! the file `expected` beside the script, whose values were worked out by hand, and what differs is printed.
+//! Worked examples as data. Each folder `rows/NAME` has a project in `project/` and a `script` of steps, which are
+//! run through the top call of `mesh_cli::cli` over a folder and a warehouse in memory. What each command answers is
+//! compared with the file `expected` beside the script, whose values were worked out by hand, and what differs is
+//! printed.
 //!
-//! A script has one step a line, split as the lines of a batch are; empty lines and lines that begin with `#` are no steps:
-//! - `mesh WORD..` runs a command, and prints its status, its number of changes, and what it wrote on `out` and `err`;
-//! - `show` prints the views, each with the number of its target and its rows, and how many things the world has; targets
-//!   are numbered as the views name them; `targets` prints the views with the names of their targets;
-//! - `write PATH FILE` gives the project a file with the bytes of `rows/NAME/FILE`, and `delete PATH` removes one;
-//! - `cut PATH FILE N` gives it a file with the first N bytes of `rows/NAME/FILE`, and `pad PATH FILE N` one with line feeds
-//!   behind them, N bytes in all;
-//! - `copies N FILE` gives it the files `models/0.sql`, `models/1.sql` and so on, N in all;
-//! - `clock MOMENT` sets the clock, and `empty` empties the warehouse; `input FILE` is what commands read as their input,
-//!   and `input FILE N` the same with line feeds behind it, N bytes in all;
-//! - `book old` makes the book one of version 1 and `book present` one of version 2; `book definition` gives its first
-//!   snapshot another definition, the second time the former one; `book unknown`, `book parent`, `book twice` and
-//!   `book orphan` break it: its version, a parent of its first snapshot, its first version, which stands twice, or the list
-//!   of its first environment, of which one entry is left; `book over` makes its first snapshot one that has expired, and
-//!   `book standins TABLE..` leaves it no environment, and no snapshot but copies of the first one with other fingerprints, one
-//!   for each of these tables of its schema;
-//! - `lose VIEW` drops the object that a view points at, and `hide VIEW` the view;
-//! - `fail CALL N` has one call of each of the next commands fail, counted from 0 in each; CALL is `before` or `after` for a
-//!   change that fails before or after its effect, `house` for another call of the warehouse, or `folder`, `clock`, `input`,
-//!   `out` or `err`; `fail` alone has none fail;
-//! - `cuts PATH WORD..` runs a command with the project's file PATH whole and with each proper prefix in its place, each over
-//!   the world as it is; it counts the cuts, those that are refused with one line of that file and no change, and those that
-//!   end as with the whole file, and prints the others;
-//! - `books WORD..` runs a command over a warehouse that has just a book, for each book of the steps `fault` of the suite
-//!   `house`, and prints each with its title; at the end the warehouse is empty;
-//! - `stops CALL WORD..` runs a command, and then again from the world before with each call of that kind failing in turn,
-//!   each time followed by the whole command, and prints both statuses, whether the views show the same, and the second text;
-//!   at the end the world is as it was;
-//! - `held MOMENT` makes the plan for production, but for its views, by two workers and with a gate that holds the first unit of
-//!   a wave until the second one has entered, for some turns at most, and prints how many units and changes there were, and
-//!   whether it was held too long; `counted MOMENT` does so with a gate that counts, and prints how often it was entered.
+//! A script has one step a line, split as the lines of a batch are; empty lines and lines that begin with `#` are no
+//! steps: - `mesh WORD..` runs a command, and prints its status, its number of changes, and what it wrote on `out`
+//! and `err`; - `show` prints the views, each with the number of its target and its rows, and how many things the
+//! world has; targets are numbered as the views name them; `targets` prints the views with the names of their
+//! targets; - `write PATH FILE` gives the project a file with the bytes of `rows/NAME/FILE`, and `delete PATH`
+//! removes one; - `cut PATH FILE N` gives it a file with the first N bytes of `rows/NAME/FILE`, and `pad PATH FILE N`
+//! one with line feeds behind them, N bytes in all; - `copies N FILE` gives it the files `models/0.sql`,
+//! `models/1.sql` and so on, N in all; - `clock MOMENT` sets the clock, and `empty` empties the warehouse; `input
+//! FILE` is what commands read as their input, and `input FILE N` the same with line feeds behind it, N bytes in all;
+//! - `book old` makes the book one of version 1 and `book present` one of version 2; `book definition` gives its
+//! first snapshot another definition, the second time the former one; `book unknown`, `book parent`, `book twice` and
+//! `book orphan` break it: its version, a parent of its first snapshot, its first version, which stands twice, or the
+//! list of its first environment, of which one entry is left; `book over` makes its first snapshot one that has
+//! expired, and `book standins TABLE..` leaves it no environment, and no snapshot but copies of the first one with
+//! other fingerprints, one for each of these tables of its schema; - `lose VIEW` drops the object that a view points
+//! at, and `hide VIEW` the view; - `fail CALL N` has one call of each of the next commands fail, counted from 0 in
+//! each; CALL is `before` or `after` for a change that fails before or after its effect, `house` for another call of
+//! the warehouse, or `folder`, `clock`, `input`, `out` or `err`; `fail` alone has none fail; - `cuts PATH WORD..`
+//! runs a command with the project's file PATH whole and with each proper prefix in its place, each over the world as
+//! it is; it counts the cuts, those that are refused with one line of that file and no change, and those that end as
+//! with the whole file, and prints the others; - `books WORD..` runs a command over a warehouse that has just a book,
+//! for each book of the steps `fault` of the suite `house`, and prints each with its title; at the end the warehouse
+//! is empty; - `stops CALL WORD..` runs a command, and then again from the world before with each call of that kind
+//! failing in turn, each time followed by the whole command, and prints both statuses, whether the views show the
+//! same, and the second text; at the end the world is as it was; - `held MOMENT` makes the plan for production, but
+//! for its views, by two workers and with a gate that holds the first unit of a wave until the second one has
+//! entered, for some turns at most, and prints how many units and changes there were, and whether it was held too
+//! long; `counted MOMENT` does so with a gate that counts, and prints how often it was entered.
 //!
-//! An example whose warehouse has no other world than its commands make, and of which no call fails, is run over two further
-//! warehouses side by side, records in a map and SQLite in memory, but for one with a step `alone`: what comes of a command, or
-//! is shown, over one of them and isn't the same is printed behind it. At the end it is printed how many commands were run over
-//! each of the two, and how often views were shown. A step `kept N` has the write N of the records in the map fail before its
-//! effect, counted from 0 over the whole example, the first of which makes the book; such an example is run over the map,
-//! whatever fails besides. A step `records KIND` has the records of that kind printed that the map has at the end, each its name
-//! and its body.
+//! An example whose warehouse has no other world than its commands make, and of which no call fails, is run over two
+//! further warehouses side by side, records in a map and SQLite in memory, but for one with a step `alone`: what
+//! comes of a command, or is shown, over one of them and isn't the same is printed behind it. At the end it is
+//! printed how many commands were run over each of the two, and how often views were shown. A step `kept N` has the
+//! write N of the records in the map fail before its effect, counted from 0 over the whole example, the first of
+//! which makes the book; such an example is run over the map, whatever fails besides. A step `records KIND` has the
+//! records of that kind printed that the map has at the end, each its name and its body.
 #![tactic(auto)]
 
 mod arrange;
@@ -290,8 +288,8 @@ fn examples<R: Threads + Sync>(
     put_tally(alloc, report, count, tally)
 }
 
-/// Plays all examples, in the order of their names, and adds what differs and how many there were. Commands compute by the
-/// threads of `rt`.
+/// Plays all examples, in the order of their names, and adds what differs and how many there were. Commands compute
+/// by the threads of `rt`.
 pub fn run<R: Threads + Sync>(
     rt: &R,
     alloc: Global,

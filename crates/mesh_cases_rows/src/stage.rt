@@ -15,8 +15,8 @@ use std::thread::Threads;
 /// The bytes of the largest file of an example.
 const MOST_BYTES: u64 = 1 << 23;
 
-/// A call that is to fail: a change of the warehouse before or after its effect, another call of the warehouse, or one of
-/// another object.
+/// A call that is to fail: a change of the warehouse before or after its effect, another call of the warehouse, or
+/// one of another object.
 #[derive(Clone, Copy, PartialEq, Eq)]
 pub enum Call {
     Before,
@@ -29,8 +29,8 @@ pub enum Call {
     Err,
 }
 
-/// The files of the example, those of the project, the warehouse, the moment of the clock, the input, the books of the suite
-/// `house`, and the call that is to fail, with its number in a command.
+/// The files of the example, those of the project, the warehouse, the moment of the clock, the input, the books of
+/// the suite `house`, and the call that is to fail, with its number in a command.
 #[derive(Drop)]
 pub struct Stage {
     pub alloc: Global,

@@ -303,7 +303,8 @@ fn stopped<R: Threads + Sync>(
     Ok(Some(first.status))
 }
 
-/// Runs a command of which one call fails, and then the same again, and adds what is printed of both. Whether a call failed.
+/// Runs a command of which one call fails, and then the same again, and adds what is printed of both. Whether a call
+/// failed.
 fn stop<R: Threads + Sync>(
     rt: &R,
     stage: &mut Stage,
@@ -379,8 +380,8 @@ fn stop_over<R: Threads + Sync>(
     done
 }
 
-/// Runs a command over the same world with each call of a kind failing in turn, and each time the same command again. At
-/// the end the world is as it was.
+/// Runs a command over the same world with each call of a kind failing in turn, and each time the same command again.
+/// At the end the world is as it was.
 pub fn stops<R: Threads + Sync>(
     rt: &R,
     stage: &mut Stage,

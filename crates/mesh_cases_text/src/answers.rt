@@ -109,7 +109,8 @@ fn outcome(alloc: Global, file: &Str, text: &[u8]) -> Pen {
     pen
 }
 
-/// A file that is cut behind 0 bytes, behind 1 and so on: each length from which on something else is answered, and that.
+/// A file that is cut behind 0 bytes, behind 1 and so on: each length from which on something else is answered, and
+/// that.
 pub fn put_cuts(alloc: Global, pen: &mut Pen, text: &[u8]) -> Result<(), Trouble> {
     let file = file_of_models(alloc)?;
     let mut last = Pen::new(alloc);

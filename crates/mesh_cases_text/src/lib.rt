@@ -1,25 +1,23 @@
-//! The cases of what is read from texts: of `mesh_query_tokens`, `mesh_query`, `mesh_model_statement`, `mesh_model` and
-//! `mesh_cli_print::faults`. Each line of a file of `data/text` of `mesh_answers` is a case, but for empty lines and those that begin
-//! with `#`. It is reported as it stands, and below it what the libraries answer, in the notation of that file. The file
-//! `expected` has what must be printed; its values were worked out by hand.
+//! The cases of what is read from texts: of `mesh_query_tokens`, `mesh_query`, `mesh_model_statement`, `mesh_model`
+//! and `mesh_cli_print::faults`. Each line of a file of `data/text` of `mesh_answers` is a case, but for empty lines
+//! and those that begin with `#`. It is reported as it stands, and below it what the libraries answer, in the
+//! notation of that file. The file `expected` has what must be printed; its values were worked out by hand.
 //!
-//! A line writes a text: `\n`, `\r`, `\t`, `\\` and `\xHH` stand for one byte each, and `{N*TEXT}` for a text N times, in
-//! which `#` is how often it stood before. Where a text has a fault, the fault's line is printed, with `-` for the file.
-//! - `tokens.txt`: the tokens of a text, after a copy of them, each as `[START-END KIND WHAT]`, where the kind is `i` for an
-//!   identifier, `n` a number, `t` a text, `m` a macro and `s` a sign;
-//! - `queries.txt`: the tree of a query, each list of parts in parentheses with its operator first;
-//! - `behind.txt`: `N | TEXT`, the tree of the query that begins at token N, counted from 0;
-//! - `limits.txt`: `read` for a query that is read;
-//! - `statements.txt`: the properties of the MODEL statement in the file `models/m/a.sql`, with the byte at which a path
-//!   stands behind `at`, behind `by` the time column and behind `back` the lookback, the hours of a cron as a number with a
-//!   bit for each, a start as a day counted from 1970-01-01, a letter for each column's type, the tokens of `audits`, behind
-//!   `to` the end of the statement and behind `left` how many tokens it leaves;
-//! - `models.txt`: the same of a copy of the model in the file `models/a.sql`, and behind `query` the query's place and tree;
-//! - `cuts.txt`: a model file that is cut behind 0 bytes, behind 1 and so on until it is whole: each length from which on
-//!   something else is answered than before, and that;
-//! - `faults.txt`: `N | WHAT`, the line of the fault MN that names WHAT, at byte 10 of `models/m.sql`: a text, a name of two
-//!   parts (5, 17, and 21 for the other fault M17), names with blanks between them (12) or two numbers with ` | ` between
-//!   them (16, 19: of two fingerprints each byte).
+//! A line writes a text: `\n`, `\r`, `\t`, `\\` and `\xHH` stand for one byte each, and `{N*TEXT}` for a text N
+//! times, in which `#` is how often it stood before. Where a text has a fault, the fault's line is printed, with `-`
+//! for the file. - `tokens.txt`: the tokens of a text, after a copy of them, each as `[START-END KIND WHAT]`, where
+//! the kind is `i` for an identifier, `n` a number, `t` a text, `m` a macro and `s` a sign; - `queries.txt`: the tree
+//! of a query, each list of parts in parentheses with its operator first; - `behind.txt`: `N | TEXT`, the tree of the
+//! query that begins at token N, counted from 0; - `limits.txt`: `read` for a query that is read; - `statements.txt`:
+//! the properties of the MODEL statement in the file `models/m/a.sql`, with the byte at which a path stands behind
+//! `at`, behind `by` the time column and behind `back` the lookback, the hours of a cron as a number with a bit for
+//! each, a start as a day counted from 1970-01-01, a letter for each column's type, the tokens of `audits`, behind
+//! `to` the end of the statement and behind `left` how many tokens it leaves; - `models.txt`: the same of a copy of
+//! the model in the file `models/a.sql`, and behind `query` the query's place and tree; - `cuts.txt`: a model file
+//! that is cut behind 0 bytes, behind 1 and so on until it is whole: each length from which on something else is
+//! answered than before, and that; - `faults.txt`: `N | WHAT`, the line of the fault MN that names WHAT, at byte 10
+//! of `models/m.sql`: a text, a name of two parts (5, 17, and 21 for the other fault M17), names with blanks between
+//! them (12) or two numbers with ` | ` between them (16, 19: of two fingerprints each byte).
 //!
 //! `bench/text.py` has the program run cases of its own.
 #![tactic(auto)]

@@ -1,5 +1,5 @@
-// Expressions of a query's tree in print: each list of parts in parentheses with its operator first, and `[..]` round what
-// stands in parentheses.
+// Expressions of a query's tree in print: each list of parts in parentheses with its operator first, and `[..]` round
+// what stands in parentheses.
 use mesh_base_values::{ColType, Str};
 use mesh_cases::Pen;
 use mesh_list::Seq;

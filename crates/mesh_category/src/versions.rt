@@ -1,8 +1,6 @@
 //! The objects of a project's models. Its contract: `project_of` gives the project of a list of snapshots, as an
 //! environment has one; `versions` gives the name of the table or the stored query of each model of a project, or the
-//! first model whose fingerprint clashes, with both fingerprints, and looks each of them up once. It stands on
-//! `mesh_spec_changes::listed`, `mesh_spec_changes::due` for names, `category` for what categories are, and `mesh_spec_changes` for the law that objects
-//! without a clash are those of a plan.
+//! first model whose fingerprint clashes, with both fingerprints, and looks each of them up once.
 
 mod clashes;
 mod faults;

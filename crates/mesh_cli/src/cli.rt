@@ -1,7 +1,6 @@
-//! The top call of `mesh`: it reads the words, runs the command over the project's folder and the warehouse, prints, and answers
-//! a status. Its contract is that of `mesh`, and of `batch` for the lines of a script: what each status means of the warehouse,
-//! of what was printed, and of the outside. It stands on `mesh_cli_words` for words, on `mesh_cli_apply`, `mesh_cli_look::asking` and
-//! `mesh_cli_look::upkeep` for the commands, and on `mesh_cli_print::printed` for what is printed.
+//! The top call of `mesh`: it reads the words, runs the command over the project's folder and the warehouse, prints,
+//! and answers a status. Its contract is that of `mesh`, and of `batch` for the lines of a script: what each status
+//! means of the warehouse, of what was printed, and of the outside.
 
 mod batches;
 mod command;

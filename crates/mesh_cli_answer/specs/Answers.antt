@@ -36,7 +36,8 @@ pub record IsAlone (old new : Told) : Type 0 where
   pub world : new.world ≡ old.world
   pub calls : new.calls ≡ old.calls
 
--- all of a list that the command has for the world was made, one call each; where it is refused, nothing or a prefix of it
+-- all of a list that the command has for the world was made, one call each; where it is refused, nothing or a prefix
+-- of it
 abbrev pub IsMade : {T : Type 0} → (List Change → Type 0) → World → Told → Told → Result T Refusal → Type 0
 IsMade makes w old new (Ok x) = (list : List Change) × makes list × IsRun list w old.calls new
 IsMade makes w old new (Err r) = IsAlone old new ⊎ ((list : List Change) × makes list × IsPrefixRun list w old.calls new)
@@ -46,8 +47,8 @@ abbrev pub IsGiven : {T : Type 0} → (Result T Refusal → Type 0) → Result T
 IsGiven gives (Ok x) = gives (Ok x)
 IsGiven gives (Err r) = is_fault r ≡ false → gives (Err r)
 
--- A command that makes such a list of changes of the world that the house tells, and gives such an answer there. The warehouse
--- is told to have failed only where its count of faults rose, and the outside only where this stands.
+-- A command that makes such a list of changes of the world that the house tells, and gives such an answer there. The
+-- warehouse is told to have failed only where its count of faults rose, and the outside only where this stands.
 pub record Answers {T : Type 0} (outside : Type 0) (makes : World → List Change → Type 0) (gives : World → Result T Refusal → Type 0) (old new : Told) (result : Result T Refusal) : Type 0 where
   pub faults : old.faults ≤ new.faults
   pub failed : IsErrOf result Warehouse → Rose old.faults new.faults

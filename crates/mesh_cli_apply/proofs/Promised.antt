@@ -141,7 +141,8 @@ module _ (b : Book) (present : is_present b ≡ true) (p : Plan) where
   pub of_run_alone : (env : List ℕ) (t : ℤ) → IsRunIn b env (env_at b env) t p → (w : World) → w.book ≡ b → AreOf p.moment (RunAll (promised p)) w (executed p w ++ [])
   of_run_alone env t h w is = subst (λ (l : List Change). AreOf p.moment (RunAll (promised p)) w l) (sym (append-nil (executed p w))) (of_run env t h w is)
 
--- where as many changes were made as there are without rows, the last ones are those that give the environment its views
+-- where as many changes were made as there are without rows, the last ones are those that give the environment its
+-- views
 pub all_promoted : (b : Book) (p : Plan) → are_fit (parts p) ≡ true → (w : World) → length (executed p w) ≡ length (outline p) → rest b p w ≡ promotes b (promised p)
 all_promoted b p fit w long =
     all_come (models p) (promotes b (promised p)) (parts p) (run w (opened p)) fit

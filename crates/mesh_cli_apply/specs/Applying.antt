@@ -43,7 +43,8 @@ pub record IsLacking (p : Plan) (w : World) (r : Refusal) : Type 0 where
   pub first : first_lack w.sources (parts p) ≡ Some lack
   pub told : r ≡ Model (name_text lack.model) 0 lack.kind
 
--- no source lacks anything, and a due model reads an object that shows no rows in a world that the changes reach, which is told
+-- no source lacks anything, and a due model reads an object that shows no rows in a world that the changes reach,
+-- which is told
 pub record IsStopped (p : Plan) (w : World) (r : Refusal) : Type 0 where
   pub whole : first_lack w.sources (parts p) ≡ None
   pub object : Name

@@ -29,7 +29,8 @@ pub record MakesAll (p : Plan) (c : Command) (b : Book) (old new : Told) (result
   pub made : (w : World) → Tells old w → w.book ≡ b → IsWhole p c w old new result
   pub given : IfErr result (λ r. is_fault r ≡ false → (w : World) → Tells old w → w.book ≡ b → IsHeld p w r)
 
--- A list was made behind so many changes, and all are told; where it is refused, the list stopped, or the number doesn't fit.
+-- A list was made behind so many changes, and all are told; where it is refused, the list stopped, or the number
+-- doesn't fit.
 abbrev pub Promotes : List Change → ℕ → Told → Told → Result ℕ Refusal → Type 0
 Promotes list done old new (Ok n) = Ran (λ w. list) old new × (n ≡ done + length list)
 Promotes list done old new (Err r) = ((fail : WhFail) × (r ≡ as_refusal fail) × Makes {T = ℕ} (λ w. list) old new (Err fail)) ⊎ ((r ≡ Memory) × Ran (λ w. list) old new)

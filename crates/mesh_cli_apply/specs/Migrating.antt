@@ -28,7 +28,8 @@ pub record IsMoved (b : Book) (renames : List Rename) : Type 0 where
   pub well_formed : is_well_formed_book b ≡ true
   pub map : IsMap b renames
 
--- `migrate` moves a book of the former version by its map; another book, and one whose map has twins, it leaves as they are
+-- `migrate` moves a book of the former version by its map; another book, and one whose map has twins, it leaves as
+-- they are
 abbrev pub MigrateMakes : World → List Change → Type 0
 MigrateMakes w list = (renames : List Rename) × IsMoved w.book renames × ((clock : Clock) → list ≡ changes clock (MigrateAll renames) w)
 

@@ -110,8 +110,8 @@ fn apply_project<R: Threads + Sync, W: Warehouse>(
     }
 }
 
-/// `apply`: the project in `dir` is made for an environment at a moment, and the answer is the text of its plan with the number
-/// of its changes. `again` names a model that is computed again with its descendants.
+/// `apply`: the project in `dir` is made for an environment at a moment, and the answer is the text of its plan with
+/// the number of its changes. `again` names a model that is computed again with its descendants.
 pub fn apply<R: Threads + Sync, W: Warehouse, F: Folder>(
     rt: &R,
     alloc: Global,

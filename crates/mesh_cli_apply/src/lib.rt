@@ -1,8 +1,7 @@
-//! The commands that plan: `plan` prints what an apply would do, `apply` and `run` do it, and `migrate` moves a book of the
-//! former version. Its contract: each makes exactly the changes that the promise has for the command (`mesh_spec_changes`) in the
-//! world that the house tells, and answers the text that is printed, or a refusal whose cause stands there. It stands on
-//! `mesh_project::project` for projects, `mesh_plan` for plans, `mesh_exec` and `mesh_janitor::promote` for their changes, `mesh_janitor::migrate` for
-//! maps of fingerprints, and `mesh_cli_answer`.
+//! The commands that plan: `plan` prints what an apply would do, `apply` and `run` do it, and `migrate` moves a book
+//! of the former version. Its contract: each makes exactly the changes that the promise has for the command
+//! (`mesh_spec_changes`) in the world that the house tells, and answers the text that is printed, or a refusal whose
+//! cause stands there.
 #![tactic(auto)]
 
 mod applying;

@@ -123,8 +123,8 @@ fn migrate_by<W: Warehouse>(alloc: Global, house: &mut W, b: &Book) -> Result<St
     }
 }
 
-/// `migrate`: a book of the former version is moved to the present one, and the answer is the line with the number of its
-/// snapshots. One of the present version is left alone.
+/// `migrate`: a book of the former version is moved to the present one, and the answer is the line with the number of
+/// its snapshots. One of the present version is left alone.
 pub fn migrate<W: Warehouse>(alloc: Global, house: &mut W) -> Result<Str, Refusal>
     ensures { Answers ⊥ MigrateMakes MigrateGives (W.told house.old) (W.told house.new) result }
 {

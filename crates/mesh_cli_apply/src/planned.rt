@@ -142,7 +142,8 @@ fn plan_project<W: Warehouse>(
     }
 }
 
-/// `plan`: the text of what an apply of the project in `dir` would do for an environment at a moment. Nothing is changed.
+/// `plan`: the text of what an apply of the project in `dir` would do for an environment at a moment. Nothing is
+/// changed.
 pub fn plan<W: Warehouse, F: Folder>(
     alloc: Global,
     folder: &mut F,

@@ -90,8 +90,8 @@ fn run_by<R: Threads + Sync, W: Warehouse>(
     }
 }
 
-/// `run`: what is due of an environment's models at a moment is computed, and the answer is the text of its plan with the number
-/// of its changes. No project is read, and no view moves.
+/// `run`: what is due of an environment's models at a moment is computed, and the answer is the text of its plan with
+/// the number of its changes. No project is read, and no view moves.
 pub fn run<R: Threads + Sync, W: Warehouse>(
     rt: &R,
     alloc: Global,

@@ -1,7 +1,6 @@
-//! The commands that keep a warehouse in order. Its contract: `janitor`, `invalidate` and `ingest` make exactly the changes
-//! of their command in the world that the warehouse tells, and answer the line that is printed, or a refusal whose cause
-//! stands there or in the files of the project. It stands on `mesh_janitor::janitor`, on `mesh_project_files` and `mesh_model_csv::seeds` for the file that
-//! is ingested, and on `mesh_cli_answer` and `mesh_cli_print::printed`.
+//! The commands that keep a warehouse in order. Its contract: `janitor`, `invalidate` and `ingest` make exactly the
+//! changes of their command in the world that the warehouse tells, and answer the line that is printed, or a refusal
+//! whose cause stands there or in the files of the project.
 
 mod ingesting;
 mod sourced;

@@ -1,5 +1,5 @@
-//! The line that is printed for a fault: `FILE:AT: TEXT` and a line feed. Its contract: `fault_line` gives exactly the
-//! line that the definition has. It stands on `mesh_list`, `mesh_base_values`, `mesh_query_tokens`, `hex` and `itoa`.
+//! The line that is printed for a fault: `FILE:AT: TEXT` and a line feed. Its contract: `fault_line` gives exactly
+//! the line that the definition has.
 
 mod kinds;
 mod line;

@@ -1,6 +1,5 @@
-//! What commands print: rows, reports and refusals, on which sink, and with which exit status. Its contract: each call gives
-//! exactly the text that its definition has, and `printed` writes it or a beginning of it. It stands on `csv` for records, on
-//! `faults` for faults of a project, on `plans` for moments and on `mesh_io` for sinks.
+//! What commands print: rows, reports and refusals, on which sink, and with which exit status. Its contract: each
+//! call gives exactly the text that its definition has, and `printed` writes it or a beginning of it.
 
 mod printing;
 mod records;

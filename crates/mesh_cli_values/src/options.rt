@@ -1,7 +1,6 @@
-//! What the values of options and places stand for: environments, numbers of workers and of records, moments, names of two parts, days, and
-//! what is computed again. Its contract: each call gives just the value that `Values` says of its text, or that there is none.
-//! It stands on `mesh_time_days` and `mesh_time_days::casts` for moments, days and numbers, and on `mesh_spec_changes` for the names that
-//! environments may have.
+//! What the values of options and places stand for: environments, numbers of workers and of records, moments, names
+//! of two parts, days, and what is computed again. Its contract: each call gives just the value that `Values` says of
+//! its text, or that there is none.
 
 mod values;
 

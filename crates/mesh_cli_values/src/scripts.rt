@@ -1,6 +1,5 @@
-//! The lines of a script, and their words. Its contract: `line_words` answers the words of a line, some in double quotes, or
-//! that it has none that can be told; `is_skipped` whether a line asks for nothing. It stands on `mesh_list` and
-//! `mesh_base_values`.
+//! The lines of a script, and their words. Its contract: `line_words` answers the words of a line, some in double
+//! quotes, or that it has none that can be told; `is_skipped` whether a line asks for nothing.
 
 // The lines of a script.
 ghost use Rattle.std.specs.Prelude.{◌≡◌, ◌++◌, ◌∷◌, [], IfOk, OnOk};
@@ -22,7 +21,8 @@ pub fn is_skipped(line: &[u8]) -> bool
     }
 }
 
-/// Where splitting stands: between two words, in a plain word, in a quoted word, behind one, or at a quote that can't stand.
+/// Where splitting stands: between two words, in a plain word, in a quoted word, behind one, or at a quote that can't
+/// stand.
 #[derive(Clone, Copy)]
 pub enum State {
     Between,

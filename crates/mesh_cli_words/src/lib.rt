@@ -1,7 +1,6 @@
-//! Command lines: which command a list of words asks for. Its contract: `read_words` answers a line exactly where the words
-//! are such words, and what they ask for. It stands on `clap` for the rules of the words, and on `mesh_cli_values::options` for what
-//! their values are. `host_words` has the words that the host gives, and `warehouse_file` the file that they name; no clause says
-//! so.
+//! Command lines: which command a list of words asks for. Its contract: `read_words` answers a line exactly where the
+//! words are such words, and what they ask for. `host_words` has the words that the host gives, and `warehouse_file`
+//! the file that they name; no clause says so.
 #![tactic(auto)]
 
 mod apps;

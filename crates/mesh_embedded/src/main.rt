@@ -1,5 +1,6 @@
-//! A program that embeds the library. It has a project of two models as texts, applies it to a warehouse in memory, and reads
-//! the rows behind a view as values, not as a CSV text. `docs/CALLS.md` goes through it. What it prints is compared with `stdout`.
+//! A program that embeds the library. It has a project of two models as texts, applies it to a warehouse in memory,
+//! and reads the rows behind a view as values, not as a CSV text. `docs/CALLS.md` goes through it. What it prints is
+//! compared with `stdout`.
 #![tactic(auto)]
 
 use mesh_base_values::{Cell, Name, Row, Str};

@@ -1,7 +1,6 @@
-//! Expressions whose names are looked up before the first row. Its contract: what `bind` makes of an expression, over the
-//! columns of a FROM, under keys and for an interval, has the expression's value (`Ev` of `mesh_spec_query`) whatever row, key
-//! values and group it is given. It stands on `mesh_list`, `mesh_base_values`, `mesh_time_days::casts`, `mesh_base`, `mesh_eval_rows::joins::joined`,
-//! `mesh_eval_rows` and the definitions of `mesh_spec_query`.
+//! Expressions whose names are looked up before the first row. Its contract: what `bind` makes of an expression, over
+//! the columns of a FROM, under keys and for an interval, has the expression's value (`Ev` of `mesh_spec_query`)
+//! whatever row, key values and group it is given.
 
 mod binding;
 mod forms;

@@ -1,7 +1,6 @@
 //! The value of a bound expression at a row or over a group. Its contract: `value_of` gives exactly the value that
-//! `mesh_eval_expressions::bound` defines for it (`bound_value`) of what a `Frame` gives, so that of the expression which was bound, and `holds`
-//! tells whether that value is true. It stands on `mesh_eval_expressions::bound`, `mesh_eval_rows`, `mesh_eval_rows::joins::joined`, `mesh_time_days::casts` and the
-//! definitions of `mesh_spec_query`.
+//! `mesh_eval_expressions::bound` defines for it (`bound_value`) of what a `Frame` gives, so that of the expression
+//! which was bound, and `holds` tells whether that value is true.
 //! The module `bound` has expressions whose names are looked up once, before any row.
 #![tactic(auto)]
 

@@ -39,8 +39,8 @@ fn plain_key(cells: &[Cell], k: usize) -> Plain
     }
 }
 
-/// The value of a bound expression, where it takes no memory. What is asked for most stands in front, and the rest isn't inlined,
-/// since a function pays at its entry for all that its arms hold.
+/// The value of a bound expression, where it takes no memory. What is asked for most stands in front, and the rest
+/// isn't inlined, since a function pays at its entry for all that its arms hold.
 #[cycle(plain)]
 pub(crate) fn plain_of<'v>(b: &'v Bound, f: &Frame<'v, 'v>) -> Option<Plain<'v>>
     ensures { IfSome result (λ p. cell_of p ≡ bound_value b.now (given_of f.now)) }

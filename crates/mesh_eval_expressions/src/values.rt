@@ -24,8 +24,8 @@ use mesh_list::{Memory, push_made, together};
 use mesh_time_days::casts::cast;
 use std::alloc::Global;
 
-/// The value of a bound expression, where it lies if it is a cell of a row, of a key or of the expression. A function pays at
-/// its entry for all that its arms hold, so what is asked for most stands in short ones.
+/// The value of a bound expression, where it lies if it is a cell of a row, of a key or of the expression. A function
+/// pays at its entry for all that its arms hold, so what is asked for most stands in short ones.
 #[cycle(values)]
 pub fn value_of<'v>(alloc: Global, b: &'v Bound, f: &Frame<'v, 'v>) -> Result<Held<'v>, Memory>
     ensures { IfOk result (λ v. v ≡ bound_value b.now (given_of f.now)) }

@@ -1,7 +1,6 @@
-//! The values of operators, functions and macros, where the operands are cells. Its contract: each call is its definition
-//! in `mesh_spec_query`, a `Held` is its cell, whether that lies elsewhere or was made, and a `Plain` is one that owns no
-//! memory. It stands on `mesh_list`, `mesh_base_values`, `mesh_time_days`, `mesh_time_days::casts`, `mesh_base` and the definitions of
-//! `mesh_spec_query`.
+//! The values of operators, functions and macros, where the operands are cells. Its contract: each call is its
+//! definition in `mesh_spec_query`, a `Held` is its cell, whether that lies elsewhere or was made, and a `Plain` is
+//! one that owns no memory.
 //! The module `joins` has the rows of a FROM side by side, and rows found by their cells.
 #![tactic(auto)]
 

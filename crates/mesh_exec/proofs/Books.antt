@@ -42,7 +42,8 @@ use Rattle.mesh_exec_works.specs.Works.{Part, parts, parts_from}
 use Rattle.mesh_exec.specs.Executed.{executed, executes, filled, fills, part_fills, part_rows}
 use Rattle.mesh_exec.specs.Planned.{IsOf, as_planned, opens_of, planned_models}
 
--- the objects of some models are made and filled, and then come some last changes; nothing more comes where an object dangles
+-- the objects of some models are made and filled, and then come some last changes; nothing more comes where an object
+-- dangles
 abbrev pub ends : List Planned → List Change → List Part → World → List Change
 ends all last [] w = last
 ends all last (p ∷ ps) w = making all p ++ followed (run w (making all p)) (part_fills (run w (making all p)) all p) (ends all last ps)

@@ -46,8 +46,9 @@ pub record IsLostIn (p : Plan) (w v : World) (object : Name) : Type 0 where
   pub reached : IsLost (models p) (parts p) (run w (opened p)) v object
   pub lower : (q : Part) → Contains (parts p) q → q.node.rank < reached.part.node.rank → Contains reached.before q
 
--- A call that is to make a plan. It is refused for a source before anything is changed; it stops at an object that dangles
--- in the world that the changes before have reached; and a fault of the warehouse is told only where its count rose.
+-- A call that is to make a plan. It is refused for a source before anything is changed; it stops at an object that
+-- dangles in the world that the changes before have reached; and a fault of the warehouse is told only where its
+-- count rose.
 pub record Executes (p : Plan) (old new : Told) (result : Result Done ExecFault) : Type 0 where
   pub faults : old.faults ≤ new.faults
   pub ok : OnOk result ((w : World) → Tells old w → (first_lack w.sources (parts p) ≡ None) × IsRun (executed p w) w old.calls new × (length (executed p w) ≡ length (outline p)))

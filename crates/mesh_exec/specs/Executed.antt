@@ -34,7 +34,8 @@ fills w all p (d ∷ ds) = option_map (λ tables. flat_map (filled p tables) (d 
 abbrev pub part_fills : World → List Planned → Part → Option (List Change)
 part_fills w all p = fills w all (model_of p.node p.entry) p.dues
 
--- the objects of some models are made and filled, one model after another, each over the world that those before it leave
+-- the objects of some models are made and filled, one model after another, each over the world that those before it
+-- leave
 abbrev pub executes : List Planned → List Part → World → List Change
 executes all [] w = []
 executes all (p ∷ ps) w = making all p ++ followed (run w (making all p)) (part_fills (run w (making all p)) all p) (executes all ps)

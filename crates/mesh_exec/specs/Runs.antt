@@ -1,5 +1,5 @@
--- The due parts of a model that one query computes: those of a run of units, each of which begins where the one before it
--- ends, or a part by itself.
+-- The due parts of a model that one query computes: those of a run of units, each of which begins where the one
+-- before it ends, or a part by itself.
 use Rattle.std.specs.Prelude.{◌≡◌, ℕ, zero, suc, ℤ, pos, Bool, true, false, ◌&&◌, if◌then◌else◌, List, [], ◌∷◌, Some, None}
 use Rattle.std.specs.List.{flat_map, fold, list_all}
 use Rattle.std.specs.Ordering.{int_eq}

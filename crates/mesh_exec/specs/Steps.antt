@@ -54,8 +54,8 @@ pub record IsPartMade (all : List Planned) (p : Part) (w : World) (before : ℕ)
   pub sources : (run w list).sources ≡ w.sources
   pub many : length list ≡ length (part_outline all p)
 
--- A model reads an object that is lost in the world that is reached once the models before it were made and filled, none
--- of which read such an object, and its own object was made.
+-- A model reads an object that is lost in the world that is reached once the models before it were made and filled,
+-- none of which read such an object, and its own object was made.
 pub record IsLost (all : List Planned) (parts : List Part) (w v : World) (object : Name) : Type 0 where
   pub before : List Part
   pub part : Part

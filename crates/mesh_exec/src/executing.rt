@@ -71,10 +71,10 @@ fn make_plan<R: Threads + Sync, W: Warehouse, G: Gate>(
     Ok(sum)
 }
 
-/// Makes the changes of a plan up to those of the environment's views, all by this thread and in the plan's order: the
-/// moment, the snapshots, what is forgotten, and then model by model what makes its object and what fills its due parts. The
-/// rows of a model's due parts are computed by so many workers, over its sources and its parents' objects as the warehouse
-/// shows them once the changes before have been made.
+/// Makes the changes of a plan up to those of the environment's views, all by this thread and in the plan's order:
+/// the moment, the snapshots, what is forgotten, and then model by model what makes its object and what fills its due
+/// parts. The rows of a model's due parts are computed by so many workers, over its sources and its parents' objects
+/// as the warehouse shows them once the changes before have been made.
 pub fn execute<R: Threads + Sync, W: Warehouse, G: Gate>(
     rt: &R,
     alloc: Global,

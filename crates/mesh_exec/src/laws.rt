@@ -9,8 +9,8 @@ ghost use Rattle.mesh_spec_changes.specs.Changes.{executes};
 ghost use Rattle.mesh_exec.specs.Executed.{executed};
 ghost use Rattle.mesh_exec.specs.Planned.{IsOf, opens_of, planned_models};
 
-/// A plan in which what is due and what is made are what a book says makes the changes that are asked for with that book:
-/// those of an apply, or of a run, before an environment gets its views.
+/// A plan in which what is due and what is made are what a book says makes the changes that are asked for with that
+/// book: those of an apply, or of a run, before an environment gets its views.
 pub fn a_plan_of_a_book_makes_what_is_asked()
     ensures { (clock : Clock) (b : Book) (p : Plan) → IsOf clock b p → (w : World) →
         executed p w ≡ opens_of p ++ executes clock b p.forgets (planned_models p) [] (planned_models p) (run w (opens_of p)) }

@@ -1,8 +1,6 @@
-//! Plans are made. Its contract: `execute` makes exactly the changes of a plan up to those of the environment's views, one
-//! call each and in the plan's order, over the rows that the warehouse shows; it is refused for a source of a due model
-//! before anything is changed, and stops at an object that dangles. It stands on `mesh_exec_works`, which has the changes of each
-//! model and the tables that it reads, `mesh_exec_wave::wave`, which computes rows, `mesh_exec_units`, by which those of adjoining units
-//! are computed at once, `mesh_janitor::making` and the lists of changes in `mesh_spec_changes`.
+//! Plans are made. Its contract: `execute` makes exactly the changes of a plan up to those of the environment's
+//! views, one call each and in the plan's order, over the rows that the warehouse shows; it is refused for a source
+//! of a due model before anything is changed, and stops at an object that dangles.
 //! The module `plans` has the law that plans can be executed.
 #![tactic(auto)]
 

@@ -118,8 +118,8 @@ fn make_first<R: Threads + Sync, W: Warehouse, G: Gate>(
     Ok(Next { models: 1, changes })
 }
 
-/// How many models share a wave: four where one worker computes them one after another, whose rows lie in memory until all are
-/// there; else so many for each worker that the last of a wave are a small part of it.
+/// How many models share a wave: four where one worker computes them one after another, whose rows lie in memory
+/// until all are there; else so many for each worker that the last of a wave are a small part of it.
 fn most_of(workers: u32) -> usize
     requires { workers ≤ 64 }
     ensures { result ≤ 256 }

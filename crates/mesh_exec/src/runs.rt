@@ -87,8 +87,8 @@ fn cut_in_runs<'a>(alloc: Global, joins: bool, dues: &'a [Due]) -> Result<Runs<'
     Ok(runs)
 }
 
-/// The due parts of a model in runs: adjoining units are in one where the rows of each are those of one query for all of
-/// them that lie in the unit.
+/// The due parts of a model in runs: adjoining units are in one where the rows of each are those of one query for all
+/// of them that lie in the unit.
 pub(crate) fn runs_of<'a>(alloc: Global, node: &Node, dues: &'a [Due]) -> Result<Runs<'a>, Memory>
     ensures { IfOk result (λ runs. AreRunsOf (is_joinable node.now.own) dues.now runs) }
 {

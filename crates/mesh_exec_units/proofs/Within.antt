@@ -1,4 +1,5 @@
--- A time that lies in a unit meets `BETWEEN` its start `AND` its end exactly where the macros are of the time's own type.
+-- A time that lies in a unit meets `BETWEEN` its start `AND` its end exactly where the macros are of the time's own
+-- type.
 use Rattle.std.proofs.Common.{◌≡◌, ℕ, ◌^◌, Bool, true, false, ◌&&◌, cond, List, Some, None, ℤ, pos, negsuc, ◌<ℤ◌, ◌≤ℤ◌, ◌↔◌, refl, ap, ◌∙◌, arith}
 use Rattle.std.specs.Ordering.{int_cmp, is_ge, is_gt, is_le, nat_cmp, ordering_reverse}
 use Rattle.std.specs.Cmp.Lexicographic.{slice_cmp}

@@ -19,8 +19,8 @@ pub fn runs_give_the_rows_of_their_units()
         All (λ v. filter (is_of_unit own v) (defn_rows own.defn inputs (run_of u us)) ≡ piece_over own inputs v) (u ∷ us) }
 {}
 
-/// So it is with rows in ascending order: those of a run that lie in it, cut to one of its units, are the unit's rows in
-/// ascending order.
+/// So it is with rows in ascending order: those of a run that lie in it, cut to one of its units, are the unit's rows
+/// in ascending order.
 pub fn sorted_runs_are_cut_to_their_units()
     ensures unit { (own : Own) (inputs : List Input) (u w : Bounds) → is_joinable own ≡ true → IsUnit u → IsUnit w → IsPartOf u w →
         filter (is_of_unit own u) (ascending (piece_over own inputs w)) ≡ ascending (piece_over own inputs u) }

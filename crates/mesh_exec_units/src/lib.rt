@@ -1,6 +1,5 @@
-//! What one evaluation over adjoining units has to do with those units. Its contract: for a joinable definition, a unit's
-//! rows are those of the whole run's evaluation that lie in the unit, in the same order, sorted or not. It stands on the
-//! definitions of `mesh_lineage` and `mesh_spec_model`.
+//! What one evaluation over adjoining units has to do with those units. Its contract: for a joinable definition, a
+//! unit's rows are those of the whole run's evaluation that lie in the unit, in the same order, sorted or not.
 #![tactic(auto)]
 
 mod laws;

@@ -1,6 +1,5 @@
-//! A word from which many workers draw the numbers of their units. Its contract: each step keeps the rule `Claims`, so that
-//! no number is drawn twice, and a seat that has all parts of the word knows that none was left out. It stands on the ported
-//! crate `atomic_table`.
+//! A word from which many workers draw the numbers of their units. Its contract: each step keeps the rule `Claims`,
+//! so that no number is drawn twice, and a seat that has all parts of the word knows that none was left out.
 
 mod claimed;
 mod laws;

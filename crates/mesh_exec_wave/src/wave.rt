@@ -1,5 +1,5 @@
-//! Waves: the jobs of one rank, evaluated side by side. Its contract: `wave` gives the rows of each job at the job's own
-//! place, whatever the number of workers. It stands on `mesh_eval`, and on the numbers that `claims` gives out.
+//! Waves: the jobs of one rank, evaluated side by side. Its contract: `wave` gives the rows of each job at the job's
+//! own place, whatever the number of workers.
 
 mod gates;
 mod jobs;

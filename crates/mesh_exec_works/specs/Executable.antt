@@ -42,8 +42,8 @@ is_due_of (Some n) (Unit place start end) = is_incremental n.own.kind && (lt_z s
 abbrev pub is_due_in : List Node → Due → Bool
 is_due_in nodes d = is_due_of (slice_get nodes (place_of d)) d
 
--- A plan that can be made: its moment is one, each model has an entry, and what is due stands in the plan's order, each part
--- once, and fits its model.
+-- A plan that can be made: its moment is one, each model has an entry, and what is due stands in the plan's order,
+-- each part once, and fits its model.
 pub record IsExecutable (p : Plan) : Type 0 where
   pub moment : IsTrue (is_moment p.moment)
   pub entries : length p.entries ≡ length p.project.nodes

@@ -1,5 +1,5 @@
--- Which models of a plan may be computed before any of those that come before them in a list is made: those whose tables are
--- there, and are none of the objects that are made and filled up to them.
+-- Which models of a plan may be computed before any of those that come before them in a list is made: those whose
+-- tables are there, and are none of the objects that are made and filled up to them.
 use Rattle.std.specs.Prelude.{◌≡◌, ◌-◌, ℕ, nat_lt, Bool, true, false, ◌||◌, if◌then◌else◌, List, [], ◌∷◌, ◌++◌, length, map, Some, None}
 use Rattle.std.specs.List.{list_all, list_any, slice_index_or}
 use Rattle.std.specs.Option.{option_map}

@@ -270,8 +270,8 @@ fn add_same(made: &mut Pooled) -> Result<(), Memory>
     made.numbers.push(number)
 }
 
-/// The tables of the first of some models, each with its own, as far as they are there before any of these models is made.
-/// Models that stand side by side and read the same have one pool.
+/// The tables of the first of some models, each with its own, as far as they are there before any of these models is
+/// made. Models that stand side by side and read the same have one pool.
 pub fn pools_ahead<W: Warehouse>(
     alloc: Global,
     house: &mut W,

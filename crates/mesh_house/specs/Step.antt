@@ -43,7 +43,8 @@ load w name columns rows keep =
     if is_physical name then w
     else record w { sources = placed name_cmp input_name (record { name = name; columns = columns; rows = kept_rows keep (source_at w name) ++ rows }) w.sources }
 
--- the object is there, instead of the one that had its name, and the book is this; a name that no object may have has none
+-- the object is there, instead of the one that had its name, and the book is this; a name that no object may have has
+-- none
 abbrev pub make : World → Object → Book → World
 make w o b = if is_physical o.name then with_book (with_object w o) b else w
 

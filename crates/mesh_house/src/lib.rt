@@ -1,8 +1,7 @@
-//! The warehouse as the program sees it: the world that it keeps, the changes that are made to it one by one, the trait
-//! of what keeps one, and a house in memory whose calls fail by a list. Its contract: a change that is answered by `Ok`
-//! was made exactly once, one that failed was made or not and left a count of faults raised, and what is read is what
-//! the world has; a call over a list of changes makes all of it, or stops after a part of it. It stands on `mesh_list`,
-//! `mesh_base_values`, `mesh_base`, `mesh_time_days`, `mesh_time`, `mesh_time_days::seconds`, `mesh_house_book` and `mesh_house_book::moves`.
+//! The warehouse as the program sees it: the world that it keeps, the changes that are made to it one by one, the
+//! trait of what keeps one, and a house in memory whose calls fail by a list. Its contract: a change that is answered
+//! by `Ok` was made exactly once, one that failed was made or not and left a count of faults raised, and what is read
+//! is what the world has; a call over a list of changes makes all of it, or stops after a part of it.
 #![tactic(auto)]
 
 mod buffered;

@@ -142,8 +142,8 @@ pub enum Change {
     ForgetUnits {
         list: Forgets,
     },
-    /// The snapshots that the map names have their new fingerprints from now on, wherever the book speaks of them, and the
-    /// book is of the new version. Nothing else in the world changes.
+    /// The snapshots that the map names have their new fingerprints from now on, wherever the book speaks of them,
+    /// and the book is of the new version. Nothing else in the world changes.
     Migrate {
         map: Renames,
     },

@@ -74,8 +74,8 @@ abbrev pub parents_of : List Snapshot → List Ref → List Parent
 parents_of all refs = map (parent all) refs
 
 -- The snapshot stands above the one before it. Two underscores adjoin in its object's schema. Its definition has its
--- name, and suits the version. Its parents are snapshots of the book, it stands on them, and its rank is at most 4,095; so
--- its name's schema has no two underscores that adjoin.
+-- name, and suits the version. Its parents are snapshots of the book, it stands on them, and its rank is at most
+-- 4,095; so its name's schema has no two underscores that adjoin.
 abbrev pub is_snapshot_fit : ℕ → List Snapshot → Option Snapshot → Snapshot → Bool
 is_snapshot_fit version all before s =
     is_above ref_cmp snapshot_ref before s

@@ -10,8 +10,9 @@ pub const BOOK_VERSION: u32 = 2;
 pub const OLD_VERSION: u32 = 1;
 
 /// What a warehouse records beside its tables and views. `version` is that of the fingerprints: they are those of the
-/// canonical text that names an incremental model's lookback from 2 on, and before it of a text without one. `moment` is
-/// in seconds since 1970-01-01T00:00:00 UTC. Any lists make a book; `book_fault` tells whether it is a well-formed one.
+/// canonical text that names an incremental model's lookback from 2 on, and before it of a text without one. `moment`
+/// is in seconds since 1970-01-01T00:00:00 UTC. Any lists make a book; `book_fault` tells whether it is a well-formed
+/// one.
 pub struct Book {
     pub version: u32,
     pub moment: i64,

@@ -240,7 +240,8 @@ fn key_and_object(snapshot: &Snapshot) -> Result<(Ref, Name), Memory>
     ))
 }
 
-// Gives the object a version where it has none, and answers whether it did. Without that version the versions are as before.
+// Gives the object a version where it has none, and answers whether it did. Without that version the versions are as
+// before.
 fn add_version(versions: &mut Versions, object: &Name) -> Result<bool, Memory>
     ensures ok { OnOk result (versions.new ≡ with_version (found name_cmp version_object object.now versions.old) object.now versions.old) }
     ensures back { IfOk result (λ added. (if added then without name_cmp version_object object.now versions.new else versions.new) ≡ versions.old) }

@@ -107,7 +107,8 @@ fn first_fault(b: &Book) -> Option<BookFault>
     }
 }
 
-/// The first place where the book breaks a rule of well-formed ones, or none where it keeps them all. It takes no memory.
+/// The first place where the book breaks a rule of well-formed ones, or none where it keeps them all. It takes no
+/// memory.
 pub fn book_fault(b: &Book) -> Option<BookFault>
     ensures first { result ≡ book_fault b.now }
     ensures none { IsNone result ↔ IsTrue (is_well_formed_book b.now) }

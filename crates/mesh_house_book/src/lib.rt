@@ -1,7 +1,6 @@
-//! The book of a warehouse: which snapshots, versions and environments there are, and the greatest moment of a command.
-//! Its contract: each kind of change makes of a book what its definition says, and nothing where memory is wanting;
-//! `book_fault` is the first breach of the rules of a well-formed book, and takes no memory. It stands on `mesh_list`,
-//! `mesh_base_values`, `mesh_base`, `mesh_base::rules` and the ranges of `mesh_time`.
+//! The book of a warehouse: which snapshots, versions and environments there are, and the greatest moment of a
+//! command. Its contract: each kind of change makes of a book what its definition says, and nothing where memory is
+//! wanting; `book_fault` is the first breach of the rules of a well-formed book, and takes no memory.
 //! The module `moves` has intervals and marks that are forgotten, and other fingerprints.
 #![tactic(auto)]
 

@@ -11,7 +11,8 @@ use std::cmp::Ordering;
 pub type Versions = Register<Version>;
 
 /// The record of a physical table or view, by its name. `ranges` are the seconds of the schedule whose rows were
-/// written. `marks` are the last ticks that the rows of a whole table were computed for, and are absent until they were.
+/// written. `marks` are the last ticks that the rows of a whole table were computed for, and are absent until they
+/// were.
 pub struct Version {
     pub object: Name,
     pub made: bool,

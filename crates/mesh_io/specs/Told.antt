@@ -58,8 +58,8 @@ pub record SourceTakes (most : ℕ) (old new : SourceTold) (result : Result (Lis
   pub at_end : IfOk result (λ piece. IfSome old.left (λ bytes. (piece ≡ []) ↔ (bytes ≡ [])))
   pub refused : OnErr result (new.left ≡ old.left)
 
--- The first bytes of a source were moved out, as many as were asked for, or all of them where it had fewer; it is at its
--- end then. Where the call is refused, some of its first bytes are gone.
+-- The first bytes of a source were moved out, as many as were asked for, or all of them where it had fewer; it is at
+-- its end then. Where the call is refused, some of its first bytes are gone.
 pub record SourceGives (most : ℕ) (old new : SourceTold) (result : Result (List ℕ) IoFail) : Type 0 where
   pub counts : CountsFaults old.faults new.faults result
   pub ok : IfOk result (λ all. old.left ≡ option_map (λ rest. all ++ rest) new.left)

@@ -124,8 +124,8 @@ impl Walk {
         })
     }
 
-    /// Notes a path of the host: a folder is to be looked into, and a file is found. What is neither is passed over, and a
-    /// link to a folder, so that each folder is looked into once.
+    /// Notes a path of the host: a folder is to be looked into, and a file is found. What is neither is passed over,
+    /// and a link to a folder, so that each folder is looked into once.
     fn note(&mut self, rt: &HostRuntime, path: &str, depth: u32) -> io::Result<()> {
         match at(rt, path)? {
             Some(found) if found.is_file() => self.find(path),
@@ -221,8 +221,8 @@ fn list_files(rt: &HostRuntime, alloc: Global, dir: &[u8]) -> io::Result<Strs> {
     Ok(Seq::from_vec(found))
 }
 
-/// Whether a file of the host can have the path: none has more than 4,095 bytes, a NUL byte in it, or a part of more than
-/// 255 bytes.
+/// Whether a file of the host can have the path: none has more than 4,095 bytes, a NUL byte in it, or a part of more
+/// than 255 bytes.
 fn names_a_file(path: &[u8]) -> bool {
     if path.len() > LONGEST_PATH {
         return false;

@@ -1,8 +1,7 @@
 //! What lies outside of the program, as traits: a folder of files, a clock, a source of bytes and a sink of them. Its
-//! contract: each object counts its faults, the count never falls, and a call fails only where it rose; where an object
-//! tells its content, a call answers exactly what that says. The objects in memory tell everything and fail by a list;
-//! those over the host's files, clock and streams tell nothing and are the trusted edge. It stands on `mesh_list`,
-//! `mesh_base_values` and `thiserror`.
+//! contract: each object counts its faults, the count never falls, and a call fails only where it rose; where an
+//! object tells its content, a call answers exactly what that says. The objects in memory tell everything and fail by
+//! a list; those over the host's files, clock and streams tell nothing and are the trusted edge.
 #![tactic(auto)]
 
 mod calls;

@@ -1,6 +1,6 @@
-//! The janitor: what is over, and what nothing that stays uses, goes. Its contract: `sweep` makes exactly the janitor's list
-//! of changes, one call each, or stops after a part of it, and refuses a moment before the book's; `invalidate` makes an
-//! environment one that is over. It stands on `making` and the lists of changes in `mesh_spec_changes`.
+//! The janitor: what is over, and what nothing that stays uses, goes. Its contract: `sweep` makes exactly the
+//! janitor's list of changes, one call each, or stops after a part of it, and refuses a moment before the book's;
+//! `invalidate` makes an environment one that is over.
 
 mod changes;
 mod faults;

@@ -1,5 +1,5 @@
-//! Lists of changes are made. Its contract: `make_counted` makes a list, one call for each change, and answers how many
-//! there were, or stops after a part of it. It stands on `mesh_list` and `mesh_house`.
+//! Lists of changes are made. Its contract: `make_counted` makes a list, one call for each change, and answers how
+//! many there were, or stops after a part of it.
 
 // The changes of a list are made one by one, and counted.
 ghost use Rattle.std.specs.Prelude.{◌≡◌, length, IfOk};

@@ -1,7 +1,7 @@
-//! The fingerprints that a book's snapshots get when the book is moved to the present version. Its contract: `book_renames`
-//! answers the map of a well-formed book, in which each snapshot has the SHA-256 of its definition and of the fingerprints
-//! that the same map gives its parents, or the first two snapshots of one name that would get one fingerprint. It stands
-//! on `mesh_house_book::moves`, `mesh_canon_text`, `mesh_canon::fingerprint` and `mesh_spec_changes::listed`.
+//! The fingerprints that a book's snapshots get when the book is moved to the present version. Its contract:
+//! `book_renames` answers the map of a well-formed book, in which each snapshot has the SHA-256 of its definition and
+//! of the fingerprints that the same map gives its parents, or the first two snapshots of one name that would get one
+//! fingerprint.
 
 mod entries;
 mod fault;

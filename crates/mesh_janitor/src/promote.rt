@@ -1,6 +1,6 @@
 //! Promotion: an environment gets its list and its views. Its contract: `promote` makes exactly the changes of an
 //! environment's last steps, one call each, or stops after a part of them; it goes by the book as it was read before;
-//! `push_drops` has the changes that take views out. It stands on `making`, the lists of changes in `mesh_spec_changes` and the names of views in `mesh_layer`.
+//! `push_drops` has the changes that take views out.
 
 mod changes;
 mod gone;

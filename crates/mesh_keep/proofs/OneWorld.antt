@@ -1,4 +1,5 @@
--- Records among which are those of a world are those of no other: each list of the world is the one list in order of what is found by its keys.
+-- Records among which are those of a world are those of no other: each list of the world is the one list in order of
+-- what is found by its keys.
 use Rattle.std.proofs.Common.{◌≡◌, ℕ, true, List, Some, None, refl, ap}
 use Rattle.std.specs.declared.option.Option.{Option}
 use Rattle.std.proofs.lemmas.Map.Lookups.{exact_bytes}

@@ -40,7 +40,8 @@ listed_write m = change_fails m.fails m.next_write
 abbrev pub listed_look : MapKeeper → Bool
 listed_look m = read_fails m.fails m.next_look
 
--- writes fail exactly where they are listed, unless memory runs out, and are made first where they are listed to fail after
+-- writes fail exactly where they are listed, unless memory runs out, and are made first where they are listed to fail
+-- after
 pub record WritesAsListed {T : Type 0} (writes : List Write) (old new : MapKeeper) (result : Result T KeepFail) : Type 0 where
   pub listed : IsErrOf result Failed → IsSome (listed_write old)
   pub only : IsSome (listed_write old) → IsErr result

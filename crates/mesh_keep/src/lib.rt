@@ -1,9 +1,8 @@
-//! Records by kind and name, and what keeps them: the trait `Keeper`, a keeper in memory whose calls fail by a list, and
-//! the relation between records and the world that they hold. Its contract: a keeper that tells its records tells them in
-//! order, answers what they are and makes all of a list of writes or none of it; records hold one world at most; and they
-//! hold a world exactly where it is the one that they say, which `specs/Said.antt` makes a function of them. It stands on
-//! `mesh_list`, `mesh_base_values`, `mesh_base`, `mesh_house_book`, `mesh_house_book::moves`, `mesh_house`, `mesh_canon_text`, `mesh_canon_words`,
-//! `mesh_canon_reading`, `mesh_keep_records`, `mesh_keep_records::reading` and `hex`.
+//! Records by kind and name, and what keeps them: the trait `Keeper`, a keeper in memory whose calls fail by a list,
+//! and the relation between records and the world that they hold. Its contract: a keeper that tells its records tells
+//! them in order, answers what they are and makes all of a list of writes or none of it; records hold one world at
+//! most; and they hold a world exactly where it is the one that they say, which `specs/Said.antt` makes a function of
+//! them.
 #![tactic(auto)]
 
 mod fails;

@@ -1,7 +1,5 @@
 //! The bodies of a stored warehouse's records, written. Its contract: each is the text that
-//! `mesh_keep_records/specs/Records.antt` spells out, with the canonical text of a definition. It stands on `mesh_list`,
-//! `mesh_base_values`, `mesh_base`, `mesh_house_book`, `mesh_house`, `mesh_canon_text` and `mesh_keep_records`, which reads what is
-//! written here.
+//! `mesh_keep_records/specs/Records.antt` spells out, with the canonical text of a definition.
 
 mod book_bodies;
 mod world_bodies;

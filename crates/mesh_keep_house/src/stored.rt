@@ -1,9 +1,7 @@
-//! The world that the records of a keeper say, and the records that a warehouse begins with. Its contract: where a keeper
-//! tells its records, what is loaded is the world that they say, and a record that isn't read is one that says no thing of a
-//! world; and where there was no record of the moment, that of the empty book is put. Each call leaves the keeper's count of
-//! faults no lower, and says that the keeper failed only where that count rose. It stands on `mesh_list`, `mesh_base_values`,
-//! `mesh_base`, `mesh_house_book`, `mesh_house`, `mesh_canon_words`, `mesh_canon_reading`, `mesh_keep_records`,
-//! `mesh_keep_records::reading`, `bodies` and `mesh_keep`.
+//! The world that the records of a keeper say, and the records that a warehouse begins with. Its contract: where a
+//! keeper tells its records, what is loaded is the world that they say, and a record that isn't read is one that says
+//! no thing of a world; and where there was no record of the moment, that of the empty book is put. Each call leaves
+//! the keeper's count of faults no lower, and says that the keeper failed only where that count rose.
 
 mod fault;
 mod head;

@@ -1,8 +1,6 @@
-//! The things of a world that a change is about, and the writes by which records follow it. Its contract: `stepped` makes
-//! the change and lists the writes that `specs/touched/Touched.antt` says, and records that know the world know the next one once
-//! these are made, while all else among them stays. It stands on `mesh_list`, `mesh_base_values`, `mesh_base`, `mesh_house_book`,
-//! `mesh_house_book::moves`, `mesh_house`, `mesh_canon_text`, `mesh_canon_reading`, `mesh_canon::held`, `mesh_keep_records`,
-//! `bodies` and `mesh_keep`.
+//! The things of a world that a change is about, and the writes by which records follow it. Its contract: `stepped`
+//! makes the change and lists the writes that `specs/touched/Touched.antt` says, and records that know the world know
+//! the next one once these are made, while all else among them stays.
 
 mod bodies;
 mod laws;

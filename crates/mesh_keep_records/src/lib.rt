@@ -1,8 +1,7 @@
-//! The records of a stored warehouse: under which name a thing of the world is kept, the parts of its body, both ways, and
-//! its body, read. Its contract: what is read is exactly the thing whose body, as `specs/Records.antt` spells it out, a
-//! text is; any other text is refused. A definition in a body has its canonical text or its former one. It stands on
-//! `mesh_list`, `mesh_base_values`, `mesh_time`, `mesh_base`, `mesh_house_book`, `mesh_house`, `mesh_canon_text`, `mesh_canon_words`,
-//! `mesh_canon_reading`, `mesh_canon::canon`, `mesh_canon::held`, `hex` and `itoa`; `mesh_keep_house::bodies` writes bodies.
+//! The records of a stored warehouse: under which name a thing of the world is kept, the parts of its body, both
+//! ways, and its body, read. Its contract: what is read is exactly the thing whose body, as `specs/Records.antt`
+//! spells it out, a text is; any other text is refused. A definition in a body has its canonical text or its former
+//! one.
 //! The module `reading` says what the body of a record says, as a function.
 #![tactic(auto)]
 

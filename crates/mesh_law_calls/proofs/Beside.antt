@@ -1,4 +1,5 @@
--- A command leaves the environments that it isn't for, and what is recorded and isn't computed again; the janitor leaves views.
+-- A command leaves the environments that it isn't for, and what is recorded and isn't computed again; the janitor
+-- leaves views.
 use Rattle.std.proofs.Common.{◌≡◌, ℕ, ℤ, Bool, true, false, cond, List, [], ◌∷◌, ◌++◌, Some, Result, refl, sym, ◌∙◌, subst}
 use Rattle.std.specs.declared.option.Option.{Option}
 use Rattle.mesh_base.specs.declared.forgets.Restate.{Restate}

@@ -1,4 +1,5 @@
--- A call through which nothing comes out otherwise is events that leave nothing in doubt; a line that is done leaves what it promises.
+-- A call through which nothing comes out otherwise is events that leave nothing in doubt; a line that is done leaves
+-- what it promises.
 use Rattle.std.proofs.Common.{◌≡◌, ◌⊎◌, ◌||◌, inl, inr, ℕ, Bool, true, false, List, Some, Err, Result, refl, sym, ◌∙◌, subst}
 use Rattle.mesh_base.specs.declared.forgets.Forget.{Forget}
 use Rattle.mesh_spec_model.specs.Horizons.{Clock}

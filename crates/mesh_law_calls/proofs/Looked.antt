@@ -1,4 +1,5 @@
--- No question tells of a sound world that it is damaged: its book breaks no rule, and what stands behind the views of an environment shows rows.
+-- No question tells of a sound world that it is damaged: its book breaks no rule, and what stands behind the views of
+-- an environment shows rows.
 use Rattle.std.proofs.Common.{◌≡◌, ℕ, Bool, true, false, cond, nat_eq, inl, inr, List, [], ◌∷◌, map, Option, Some, None, Ok, Err, Result, refl, sym, ap, ◌∙◌, subst}
 use Rattle.std.proofs.lemmas.Map.Lookups.{exact_bytes}
 use Rattle.std.specs.List.{list_all}

@@ -1,4 +1,5 @@
--- When what a command line asks for settles, and when no recorded rows would come out otherwise through it; what is kept then.
+-- When what a command line asks for settles, and when no recorded rows would come out otherwise through it; what is
+-- kept then.
 use Rattle.std.specs.Prelude.{◌≡◌, ℕ, Bool, true, false, List, ◌++◌, Some}
 use mathlib.Core.Logic.{inl, inr}
 use Rattle.mesh_base.specs.declared.forgets.Forget.{Forget}
@@ -23,8 +24,8 @@ use Rattle.mesh_cli.specs.cli.Scripts.{BatchEnds, IsTextLine, ScriptEnds, TextsE
 use Rattle.mesh_cli.specs.cli.Sides.{Sides, here, place_or}
 use Rattle.mesh_law_calls.specs.Promised.{AsksFor}
 
--- A command of the promise settles in a world that is sound but for some parts. One clock shows the moment before the command,
--- the other one that which it is judged at.
+-- A command of the promise settles in a world that is sound but for some parts. One clock shows the moment before the
+-- command, the other one that which it is judged at.
 pub record IsSettled (x : Parts) (w : World) (k : promise.Command) : Type 0 where
   pub before : Clock
   pub after : Clock
@@ -36,8 +37,8 @@ pub record IsSettled (x : Parts) (w : World) (k : promise.Command) : Type 0 wher
 abbrev pub LineSettles : List ℕ → Sides → Command → Parts → World → Type 0
 LineSettles dir s c x w = (k : promise.Command) → AsksFor dir s c w k → IsSettled x w k
 
--- What a command leaves of a world, and what is in doubt then: all is as it was, or some first changes of what it asks for were
--- made, and what is in doubt is what they leave of it.
+-- What a command leaves of a world, and what is in doubt then: all is as it was, or some first changes of what it
+-- asks for were made, and what is in doubt is what they leave of it.
 pub data Leaves (dir : List ℕ) (s : Sides) (c : Command) (x : Parts) (w : World) (settled : LineSettles dir s c x w) : Parts → World → Type 0 where
   untouched : Leaves dir s c x w settled x w
   changed : (k : promise.Command) (asks : AsksFor dir s c w k) (made rest : List Change) → promise.changes (settled k asks).after k w ≡ made ++ rest →
@@ -56,8 +57,9 @@ pub record IsAllMade (x : Parts) (w : World) (k : promise.Command) (settled : Is
   pub made : v ≡ run w (promise.changes settled.after k w)
   pub sound : Sound (left (promise.changes settled.after k w) (met settled.before settled.after k w x)) v
 
--- What a command leaves of a world, whether it settles or not, and what is in doubt then: all is as it was; or some first changes of what
--- it asks for were made, and in doubt is what was, what moves by them, and all parts of the objects that it plans.
+-- What a command leaves of a world, whether it settles or not, and what is in doubt then: all is as it was; or some
+-- first changes of what it asks for were made, and in doubt is what was, what moves by them, and all parts of the
+-- objects that it plans.
 pub data Widens (dir : List ℕ) (s : Sides) (c : Command) (x : Parts) (w : World) : Parts → World → Type 0 where
   unchanged : Widens dir s c x w x w
   widened : (k : promise.Command) → AsksFor dir s c w k → (before after : Clock) → Shows before w.book.moment → Shows after (judged_at w k) → (made rest : List Change) → promise.changes after k w ≡ made ++ rest →

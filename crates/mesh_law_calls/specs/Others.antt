@@ -17,8 +17,9 @@ use Rattle.mesh_cli_words.specs.declared.line.Command.TheVariants.{Plan, Apply, 
 use Rattle.mesh_cli.specs.cli.Sides.{Sides}
 use Rattle.mesh_law_calls.specs.Promised.{AsksFor}
 
--- A line isn't for the environment of this name: a plan that is applied, an apply and what is to go are for the one that they name; a run
--- switches none, so its own is among the others. The janitor may take any away, and a migration renames the entries of all.
+-- A line isn't for the environment of this name: a plan that is applied, an apply and what is to go are for the one
+-- that they name; a run switches none, so its own is among the others. The janitor may take any away, and a migration
+-- renames the entries of all.
 abbrev pub IsForOthers : Command → List ℕ → Type 0
 IsForOthers (Plan env true workers moment again) name = ¬ (name ≡ env)
 IsForOthers (Apply env workers moment again) name = ¬ (name ≡ env)
@@ -37,8 +38,9 @@ pub record HasStayed (e : Env) (w v : World) : Type 0 where
   pub known : IsEnv v.book e
   pub views : (r : Ref) → IsEntry e r → view v (view_in e.name r.name) ≡ view w (view_in e.name r.name)
 
--- Nothing was changed; or what is recorded of a snapshot's table, and isn't computed again by what the line asks for, has the rows that
--- it had, of a FULL table where its recorded marks are its model's at the moment that the line is judged at.
+-- Nothing was changed; or what is recorded of a snapshot's table, and isn't computed again by what the line asks for,
+-- has the rows that it had, of a FULL table where its recorded marks are its model's at the moment that the line is
+-- judged at.
 pub data StillHas (dir : List ℕ) (s : Sides) (c : Command) (w : World) (its : Snapshot) (version : Version) : World → Type 0 where
   same_world : StillHas dir s c w its version w
   same_rows : (v : World) (k : promise.Command) → AsksFor dir s c w k → (before after : Clock) → Shows before w.book.moment → Shows after (judged_at w k) → KeepsRows before after (again_in k) w v its version its.own.kind →

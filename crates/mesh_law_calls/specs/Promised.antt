@@ -1,4 +1,5 @@
--- The command of the promise that a command line asks for in a world, by the files of the folder and the clock's moment.
+-- The command of the promise that a command line asks for in a world, by the files of the folder and the clock's
+-- moment.
 use Rattle.std.specs.Prelude.{◌≡◌, ℕ, ℤ, Bool, true, false, List}
 use Rattle.std.specs.declared.option.Option.{Option}
 use Rattle.mesh_base.specs.declared.forgets.Rename.{Rename}
@@ -40,7 +41,8 @@ AsksFor dir s Migrate w k = (renames : List Rename) × IsMoved w.book renames ×
 AsksFor dir s Batch w k = k ≡ promise.Nothing
 AsksFor dir s (Demo n workers) w k = k ≡ promise.Nothing
 
--- an apply or a run is one that the world allows, and leaves its environment final; other commands leave nothing of this kind
+-- an apply or a run is one that the world allows, and leaves its environment final; other commands leave nothing of
+-- this kind
 abbrev pub LeavesIt : Clock → promise.Command → World → World → Type 0
 LeavesIt clock (promise.Apply plan) w v = (promise.allows w (promise.Apply plan) ≡ true) × Final v clock plan.env plan.models
 LeavesIt clock (promise.RunAll plan) w v = (promise.allows w (promise.RunAll plan) ≡ true) × Final v clock plan.env plan.models

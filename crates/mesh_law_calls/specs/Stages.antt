@@ -12,7 +12,8 @@ use Rattle.mesh_cli_print.specs.declared.printed.refusals.Refusal.TheVariants.{B
 use Rattle.mesh_spec_promise.specs.Histories.{Settles, left, met}
 use Rattle.mesh_spec_promise.specs.Sound.{Sound}
 
--- a command of the promise that settles in a world which is sound but for some parts, by the clocks before it and at its moment
+-- a command of the promise that settles in a world which is sound but for some parts, by the clocks before it and at
+-- its moment
 pub record IsBegun (before after : Clock) (k : promise.Command) (x : Parts) (w : World) : Type 0 where
   pub sound : Sound x w
   pub settles : Settles after k w (met before after k w x)
@@ -25,7 +26,8 @@ pub record IsUnderWay (before after : Clock) (k : promise.Command) (x : Parts) (
   pub told_is : told.world ≡ Some (run w made)
   pub sound : Sound (left made (met before after k w x)) (run w made)
 
--- what is told where the warehouse isn't as the tool leaves it: its book breaks a rule, or an object that a view or a model reads is missing
+-- what is told where the warehouse isn't as the tool leaves it: its book breaks a rule, or an object that a view or a
+-- model reads is missing
 abbrev pub tells_of_damage : Refusal → Bool
 tells_of_damage (BookBroken part place) = true
 tells_of_damage (ObjectMissing object) = true

@@ -28,22 +28,24 @@ ghost use Rattle.mesh_law_calls.specs.Promised.{AsksFor, LeavesIt};
 
 use mesh_spec_promise::the_empty_world_is_sound;
 
-/// The changes of a command line are those of a command of the promise that it asks for, whichever clock shows the moment.
+/// The changes of a command line are those of a command of the promise that it asks for, whichever clock shows the
+/// moment.
 pub fn what_is_made_is_asked_of_the_promise()
     ensures { (dir : List ℕ) (s : Sides) (c : Command) (w : World) (list : List Change) → Makes dir s c w list →
         (k : Promised) × AsksFor dir s c w k × ((clock : Clock) → Shows clock (judged_at w k) → list ≡ changes clock k w) }
 {}
 
-/// Where the house tells a world that is sound but for some parts, and what a command line asks for settles there, then once the
-/// command has answered, whatever it answers, the house tells a world that is sound but for what the changes made leave in doubt.
+/// Where the house tells a world that is sound but for some parts, and what a command line asks for settles there,
+/// then once the command has answered, whatever it answers, the house tells a world that is sound but for what the
+/// changes made leave in doubt.
 pub fn commands_keep_worlds_sound()
     ensures { (dir : List ℕ) (c : Command) (old new : Sides) (answer : Result (List ℕ) Refusal) → Commanded dir c old new answer → (x : Parts) (w : World) → Tells old.house w → Sound x w → (settled : LineSettles dir old c x w) →
         TellsLeft dir old c x w settled new.house }
 {}
 
-/// Where such a command ends with status 0, all of its changes were made, and an apply, a run and a plan that is applied at once leave
-/// their environment final: each of its views shows the rows that its model has from scratch at that moment, and no other view of it
-/// stands.
+/// Where such a command ends with status 0, all of its changes were made, and an apply, a run and a plan that is
+/// applied at once leave their environment final: each of its views shows the rows that its model has from scratch at
+/// that moment, and no other view of it stands.
 pub fn commands_at_status_0_leave_what_they_promise()
     ensures { (dir : List ℕ) (c : Command) (old new : Sides) (sinks printed : Sinks) → Ended dir c old new sinks printed 0 → (x : Parts) (w : World) → Tells old.house w → Sound x w → (settled : LineSettles dir old c x w) →
         (v : World) × (new.house.world ≡ Some v) × (k : Promised) × (asks : AsksFor dir old c w k) × IsAllMade x w k (settled k asks) v × LeavesIt (settled k asks).after k w v }
@@ -75,15 +77,16 @@ pub fn calls_are_events()
         (v : World) × (y : Parts) × (new.house.world ≡ Some v) × Events w x v y }
 {}
 
-/// So is one through each of whose lines nothing comes out otherwise, in the world that those before it leave; where nothing is in
-/// doubt before it, nothing is behind it.
+/// So is one through each of whose lines nothing comes out otherwise, in the world that those before it leave; where
+/// nothing is in doubt before it, nothing is behind it.
 pub fn still_calls_are_events()
     ensures { (words : List (List ℕ)) (input rest : SourceTold) (old new : Sides) (sinks printed : Sinks) (s : ℕ) (ends : WordsEnd words input rest old new sinks printed s) → CallIsStill ends → (x : Parts) (w : World) → old.house.world ≡ Some w → Sound x w →
         ((q : Forget) → x q ≡ false) → (v : World) × (y : Parts) × (new.house.world ≡ Some v) × ((q : Forget) → y q ≡ false) × Events w x v y }
 {}
 
-/// Whatever events there are, each over any project, at any moment, and stopped anywhere, they lead from a world that is sound but for
-/// some parts to one that is sound but for what is then in doubt; so from the empty world, where nothing is.
+/// Whatever events there are, each over any project, at any moment, and stopped anywhere, they lead from a world that
+/// is sound but for some parts to one that is sound but for what is then in doubt; so from the empty world, where
+/// nothing is.
 pub fn worlds_of_events_are_sound()
     ensures sound { (w : World) (x : Parts) → Sound x w → (v : World) (y : Parts) → Events w x v y → Sound y v }
     ensures from_the_empty_one { (w : World) (x : Parts) → Events empty_world no_parts w x → Sound x w }
@@ -91,8 +94,8 @@ pub fn worlds_of_events_are_sound()
     the_empty_world_is_sound();
 }
 
-/// After them an apply, a run, or a plan that is applied at once, which settles and ends with status 0, leaves its environment final:
-/// each view shows the rows that its model has from scratch. So does a line of a script.
+/// After them an apply, a run, or a plan that is applied at once, which settles and ends with status 0, leaves its
+/// environment final: each view shows the rows that its model has from scratch. So does a line of a script.
 pub fn calls_show_rows_from_scratch()
     ensures words { (w : World) (x : Parts) → Events empty_world no_parts w x → (words : List (List ℕ)) (old new : Sides) (sinks printed : Sinks) → old.house.world ≡ Some w → AskedEnds (IsLine words) here old new sinks printed 0 →
         (settled : AllSettle (IsLine words) here old x w) →
@@ -104,8 +107,9 @@ pub fn calls_show_rows_from_scratch()
     the_empty_world_is_sound();
 }
 
-/// Where the house tells a world that is sound but for some parts, then once a command has answered, whether it settles or not, it tells
-/// one that is sound but for these, those that move by the command, and all parts of the objects that it plans.
+/// Where the house tells a world that is sound but for some parts, then once a command has answered, whether it
+/// settles or not, it tells one that is sound but for these, those that move by the command, and all parts of the
+/// objects that it plans.
 pub fn commands_keep_worlds_formed()
     ensures { (dir : List ℕ) (c : Command) (old new : Sides) (answer : Result (List ℕ) Refusal) → Commanded dir c old new answer → (x : Parts) (w : World) → Tells old.house w → Sound x w →
         TellsFormed dir old c x w new.house }
@@ -121,7 +125,8 @@ pub fn commands_within_a_moment_are_still()
     ensures { (x : Parts) (w : World) → Sound x w → (k : Promised) → judged_at w k ≡ w.book.moment → sources_after w k ≡ w.sources → (clock : Clock) → Shows clock w.book.moment → IsStill w k }
 {}
 
-/// Nor does anything through any command in a book whose snapshots are steady and even, where sources change in later rows alone.
+/// Nor does anything through any command in a book whose snapshots are steady and even, where sources change in later
+/// rows alone.
 pub fn steady_projects_are_still()
     ensures { (x : Parts) (w : World) → Sound x w → IsSteadyBook w.book → (k : Promised) → Arrives w (sources_after w k) → (before after : Clock) → Shows before w.book.moment → Shows after (judged_at w k) → IsStill w k }
 {}

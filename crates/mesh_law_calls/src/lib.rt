@@ -1,10 +1,10 @@
-//! The promise of the public call: where the house tells a world that is sound but for some parts, and what a command line asks for
-//! settles there, it tells one that is sound but for what is then left in doubt, at every exit and whatever the status; at status 0
-//! an apply, a run or a plan that is applied at once leaves its environment final, for every number of workers; so after any calls
-//! from the empty world that settle; every call leaves a world formed that was, and none tells of a sound world that it is damaged;
-//! and a command leaves the environments that it isn't for, and what is recorded and isn't computed again, as they were. Each law is
-//! the contract of a function with an empty body. It stands on `mesh_cli`, `mesh_law_promise`, `mesh_law_promise::formed`,
-//! `mesh_law_promise::shown`, `mesh_law_promise::isolation` and `mesh_law_steady`.
+//! The promise of the public call: where the house tells a world that is sound but for some parts, and what a command
+//! line asks for settles there, it tells one that is sound but for what is then left in doubt, at every exit and
+//! whatever the status; at status 0 an apply, a run or a plan that is applied at once leaves its environment final,
+//! for every number of workers; so after any calls from the empty world that settle; every call leaves a world formed
+//! that was, and none tells of a sound world that it is damaged; and a command leaves the environments that it isn't
+//! for, and what is recorded and isn't computed again, as they were. Each law is the contract of a function with an
+//! empty body.
 #![tactic(auto)]
 
 mod laws;

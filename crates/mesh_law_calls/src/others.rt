@@ -22,36 +22,39 @@ ghost use Rattle.mesh_cli.specs.cli.Sides.{Sides};
 ghost use Rattle.mesh_law_calls.specs.Others.{HasStayed, IsForOthers, KeepsTables, StillHas};
 ghost use Rattle.mesh_law_calls.specs.Promised.{AsksFor};
 
-/// Where the house tells a world that is sound but for some parts, then once a command has answered, whatever it answers and whether it
-/// settles or not, each environment that it isn't for has its record and its views as they were in the world that the house tells. The
-/// janitor and a migration are left out.
+/// Where the house tells a world that is sound but for some parts, then once a command has answered, whatever it
+/// answers and whether it settles or not, each environment that it isn't for has its record and its views as they
+/// were in the world that the house tells. The janitor and a migration are left out.
 pub fn commands_leave_other_environments()
     ensures { (dir : List ℕ) (c : Command) (old new : Sides) (answer : Result (List ℕ) Refusal) → Commanded dir c old new answer → (x : Parts) (w : World) → Tells old.house w → Sound x w →
         (e : Env) → IsEnv w.book e → IsForOthers c e.name → (v : World) × (new.house.world ≡ Some v) × HasStayed e w v }
 {}
 
-/// Nor does another environment appear: of any name that the command isn't for, the book has the environment that it had, or still none.
+/// Nor does another environment appear: of any name that the command isn't for, the book has the environment that it
+/// had, or still none.
 pub fn commands_make_no_other_environment()
     ensures { (dir : List ℕ) (c : Command) (old new : Sides) (answer : Result (List ℕ) Refusal) → Commanded dir c old new answer → (x : Parts) (w : World) → Tells old.house w → Sound x w →
         (name : List ℕ) → IsForOthers c name → (v : World) × (new.house.world ≡ Some v) × (env_at v.book name ≡ env_at w.book name) }
 {}
 
-/// And what is recorded of a table, and isn't computed again by the command, has the rows that it had, each as often; of a FULL table
-/// where its recorded marks are its model's at the command's moment. The janitor, which drops tables, is left out.
+/// And what is recorded of a table, and isn't computed again by the command, has the rows that it had, each as often;
+/// of a FULL table where its recorded marks are its model's at the command's moment. The janitor, which drops tables,
+/// is left out.
 pub fn commands_keep_rows_that_they_do_not_compute_again()
     ensures { (dir : List ℕ) (c : Command) (old new : Sides) (answer : Result (List ℕ) Refusal) → Commanded dir c old new answer → (x : Parts) (w : World) → Tells old.house w → Sound x w → KeepsTables c →
         (s : Snapshot) → IsSnapshot w.book.snapshots s → (version : Version) → version_of w.book s.object ≡ Some version → (v : World) × (new.house.world ≡ Some v) × StillHas dir old c w s version v }
 {}
 
-/// Once the janitor has answered, each view of an environment that isn't over at its moment points where it pointed, and shows the rows
-/// that it showed.
+/// Once the janitor has answered, each view of an environment that isn't over at its moment points where it pointed,
+/// and shows the rows that it showed.
 pub fn the_janitor_leaves_other_views()
     ensures { (dir : List ℕ) (moment : Option ℤ) (old new : Sides) (answer : Result (List ℕ) Refusal) → Commanded dir (Janitor moment) old new answer → (x : Parts) (w : World) → Tells old.house w → Sound x w →
         (e : Env) → IsEnv w.book e → ((t : ℤ) → AsksFor dir old (Janitor moment) w (promise.Janitor t) → is_over t e.expires ≡ false) →
         (v : World) × (new.house.world ≡ Some v) × ((r : Ref) → IsEntry e r → (view v (view_in e.name r.name) ≡ view w (view_in e.name r.name)) × (view_rows v (view_in e.name r.name) ≡ view_rows w (view_in e.name r.name))) }
 {}
 
-/// And of any name whose environment isn't over at its moment, where there is one, the book has the record that it had, or still none.
+/// And of any name whose environment isn't over at its moment, where there is one, the book has the record that it
+/// had, or still none.
 pub fn the_janitor_leaves_other_records()
     ensures { (dir : List ℕ) (moment : Option ℤ) (old new : Sides) (answer : Result (List ℕ) Refusal) → Commanded dir (Janitor moment) old new answer → (x : Parts) (w : World) → Tells old.house w → Sound x w →
         (name : List ℕ) → ((t : ℤ) → AsksFor dir old (Janitor moment) w (promise.Janitor t) → (e : Env) → env_at w.book name ≡ Some e → is_over t e.expires ≡ false) →

@@ -39,7 +39,8 @@ ghost use Rattle.mesh_cli.specs.cli.Ends.{Commanded};
 ghost use Rattle.mesh_cli.specs.cli.Sides.{Sides};
 ghost use Rattle.mesh_law_calls.specs.Stages.{IsBegun, IsUnderWay, tells_of_damage};
 
-/// The call that makes a plan keeps a sound world sound at each of its exits by itself, in an apply and in a run that settle.
+/// The call that makes a plan keeps a sound world sound at each of its exits by itself, in an apply and in a run that
+/// settle.
 pub fn executions_keep_worlds_sound()
     ensures applies { (before after : Clock) (x : Parts) (w : World) → Shows before w.book.moment → (t : ℤ) → IsMoment t → Shows after t → (nodes : List Node) (env : List ℕ) (again : Option Restate) (p : Plan) → IsPlanned w.book nodes env t again p →
         IsBegun before after (Apply (promised p)) x w → (old new : Told) (result : Result Done ExecFault) → Tells old w → Executes p old new result → IsUnderWay before after (Apply (promised p)) x w new }
@@ -47,8 +48,8 @@ pub fn executions_keep_worlds_sound()
         IsBegun before after (RunAll (promised p)) x w → (old new : Told) (result : Result Done ExecFault) → Tells old w → Executes p old new result → IsUnderWay before after (RunAll (promised p)) x w new }
 {}
 
-/// So does the call that switches an environment to the list and the objects of a plan that was made whole just before, where the
-/// book that it is given has the record of that environment.
+/// So does the call that switches an environment to the list and the objects of a plan that was made whole just
+/// before, where the book that it is given has the record of that environment.
 pub fn promotions_keep_worlds_sound()
     ensures { (before after : Clock) (x : Parts) (w : World) → Shows before w.book.moment → (t : ℤ) → IsMoment t → Shows after t → (nodes : List Node) (env : List ℕ) (again : Option Restate) (p : Plan) → IsPlanned w.book nodes env t again p →
         IsBegun before after (Apply (promised p)) x w → (old mid new : Told) (done : Done) → Tells old w → Executes p old mid (Ok done) → (b : Book) (list : List Ref) (objects : List Name) → env_at b p.env ≡ env_at w.book p.env →
@@ -72,8 +73,9 @@ pub fn executions_never_dangle()
         (old new : Told) (object : Name) → Tells old w → Executes p old new (Err (Dangling object)) → ⊥ }
 {}
 
-/// Nor does any command tell of a sound world that it is damaged, whatever parts are in doubt: its book breaks no rule, the models of an apply
-/// or a run show their rows in each world on the way, and so do the views that a question reads.
+/// Nor does any command tell of a sound world that it is damaged, whatever parts are in doubt: its book breaks no
+/// rule, the models of an apply or a run show their rows in each world on the way, and so do the views that a
+/// question reads.
 pub fn commands_never_find_damage()
     ensures gives { (dir : List ℕ) (s : Sides) (c : Command) (x : Parts) (w : World) → Sound x w → (why : Refusal) → tells_of_damage why ≡ true → Gives dir s c w (Err why) → ⊥ }
     ensures answers { (dir : List ℕ) (c : Command) (old new : Sides) (why : Refusal) → tells_of_damage why ≡ true → Commanded dir c old new (Err why) → (x : Parts) (w : World) → Tells old.house w → Sound x w → ⊥ }

@@ -1,4 +1,5 @@
--- A world stays well kept where a snapshot goes that no entry and no snapshot stands on, and whose object is gone or another's.
+-- A world stays well kept where a snapshot goes that no entry and no snapshot stands on, and whose object is gone or
+-- another's.
 use Rattle.std.proofs.Common.{◌≡◌, ◌⊎◌, inl, inr, ℕ, zero, suc, Bool, true, false, cond, ◌&&◌, nat_le, length, List, [], ◌∷◌, ◌++◌, map, Some, None, refl, sym, ◌∙◌, ap, subst, arith, IsSome}
 use Rattle.std.specs.declared.option.Option.{Option}
 use Rattle.std.specs.Cmp.{Equal-is}

@@ -1,4 +1,5 @@
--- A world stays well kept where a snapshot is put that fits the book, and whose table, if it is another's too, is a twin's.
+-- A world stays well kept where a snapshot is put that fits the book, and whose table, if it is another's too, is a
+-- twin's.
 use Rattle.std.proofs.Common.{◌≡◌, inl, inr, Bool, true, false, cond, ◌&&◌, nat_eq, nat_le, length, List, [], ◌∷◌, map, Some, None, refl, sym, ◌∙◌, ap, subst, IsSome, IsTrue}
 use Rattle.std.specs.declared.option.Option.{Option}
 use Rattle.std.specs.Cmp.{Equal-is}

@@ -1,5 +1,5 @@
-//! What is known along the changes of a command. Its definitions: lists of changes along which a world stays sound, and a plan
-//! on its way. It stands on `mesh_spec_promise` and `mesh_law_changes`.
+//! What is known along the changes of a command. Its definitions: lists of changes along which a world stays sound,
+//! and a plan on its way.
 
 mod laws;
 

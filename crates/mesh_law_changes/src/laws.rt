@@ -44,8 +44,8 @@ pub fn expiring_an_environment_keeps_the_world_sound()
     ensures { (x : Parts) (w : World) → Sound x w → (env : List ℕ) → Sound x (step w (Expire env)) }
 {}
 
-/// An environment may be finalized where the view of each entry of its list stands and points at the entry's object, and
-/// where a view of an entry of its previous list stands only for a model of its list.
+/// An environment may be finalized where the view of each entry of its list stands and points at the entry's object,
+/// and where a view of an entry of its previous list stands only for a model of its list.
 pub fn finalizing_keeps_the_world_sound()
     ensures { (x : Parts) (w : World) → Sound x w → (e : Env) → IsEnv w.book e →
         ((r : Ref) → Contains e.list r → (s : Snapshot) → snapshot_at w.book.snapshots r ≡ Some s → view w (view_in e.name r.name) ≡ Some s.object) →
@@ -72,8 +72,8 @@ pub fn dropping_a_view_keeps_the_world_sound()
         Sound x (step w (DropView (view_in e.name m))) }
 {}
 
-/// Units and marks may be forgotten, where each unit of an incremental model stands in its schedule. They are then no longer
-/// in doubt.
+/// Units and marks may be forgotten, where each unit of an incremental model stands in its schedule. They are then no
+/// longer in doubt.
 pub fn forgetting_units_keeps_the_world_sound()
     ensures { (x : Parts) (w : World) → Sound x w → (list : List Forget) →
         ((object : Name) (start end : ℤ) → Contains list (Range object start end) → (s : Snapshot) → IsSnapshot w.book.snapshots s → s.object ≡ object →
@@ -97,8 +97,9 @@ pub fn dropping_an_object_keeps_the_world_sound()
         Sound x (step w (DropObject object)) }
 {}
 
-/// Marks may be recorded of a table that is made. Of a FULL table they are its model's, and unless the table is in doubt
-/// afterwards it has its rows from scratch; a seed's has the rows of its file. Other parts that were in doubt are so still.
+/// Marks may be recorded of a table that is made. Of a FULL table they are its model's, and unless the table is in
+/// doubt afterwards it has its rows from scratch; a seed's has the rows of its file. Other parts that were in doubt
+/// are so still.
 pub fn recording_marks_keeps_the_world_sound()
     ensures { (x y : Parts) (w : World) → Sound x w → (object : Name) (v : Version) → version_of w.book object ≡ Some v → v.made ≡ true → (ms : List ℤ) →
         ((q : Forget) → taken_by (RecordMarks object ms) q ≡ false → y q ≡ false → x q ≡ false) →
@@ -108,8 +109,8 @@ pub fn recording_marks_keeps_the_world_sound()
         Sound y (step w (RecordMarks object ms)) }
 {}
 
-/// A unit of the schedule may be recorded of a table that is made and which, unless the unit is in doubt afterwards, has its
-/// rows from scratch there. Other parts that were in doubt are so still.
+/// A unit of the schedule may be recorded of a table that is made and which, unless the unit is in doubt afterwards,
+/// has its rows from scratch there. Other parts that were in doubt are so still.
 pub fn recording_a_unit_keeps_the_world_sound()
     ensures { (x y : Parts) (w : World) → Sound x w → (object : Name) (v : Version) → version_of w.book object ≡ Some v → v.made ≡ true → (start end : ℤ) → start <ℤ end →
         ((q : Forget) → taken_by (RecordRange object start end) q ≡ false → y q ≡ false → x q ≡ false) →
@@ -133,8 +134,8 @@ pub fn making_a_view_keeps_the_world_sound()
         All (λ (t : Pair). IsSome (object_at w t.second)) targets → Sound x (step w (MakeView object columns own targets)) }
 {}
 
-/// The rows of a table that isn't incremental may be replaced: of a FULL table while it is in doubt or its recorded marks
-/// aren't its model's, and of a seed's while it has no marks.
+/// The rows of a table that isn't incremental may be replaced: of a FULL table while it is in doubt or its recorded
+/// marks aren't its model's, and of a seed's while it has no marks.
 pub fn replacing_rows_keeps_the_world_sound()
     ensures { (x : Parts) (w : World) → Sound x w → (object : Name) (rows : List (List Cell)) →
         ((s : Snapshot) → IsSnapshot w.book.snapshots s → s.object ≡ object → (time : List ℕ) (lookback : ℕ) → ¬ (s.own.kind ≡ kind.Incremental time lookback)) →
@@ -155,8 +156,8 @@ pub fn writing_a_unit_keeps_the_world_sound()
         Sound x (step w (WriteRange object time start end rows)) }
 {}
 
-/// A snapshot may be deleted that is no entry of an environment and no parent of a snapshot, and whose object is another
-/// snapshot's too, or has neither a version nor stands.
+/// A snapshot may be deleted that is no entry of an environment and no parent of a snapshot, and whose object is
+/// another snapshot's too, or has neither a version nor stands.
 pub fn deleting_a_snapshot_keeps_the_world_sound()
     ensures { (x : Parts) (w : World) → Sound x w → (name : Name) (fingerprint : List ℕ) →
         ((e : Env) → IsEnv w.book e → (q : Ref) → IsEntry e q → ¬ (q ≡ record { name = name; fingerprint = fingerprint })) →
@@ -167,9 +168,9 @@ pub fn deleting_a_snapshot_keeps_the_world_sound()
         Sound x (step w (DeleteSnapshot name fingerprint)) }
 {}
 
-/// A snapshot that fits the book may be put. Where the book has it, it is the same but for the time that it stays. Where it is
-/// new, it and all that it stands on have distinct names, and what uses its object is of its model, is a twin of it and is no
-/// view, and what is recorded of the table is so for the snapshot too.
+/// A snapshot that fits the book may be put. Where the book has it, it is the same but for the time that it stays.
+/// Where it is new, it and all that it stands on have distinct names, and what uses its object is of its model, is a
+/// twin of it and is no view, and what is recorded of the table is so for the snapshot too.
 pub fn putting_a_snapshot_keeps_the_world_sound()
     ensures { (x : Parts) (w : World) → Sound x w → (s : Snapshot) → is_snapshot_fit w.book.version w.book.snapshots None s ≡ true →
         ((old : Snapshot) → snapshot_at w.book.snapshots (snapshot_ref s) ≡ Some old → (s.own ≡ old.own) × (s.parents ≡ old.parents) × (s.rank ≡ old.rank) × (s.object ≡ old.object)) →

@@ -1,5 +1,5 @@
-//! Laws on the way to the promise of `mesh_spec_promise`: that a world stays well kept where a kind of change is made as a command
-//! makes it.
+//! Laws on the way to the promise of `mesh_spec_promise`: that a world stays well kept where a kind of change is made
+//! as a command makes it.
 //! The module `along` has lists of changes along which a world stays sound.
 #![tactic(auto)]
 

@@ -1,6 +1,6 @@
-//! Laws of plans that are opened, each the contract of a function with an empty body: once what is computed again is forgotten,
-//! a plan is ready to be made and filled; the models of a plan, of a project or of a run, have objects of their own and stand
-//! behind their parents; and those of a run stand in the book. It stands on `mesh_law_changes::along` and `mesh_law_reuse`.
+//! Laws of plans that are opened, each the contract of a function with an empty body: once what is computed again is
+//! forgotten, a plan is ready to be made and filled; the models of a plan, of a project or of a run, have objects of
+//! their own and stand behind their parents; and those of a run stand in the book.
 
 mod laws;
 

@@ -63,8 +63,8 @@ first_of x y q h = go (x q) h
     go true h = absurd (let clash : true ≡ false = h in cc)
     go false h = refl
 
--- A plan whose models are put is opened, made and filled: some changes are made, along which the world stays sound, and then
--- all of its models are done.
+-- A plan whose models are put is opened, made and filled: some changes are made, along which the world stays sound,
+-- and then all of its models are done.
 record IsMade (clock : Clock) (b : Book) (plan : Plan) (x : Parts) (w : World) : Type 0 where
   made : List Change
   changes : (last : List Change) → executes clock b plan.forgets plan.models last plan.models (run w (forgetting plan.forgets)) ≡ made ++ last

@@ -1,5 +1,5 @@
--- The promise: a world stays sound at each exit of a command that settles, and an apply or a run that is made whole leaves its
--- environment final; so after any history.
+-- The promise: a world stays sound at each exit of a command that settles, and an apply or a run that is made whole
+-- leaves its environment final; so after any history.
 use Rattle.std.proofs.Common.{◌≡◌, Bool, true, false, cond, List, [], ◌∷◌, ◌++◌, refl, sym, ap, ◌∙◌, subst}
 use Rattle.std.specs.declared.option.Option.{Option}
 use Rattle.std.specs.declared.option.Option.TheVariants.{None, Some}

@@ -1,5 +1,5 @@
--- An environment gets its list and its views, where the objects of all its models are made, and is final then where all of them are
--- done.
+-- An environment gets its list and its views, where the objects of all its models are made, and is final then where
+-- all of them are done.
 use Rattle.std.proofs.Common.{◌≡◌, ℕ, ℤ, ◌≤◌, Bool, true, false, cond, ◌⊎◌, inl, inr, List, [], ◌∷◌, ◌++◌, map, length, Some, None, nat_le, refl, sym, ap, ◌∙◌, subst, arith, le-leb}
 use Rattle.std.specs.Cmp.{Equal-is}
 use Rattle.std.specs.List.{AllByRecursion, Contains, list_all}
@@ -69,7 +69,8 @@ env_there e es = go (found text_cmp env_name e.name es) refl
     go None k = found-placed text_cmp exact_bytes env_name e e.name es ∙ here (found text_cmp env_name e.name es)
     go (Some old) k = found-exchanged text_cmp exact_bytes env_name e e.name old es k ∙ here (found text_cmp env_name e.name es)
 
--- The views of an environment are pointed: one that is pointed by some pair, and by no other pair elsewhere, points there.
+-- The views of an environment are pointed: one that is pointed by some pair, and by no other pair elsewhere, points
+-- there.
 pointed_at : (env : List ℕ) (os : List Pair) (w : World) (n t : Name) → ((o : Pair) → Has o os → view_in env o.first ≡ n → o.second ≡ t)
     → ((o : Pair) × Has o os × (view_in env o.first ≡ n)) ⊎ (view w n ≡ Some t) → view (run w (map (points env) os)) n ≡ Some t
 pointed_at env [] w n t same (inl h) = absurd h.1

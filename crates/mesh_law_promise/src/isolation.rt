@@ -1,8 +1,8 @@
-//! What a command leaves of the others, each the contract of a function with an empty body: at every exit of an apply or a run each
-//! other environment has the record and the views that it had, and no other one appears; and each table has the rows of what was
-//! recorded of it: where the command settles, of what isn't in doubt, even where these are computed again, and in any case of what
-//! isn't computed again (of a FULL table, where its recorded marks are its model's at the command's moment). It stands on
-//! `mesh_law_promise` and `mesh_law_promise::shown`.
+//! What a command leaves of the others, each the contract of a function with an empty body: at every exit of an apply
+//! or a run each other environment has the record and the views that it had, and no other one appears; and each table
+//! has the rows of what was recorded of it: where the command settles, of what isn't in doubt, even where these are
+//! computed again, and in any case of what isn't computed again (of a FULL table, where its recorded marks are its
+//! model's at the command's moment).
 
 mod laws;
 

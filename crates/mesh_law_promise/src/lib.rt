@@ -1,9 +1,8 @@
-//! The promise of `mesh_spec_promise`, proved: a world stays well kept at each exit of a command that settles, and an apply or a run that
-//! is made whole leaves its environment final; so after any history from the empty world. Each law is the contract of a function
-//! with an empty body. It stands on the laws of each part of a command: `mesh_law_plans::puts`, `mesh_law_plans::opens`, `mesh_law_plans::fills` and
-//! `mesh_law_upkeep::sweep`.
-//! The module `formed` has what is kept when a command doesn't settle, `shown` that there are rows behind every view, and
-//! `isolation` what a command leaves of other environments.
+//! The promise of `mesh_spec_promise`, proved: a world stays well kept at each exit of a command that settles, and an
+//! apply or a run that is made whole leaves its environment final; so after any history from the empty world. Each
+//! law is the contract of a function with an empty body.
+//! The module `formed` has what is kept when a command doesn't settle, `shown` that there are rows behind every view,
+//! and `isolation` what a command leaves of other environments.
 #![tactic(auto)]
 
 pub mod formed;

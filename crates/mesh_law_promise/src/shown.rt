@@ -1,7 +1,6 @@
-//! What the views of a world that is kept well show, each the contract of a function with an empty body: each of them shows rows,
-//! whatever is in doubt; the models of a plan look at nothing but themselves and models before them; and a sweep leaves the
-//! views of each environment that stays, at every exit. It stands on `mesh_spec_promise`, `mesh_law_plans::opens`, `mesh_law_plans::puts` and
-//! `mesh_law_upkeep::sweep`.
+//! What the views of a world that is kept well show, each the contract of a function with an empty body: each of them
+//! shows rows, whatever is in doubt; the models of a plan look at nothing but themselves and models before them; and
+//! a sweep leaves the views of each environment that stays, at every exit.
 
 mod laws;
 

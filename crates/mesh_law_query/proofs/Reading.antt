@@ -120,7 +120,8 @@ select_covered all s h =
       havings = Each_right P s.keys (option_to_list s.having) d;
     }
 
--- Where a joined row and one more row have a row of an item: in the joined row, or the item is the last and it is the new one.
+-- Where a joined row and one more row have a row of an item: in the joined row, or the item is the last and it is the
+-- new one.
 abbrev Place_of : Row → Row → Joined → Joined → ℕ → Type 0
 Place_of r s x y item =
     ((get_or (x ++ r ∷ []) item [] ≡ get_or x item []) × (get_or (y ++ s ∷ []) item [] ≡ get_or y item []))

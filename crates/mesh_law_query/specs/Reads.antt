@@ -65,7 +65,8 @@ abbrev pub in_order : List Reading → List Reading
 in_order [] = []
 in_order (r ∷ rs) = placed reading_cmp reading_itself r (in_order rs)
 
--- The columns of models and sources that a definition names anywhere, in ascending order and each once. A seed names none.
+-- The columns of models and sources that a definition names anywhere, in ascending order and each once. A seed names
+-- none.
 abbrev pub defn_readings : Defn → List Reading
 defn_readings (Seed columns rows) = []
 defn_readings (Sql q) = in_order (query_readings q)

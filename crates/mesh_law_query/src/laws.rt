@@ -28,24 +28,24 @@ ghost use Rattle.mesh_law_query.specs.Loads.{HasSameSources, HaveSameSources};
 ghost use Rattle.mesh_law_query.specs.Cuts.{AgreeAsBags, AgreeOnReads, cut_inputs};
 ghost use Rattle.mesh_law_query.specs.Reads.{IsRead, reading_cmp, reading_itself, readings, reads};
 
-/// Where the tables that a query names have the same columns and the same rows, in whatever order, its rows are the same
-/// but for their order.
+/// Where the tables that a query names have the same columns and the same rows, in whatever order, its rows are the
+/// same but for their order.
 pub fn rows_respect_bags()
     ensures { (q : Query) (a b : List Input) → HaveSameBags q a b → (u : Bounds) → IsSameBag (Sel q a u) (Sel q b u) }
 {}
 
-/// A definition reads exactly the columns that some column of some SELECT names at a FROM item of their relation: in an
-/// item, an ON condition, WHERE, a key or HAVING, of the query itself or of a CTE. They stand by relation and column, each
-/// once. A seed reads none.
+/// A definition reads exactly the columns that some column of some SELECT names at a FROM item of their relation: in
+/// an item, an ON condition, WHERE, a key or HAVING, of the query itself or of a CTE. They stand by relation and
+/// column, each once. A seed reads none.
 pub fn definitions_read_what_they_name()
     ensures exactly { (own : Own) (r : Reading) → Contains (readings own) r ↔ IsRead own.defn r }
     ensures once { (own : Own) → ascends reading_cmp reading_itself (readings own) ≡ true }
     ensures of_one { (own : Own) (name : Name) (column : List ℕ) → Contains (reads own name) column ↔ IsRead own.defn (record { relation = name; column = column }) }
 {}
 
-/// Where the tables that a definition names have the same rows as far as it reads their columns, its rows are the same
-/// list, whatever other columns the tables have. So it has the same rows over tables without those other columns. It is the
-/// same of a model's rows, and of those of a unit.
+/// Where the tables that a definition names have the same rows as far as it reads their columns, its rows are the
+/// same list, whatever other columns the tables have. So it has the same rows over tables without those other
+/// columns. It is the same of a model's rows, and of those of a unit.
 pub fn rows_hang_on_read_columns()
     ensures agree { (d : Defn) (a b : List Input) → AgreeOnReads d a b → (u : Bounds) → defn_rows d a u ≡ defn_rows d b u }
     ensures cut { (d : Defn) (inputs : List Input) (u : Bounds) → defn_rows d (cut_inputs d inputs) u ≡ defn_rows d inputs u }
@@ -61,10 +61,10 @@ pub fn rows_respect_bags_of_read_columns()
     ensures pieces { (own : Own) (a b : List Input) → AgreeAsBags own.defn a b → (u : Bounds) → IsSameBag (piece_over own a u) (piece_over own b u) }
 {}
 
-/// Where each source that a model and its ancestors declare has the same rows when it is cut to the declared columns, in
-/// whatever order the rows and the columns stand, and whatever other columns it has, the model's rows from scratch are the
-/// same but for their order, and so are those of each unit. So it is of one model over the tables that it names, and of
-/// each of its units.
+/// Where each source that a model and its ancestors declare has the same rows when it is cut to the declared columns,
+/// in whatever order the rows and the columns stand, and whatever other columns it has, the model's rows from scratch
+/// are the same but for their order, and so are those of each unit. So it is of one model over the tables that it
+/// names, and of each of its units.
 pub fn models_respect_bags()
     ensures scratch { (a b : List Input) (c : Closure) → HaveSameSources a b c → (clock : Clock) → IsSameBag (from_scratch a clock c) (from_scratch b clock c) }
     ensures units { (a b : List Input) (c : Closure) → HaveSameSources a b c → (clock : Clock) (u : Bounds) → IsSameBag (piece a clock c u) (piece b clock c u) }
@@ -73,9 +73,9 @@ pub fn models_respect_bags()
     ensures pieces { (a b : List Input) (own : Own) → AreSameTables (defn_names own.defn) a b → (u : Bounds) → IsSameBag (piece_over own a u) (piece_over own b u) }
 {}
 
-/// What a query that is seen names is found among tables of the names and columns that it was seen over: what each FROM
-/// item reads is there, a CTE among those before, and each column that a SELECT names is one of what its FROM item reads.
-/// So it is for a well-formed definition over its declared sources and its parents, also from scratch.
+/// What a query that is seen names is found among tables of the names and columns that it was seen over: what each
+/// FROM item reads is there, a CTE among those before, and each column that a SELECT names is one of what its FROM
+/// item reads. So it is for a well-formed definition over its declared sources and its parents, also from scratch.
 pub fn well_formed_definitions_find_all()
     ensures query { (relations : List Relation) (q : Query) (tables : List Input) → is_query_seen relations q ≡ true → map input_relation tables ≡ relations → (u : Bounds) → QueryFindsAll q tables u }
     ensures definition { (parents : List Parent) (own : Own) → is_well_formed parents own ≡ true → (tables : List Input) → map input_relation tables ≡ map parent_relation parents →
@@ -84,16 +84,16 @@ pub fn well_formed_definitions_find_all()
         (sources : List Input) (clock : Clock) (u : Bounds) → DefnFindsAll own.defn (inputs_of sources clock (Model own cs)) u }
 {}
 
-/// Each model of a proper project, and each of its ancestors, has a cron that reading can give, and so a last tick at each
-/// moment. And each finds all that it names, from scratch.
+/// Each model of a proper project, and each of its ancestors, has a cron that reading can give, and so a last tick at
+/// each moment. And each finds all that it names, from scratch.
 pub fn proper_projects_find_all()
     ensures crons { (nodes : List Node) → is_proper nodes ≡ true → All HasCrons (closures nodes) }
     ensures found { (nodes : List Node) → is_proper nodes ≡ true → (sources : List Input) (clock : Clock) (u : Bounds) →
         All (λ c. DefnFindsAll (own_of c).defn (inputs_of sources clock c) u) (closures nodes) }
 {}
 
-/// In a proper project the parents of each model stand at places before it, and have lower ranks. So its closure has theirs
-/// as parents, in the order of their places.
+/// In a proper project the parents of each model stand at places before it, and have lower ranks. So its closure has
+/// theirs as parents, in the order of their places.
 pub fn parents_stand_before_their_models()
     ensures earlier { (nodes : List Node) → is_proper nodes ≡ true → (before after : List Node) (n : Node) → before ++ n ∷ after ≡ nodes →
         All (λ i. (m : Node) × (slice_get before i ≡ Some m) × (m.rank < n.rank)) n.parents }

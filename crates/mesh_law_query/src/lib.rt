@@ -1,6 +1,6 @@
-//! Laws of what a query and a model mean, each the contract of a function with an empty body: what rows hang on, and what
-//! not; what a definition reads, and that it finds it. Its definitions are read in this order: `Alike`, `Reads`, `Cuts`,
-//! `Loads` and `Found`. It stands on `mesh_spec_query`, `mesh_base::rules` and `mesh_spec_model`.
+//! Laws of what a query and a model mean, each the contract of a function with an empty body: what rows hang on, and
+//! what not; what a definition reads, and that it finds it. Its definitions are read in this order: `Alike`, `Reads`,
+//! `Cuts`, `Loads` and `Found`.
 #![tactic(auto)]
 
 mod laws;

@@ -1,4 +1,5 @@
--- Whether all expressions that a query evaluates have operands of the types that they take, for each row and each group.
+-- Whether all expressions that a query evaluates have operands of the types that they take, for each row and each
+-- group.
 use Rattle.std.specs.Prelude.{Bool, true, ◌&&◌, if◌then◌else◌, List, [], ◌∷◌, ◌++◌, None, Some}
 use Rattle.std.specs.List.{filter, list_all}
 use Rattle.std.specs.declared.option.Option.{Option}

@@ -25,8 +25,8 @@ HasKind (Some kind) c = is_of kind c ≡ true
 abbrev pub RowFits : List (List Column) → Seen → Type 0
 RowFits columns row = (item : ℕ) (name : List ℕ) → is_of (kind_of (slice_index_or columns item []) name) (row item name) ≡ true
 
--- What an expression sees, of a row or of a group: the columns and the group's rows fit, and each key has the value that it
--- has for some row that fits.
+-- What an expression sees, of a row or of a group: the columns and the group's rows fit, and each key has the value
+-- that it has for some row that fits.
 pub record ScopeFits (columns : List (List Column)) (s : Scope) : Type 0 where
   pub row : RowFits columns s.column
   pub group : ForSome s.group (All (RowFits columns))

@@ -16,22 +16,22 @@ ghost use Rattle.mesh_resolve.specs.Relations.{decl_name};
 ghost use Rattle.mesh_law_resolve.specs.Formed.{AreParentsAmong, IsReadModel, SaysAsItsFile, parents_among};
 ghost use Rattle.mesh_law_resolve.specs.Sight.{model_relation};
 
-/// The own definition that is made of a model's file is well formed beside its parents: those known models that its query
-/// names, with the columns that they are known by. It holds whatever sources are declared, also of a source that has a
-/// model's name, which the model hides.
+/// The own definition that is made of a model's file is well formed beside its parents: those known models that its
+/// query names, with the columns that they are known by. It holds whatever sources are declared, also of a source
+/// that has a model's name, which the model hides.
 #[tactic(auto, using(crate::proofs::Whole::well_formed))]
 pub fn own_definitions_are_well_formed()
     ensures { (m : ModelText) (seed : Option Seed) (known : Known) (definition : Own) (parents : List Parent) → IsReadModel m seed → own m seed known ≡ Ok definition → AreParentsAmong known (defn_names definition.defn) parents → is_well_formed parents definition ≡ true }
 {}
 
-/// Where the known models are these, those of them that are among the names in a query, each once and ascending by name,
-/// are its parents.
+/// Where the known models are these, those of them that are among the names in a query, each once and ascending by
+/// name, are its parents.
 pub fn named_models_are_parents()
     ensures { (names : List Name) (known : Known) (models : List Parent) → map model_relation known.models ≡ map parent_relation models → AreParentsAmong known names (parents_among names models) }
 {}
 
-/// An own definition has its name, kind, cron, unit and start from the model's file. Its sources ascend by name, so that no
-/// two have one, and a query has just the columns that the file declares, where it declares some.
+/// An own definition has its name, kind, cron, unit and start from the model's file. Its sources ascend by name, so
+/// that no two have one, and a query has just the columns that the file declares, where it declares some.
 #[tactic(auto, using(crate::proofs::Files::as_file, crate::proofs::Files::sources_ascend, crate::proofs::Files::columns_declared))]
 pub fn own_definitions_keep_their_files()
     ensures file { (m : ModelText) (seed : Option Seed) (known : Known) (definition : Own) → own m seed known ≡ Ok definition → SaysAsItsFile m definition }

@@ -1,6 +1,5 @@
-//! The laws of resolving. Its contract: what a query is resolved to names only what is in sight, its items have distinct
-//! names and values of their types, and the definition of a model that is made of it is well formed. It stands on
-//! `mesh_resolve`, `mesh_spec_query` and `mesh_spec_model`, and says that rows fit columns in the words of `mesh_model_csv::seeds`.
+//! The laws of resolving. Its contract: what a query is resolved to names only what is in sight, its items have
+//! distinct names and values of their types, and the definition of a model that is made of it is well formed.
 #![tactic(auto)]
 
 mod laws;

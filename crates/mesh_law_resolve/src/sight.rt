@@ -11,8 +11,8 @@ ghost use Rattle.mesh_resolve.specs.Queries.{resolved};
 ghost use Rattle.mesh_law_resolve.specs.Each.{EachSelect, HasDistinctNames};
 ghost use Rattle.mesh_law_resolve.specs.Sight.{known_relations};
 
-/// All that a resolved query names is there: each relation among the models and the sources that are known, each CTE among
-/// those before, and each column among those of its FROM item.
+/// All that a resolved query names is there: each relation among the models and the sources that are known, each CTE
+/// among those before, and each column among those of its FROM item.
 #[tactic(auto, using(crate::proofs::Insight::resolved_seen))]
 pub fn what_is_resolved_is_in_sight()
     ensures { (known : Known) (surface : Surface) (query : Query) → resolved known surface ≡ Ok query → is_query_seen (known_relations known) query ≡ true }

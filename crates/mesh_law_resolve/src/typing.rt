@@ -35,8 +35,8 @@ pub fn values_have_their_types()
         (s : Scope) → ScopeFits columns s → operands_fit t.expr s ≡ true }
 {}
 
-/// Over tables that have the columns that a query was resolved by, and rows that fit these, the query's rows fit its own
-/// columns: as many cells, each NULL or of its column's type.
+/// Over tables that have the columns that a query was resolved by, and rows that fit these, the query's rows fit its
+/// own columns: as many cells, each NULL or of its column's type.
 pub fn resolved_rows_fit_columns()
     ensures { (known : Known) (surface : Surface) (query : Query) (inputs : List Input) (bounds : Bounds) → resolved known surface ≡ Ok query → Suits known inputs →
         All (λ row. fits (select_columns query.selects) row ≡ true) (Sel query inputs bounds) }

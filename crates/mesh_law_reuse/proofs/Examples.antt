@@ -162,7 +162,8 @@ as_they_are_read : (cs : Closures) → map model_relation (each_of cs) ≡ map p
 as_they_are_read Alone = refl
 as_they_are_read (With c cs) = ap (λ rs. model_relation c ∷ rs) (as_they_are_read cs)
 
--- a model is well formed with all that it stands on, where it is with its parents, by computation, and each of them is so
+-- a model is well formed with all that it stands on, where it is with its parents, by computation, and each of them
+-- is so
 pub well_over : (own : Own) (parents : Closures) → is_well_formed (map as_read (each_of parents)) own ≡ true → Each AreWell (each_of parents) → AreWell (Model own parents)
 well_over own parents rules rest =
     let first : IsWell (Model own parents) = (map as_read (each_of parents), rules, as_they_are_read parents) in

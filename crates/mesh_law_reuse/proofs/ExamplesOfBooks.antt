@@ -1,4 +1,5 @@
--- A book, worked out by hand, in which a model has gained a column, and what reads another column of it has kept its table.
+-- A book, worked out by hand, in which a model has gained a column, and what reads another column of it has kept its
+-- table.
 use Rattle.std.proofs.Common.{◌≡◌, ℕ, pos, Bool, true, false, cond, inl, inr, List, [], ◌∷◌, refl, ap, sym, ◌∙◌, subst, arith}
 use Rattle.std.specs.Prelude.{codes}
 use Rattle.std.specs.Ordering.{is_eq}

@@ -1,4 +1,5 @@
--- A plan, worked out by hand: a model gains a column, and what reads another column of it is given the table that it had.
+-- A plan, worked out by hand: a model gains a column, and what reads another column of it is given the table that it
+-- had.
 use Rattle.std.proofs.Common.{◌≡◌, ℕ, pos, true, ◌⊎◌, inl, inr, List, [], ◌∷◌, map, length, refl, ap, sym, ◌∙◌, subst, arith}
 use Rattle.std.specs.Prelude.{codes}
 use Rattle.std.specs.List.{All, AllByRecursion, Contains, fold}

@@ -65,8 +65,8 @@ pub fn models_are_well_formed_with_their_ancestors()
     ensures snapshots { (b : Book) → is_well_formed_book b ≡ true → (s : Snapshot) → IsSnapshot b.snapshots s → AreWell (closing b.snapshots s) }
 {}
 
-/// Where nothing but columns was added above a model, whose own definition is the same, the old model and the new one need
-/// the same: they are twins.
+/// Where nothing but columns was added above a model, whose own definition is the same, the old model and the new one
+/// need the same: they are twins.
 #[tactic(auto, using(crate::proofs::Fit::well_twins))]
 pub fn additions_above_leave_twins()
     ensures { (old new : Closure) → IsCompatible old new → own_of old ≡ own_of new → AreWell old → AreWell new → IsTwin old new }
@@ -78,8 +78,8 @@ pub fn tables_stay_with_twins()
         AreWell old.closure → AreWell new.closure → IsTwin old.closure new.closure }
 {}
 
-/// Where snapshots of a book share a table only as twins, each snapshot whose table a model of a plan is given is of a model
-/// of its name, and the two are twins: in a plan of a proper project, and in a run.
+/// Where snapshots of a book share a table only as twins, each snapshot whose table a model of a plan is given is of
+/// a model of its name, and the two are twins: in a plan of a proper project, and in a run.
 pub fn given_tables_are_of_twins()
     ensures plan { (clock : Clock) (b : Book) (nodes : List Node) (restate : Option Restate) (plan : Plan) → is_well_formed_book b ≡ true → is_proper nodes ≡ true → IsPlan clock b nodes restate plan →
         SharesWithTwins b → (p : Planned) → Contains plan.models p → (s : Snapshot) → IsSnapshot b.snapshots s → s.object ≡ p.object →
@@ -95,9 +95,9 @@ pub fn no_table_is_given_twice()
         (p q : Planned) → Contains plan.models p → Contains plan.models q → p.object ≡ q.object → p ≡ q }
 {}
 
-/// Putting the snapshots of such a plan, or of some of its models, makes a book that has those of the book before, with their
-/// definitions, parents and ranks, and beside them only the ones that are put. Where it is well formed, its snapshots too
-/// share a table only as twins.
+/// Putting the snapshots of such a plan, or of some of its models, makes a book that has those of the book before,
+/// with their definitions, parents and ranks, and beside them only the ones that are put. Where it is well formed,
+/// its snapshots too share a table only as twins.
 pub fn plans_keep_tables_for_twins()
     ensures put { (clock : Clock) (before : Book) (nodes : List Node) (restate : Option Restate) (plan : Plan) (t : ℤ) → is_well_formed_book before ≡ true → is_proper nodes ≡ true → IsPlan clock before nodes restate plan →
         (some : List Planned) → ((p : Planned) → Contains some p → Contains plan.models p) → HasPut t plan.models before (fold put_snapshot before (map (snapshot_of t plan.models) some)) }

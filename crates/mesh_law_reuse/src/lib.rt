@@ -1,6 +1,6 @@
-//! Laws of reuse, each the contract of a function with an empty body: a model needs no more of its ancestors than its core
-//! has, models that are compatible and have one definition are twins, and a plan gives its models tables of twins alone.
-//! Its definitions are read in this order: `Well` and `Shared`. It stands on `mesh_spec_changes::reuse`, `mesh_spec_changes::listed` and `mesh_spec_changes`.
+//! Laws of reuse, each the contract of a function with an empty body: a model needs no more of its ancestors than its
+//! core has, models that are compatible and have one definition are twins, and a plan gives its models tables of
+//! twins alone. Its definitions are read in this order: `Well` and `Shared`.
 #![tactic(auto)]
 
 mod laws;

@@ -40,7 +40,8 @@ either false b h f g = g h
 abbrev pub near_rows : Bounds → List Column → List ℕ → List Row → List Row
 near_rows u cs time rows = filter (lies_in cs time (from_its_day u)) rows
 
--- two tables of a FROM item have the same rows, or the second has those of the first that are near, and the item is bound
+-- two tables of a FROM item have the same rows, or the second has those of the first that are near, and the item is
+-- bound
 pub data Fits (u : Bounds) (q : Select) (k : ℕ) (f : FromItem) (cs : List Column) : List Row → List Row → Type 0 where
   same : {rows : List Row} → Fits u q k f cs rows rows
   bound_to : {rows : List Row} (time : List ℕ) → is_bound q k f time ≡ true → Fits u q k f cs rows (near_rows u cs time rows)

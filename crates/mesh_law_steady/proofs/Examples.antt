@@ -1,5 +1,5 @@
--- A shop, worked out by hand: a model by days over a timed source, and a FULL model over it. An order of the third day comes
--- late, and what was computed stays.
+-- A shop, worked out by hand: a model by days over a timed source, and a FULL model over it. An order of the third
+-- day comes late, and what was computed stays.
 use Rattle.std.proofs.Common.{◌≡◌, ℕ, ◌+◌, ◌*◌, ℤ, pos, ◌≤ℤ◌, Bool, true, false, ◌&&◌, inl, inr, List, [], ◌∷◌, length, refl, sym, ap, ap₂, ◌∙◌, subst, arith}
 use Rattle.std.specs.Prelude.{codes}
 use Rattle.std.specs.Ordering.{is_eq}

@@ -1,4 +1,5 @@
--- What a definition finds under a name among its sources and parents, and that a steady one needs no rows but those near its unit.
+-- What a definition finds under a name among its sources and parents, and that a steady one needs no rows but those
+-- near its unit.
 use Rattle.std.proofs.Common.{◌≡◌, ℕ, Bool, true, false, cond, List, [], ◌∷◌, ◌++◌, map, refl, sym, ap, ◌∙◌, subst}
 use Rattle.std.specs.List.{filter, find}
 use Rattle.std.specs.Ordering.{is_eq}

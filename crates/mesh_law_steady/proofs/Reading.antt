@@ -1,5 +1,5 @@
--- A steady incremental model needs no rows but those near its unit, and the tables that a model reads are its sources' and its
--- parents'.
+-- A steady incremental model needs no rows but those near its unit, and the tables that a model reads are its
+-- sources' and its parents'.
 use Rattle.std.proofs.Common.{◌≡◌, true, List, ap}
 use Rattle.mesh_base_values.specs.Kinds.{is_incremental}
 use Rattle.mesh_base_values.specs.declared.times.Bounds.{Bounds}

@@ -1,5 +1,5 @@
--- A warehouse of the shop, in which the first day and the totals are recorded on 2024-01-03 at midnight: it meets what the
--- law of steady projects asks, so nothing moves while the order of the third day comes, and later.
+-- A warehouse of the shop, in which the first day and the totals are recorded on 2024-01-03 at midnight: it meets
+-- what the law of steady projects asks, so nothing moves while the order of the third day comes, and later.
 use Rattle.std.proofs.Common.{◌≡◌, ℕ, ℤ, pos, ◌≤ℤ◌, Bool, true, false, cond, ◌&&◌, inl, inr, List, [], ◌∷◌, refl, sym, ap, ◌∙◌, subst, IsTrue}
 use Rattle.std.specs.Prelude.{codes}
 use Rattle.std.specs.List.{All, AllZip, Contains}

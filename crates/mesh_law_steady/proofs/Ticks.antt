@@ -1,5 +1,5 @@
--- Last ticks of crons that fire at minute 0 of some hours of each day, worked out by hand: on the first days of 1970, and on
--- 2024-01-03.
+-- Last ticks of crons that fire at minute 0 of some hours of each day, worked out by hand: on the first days of 1970,
+-- and on 2024-01-03.
 use Rattle.std.proofs.Common.{◌≡◌, ◌≢◌, ℕ, ◌<◌, ◌==◌, not, ◌&&◌, IsTrue, pos, Bool, true, false, refl, ap, arith}
 use Rattle.std.proofs.lemmas.Bool.{eqb-true}
 use Rattle.jiff_core.specs.declared.civil.date.Date.{Date}

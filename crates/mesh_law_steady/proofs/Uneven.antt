@@ -1,6 +1,6 @@
--- Three models of which one by hours stands on one by days, and that on one by hours. Each is steady, there are no sources,
--- and yet an hour of the last gets other rows as time goes on: its day isn't computed yet while the first model's horizon
--- is within the day, but the horizon of the last model is there too. So evenness is asked.
+-- Three models of which one by hours stands on one by days, and that on one by hours. Each is steady, there are no
+-- sources, and yet an hour of the last gets other rows as time goes on: its day isn't computed yet while the first
+-- model's horizon is within the day, but the horizon of the last model is there too. So evenness is asked.
 use Rattle.std.proofs.Common.{◌≡◌, ℕ, ℤ, pos, ◌≤ℤ◌, Bool, true, false, cond, ◌&&◌, nat_eq, inl, List, [], ◌∷◌, ◌++◌, map, refl, sym, ap, ap₂, ◌∙◌, subst, arith}
 use Rattle.std.specs.Prelude.{codes}
 use Rattle.std.specs.List.{Contains, filter, flat_map}

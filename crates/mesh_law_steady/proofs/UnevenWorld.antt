@@ -1,5 +1,5 @@
--- A warehouse of the three models whose units aren't even: an hour of the last is recorded, and moves six hours later, though
--- each model is steady and there are no sources.
+-- A warehouse of the three models whose units aren't even: an hour of the last is recorded, and moves six hours
+-- later, though each model is steady and there are no sources.
 use Rattle.std.proofs.Common.{◌≡◌, ℕ, ℤ, pos, ◌≤ℤ◌, Bool, true, false, cond, not, ◌&&◌, inl, inr, List, [], ◌∷◌, refl, sym, ap, ◌∙◌, subst, IsTrue}
 use Rattle.std.specs.Prelude.{codes}
 use Rattle.std.specs.List.{All, Contains}

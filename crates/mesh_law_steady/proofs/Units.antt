@@ -65,8 +65,8 @@ of_day start unit last u h = let i = unit_of_schedule start unit last u h in sub
 abbrev pub IsDays : ℤ → Type 0
 IsDays t = (n : ℤ) × (t ≡ n *ℤ pos 86_400)
 
--- Where a unit's end isn't above the end of another schedule, none of that schedule's later units begins before it, if both
--- count alike, or the unit is a day, or the schedule's end is one's.
+-- Where a unit's end isn't above the end of another schedule, none of that schedule's later units begins before it,
+-- if both count alike, or the unit is a day, or the schedule's end is one's.
 abbrev pub FitUnits : TimeUnit → TimeUnit → ℤ → Type 0
 FitUnits Hour Hour last = Unit {0}
 FitUnits Day Hour last = Unit {0}

@@ -9,8 +9,8 @@ use Rattle.mesh_spec_model.specs.Horizons.{Clock, horizon, schedule}
 use Rattle.mesh_spec_changes.specs.steady.Arrives.{KeepsUnits, StaysStatic}
 use Rattle.mesh_spec_changes.specs.steady.Steady.{is_steady}
 
--- The model is a seed exactly where its definition has rows, it is steady, its static sources stay, its timed ones keep the
--- units of its schedule where it is incremental, and its horizon is no earlier afterwards.
+-- The model is a seed exactly where its definition has rows, it is steady, its static sources stay, its timed ones
+-- keep the units of its schedule where it is incremental, and its horizon is no earlier afterwards.
 pub record IsKept (before after : List Input) (clock later : Clock) (c : Closure) : Type 0 where
   pub body : is_body_of (own_of c).kind (own_of c).defn ≡ true
   pub steady : is_steady c ≡ true

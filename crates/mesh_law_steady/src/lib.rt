@@ -1,7 +1,6 @@
-//! Laws of steady projects, each the contract of a function with an empty body: a steady model's query for a unit sees no
-//! other rows than those near the unit, so a computed unit keeps its rows while sources change in later rows alone, and
-//! nothing moves. Its definitions are read in this order: `Days`, `Near`, `Kept` and `Projects`. It stands on `mesh_spec_changes::steady`
-//! and `mesh_spec_promise`.
+//! Laws of steady projects, each the contract of a function with an empty body: a steady model's query for a unit
+//! sees no other rows than those near the unit, so a computed unit keeps its rows while sources change in later rows
+//! alone, and nothing moves. Its definitions are read in this order: `Days`, `Near`, `Kept` and `Projects`.
 #![tactic(auto)]
 
 mod laws;

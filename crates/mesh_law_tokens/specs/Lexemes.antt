@@ -36,8 +36,8 @@ ends_line (b ∷ bs) = b == 10
 abbrev pub IsInFrontOfFirst : List ℕ → Type 0
 IsInFrontOfFirst said = (front behind : List ℕ) → front ++ codes "*/" ++ behind ≡ said ++ codes "*/" → length said ≤ length front
 
--- The first bytes, in front of the others, are blanks and comments. A comment goes from `--` to the end of its line, or from
--- `/*` to the first `*/`.
+-- The first bytes, in front of the others, are blanks and comments. A comment goes from `--` to the end of its line,
+-- or from `/*` to the first `*/`.
 pub data AreBetween : List ℕ → List ℕ → Type 0 where
   nothing : {behind : List ℕ} → AreBetween [] behind
   blank : {b : ℕ} {bytes behind : List ℕ} → is_blank b ≡ true → AreBetween bytes behind → AreBetween (b ∷ bytes) behind
@@ -56,8 +56,8 @@ begins_comment (a ∷ b ∷ bs) = ((a == 45) && (b == 45)) || ((a == 47) && (b =
 abbrev pub IsLongest : List ℕ → List ℕ → Type 0
 IsLongest bytes behind = (kind : TokenKind) (front rest : List ℕ) → front ++ rest ≡ bytes ++ behind → Lexeme kind front → length front ≤ length bytes
 
--- These are the tokens of a text whose first byte stands at this place: blanks and comments, the longest bytes that spell a
--- token, where no comment begins, and so on behind them; at last blanks and comments.
+-- These are the tokens of a text whose first byte stands at this place: blanks and comments, the longest bytes that
+-- spell a token, where no comment begins, and so on behind them; at last blanks and comments.
 pub data AreLexed : ℕ → List ℕ → List Token → Type 0 where
   no_more : {at : ℕ} {between : List ℕ} → AreBetween between [] → AreLexed at between []
   next : {at : ℕ} (between bytes behind : List ℕ) {kind : TokenKind} {more : List Token} → AreBetween between (bytes ++ behind)

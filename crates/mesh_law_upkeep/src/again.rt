@@ -1,7 +1,6 @@
-//! Laws of doing the same again, each the contract of a function with an empty body: what a janitor's sweep leaves of a
-//! world is exactly what stays at its moment, and a second sweep at that moment leaves it as it is; a second promotion of a
-//! plan leaves everything that views show. Its definitions are those of `Swept`. It stands on `mesh_janitor::janitor`, `mesh_spec_changes`
-//! and `mesh_spec_promise`.
+//! Laws of doing the same again, each the contract of a function with an empty body: what a janitor's sweep leaves of
+//! a world is exactly what stays at its moment, and a second sweep at that moment leaves it as it is; a second
+//! promotion of a plan leaves everything that views show. Its definitions are those of `Swept`.
 
 mod laws;
 

@@ -1,5 +1,5 @@
-//! What a move of the book to other fingerprints leaves: at every exit of it each view shows the rows that it showed, and a run has
-//! due what it had. Each law is the contract of a function with an empty body. It stands on `mesh_law_upkeep::again`.
+//! What a move of the book to other fingerprints leaves: at every exit of it each view shows the rows that it showed,
+//! and a run has due what it had. Each law is the contract of a function with an empty body.
 
 mod laws;
 

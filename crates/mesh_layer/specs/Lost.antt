@@ -1,5 +1,6 @@
--- Where showing an object stops: the first object of the walk that isn't there, that stores no query whose names are all
--- there, or that stands behind too many stored queries. A stored query is judged before its targets, which come in order.
+-- Where showing an object stops: the first object of the walk that isn't there, that stores no query whose names are
+-- all there, or that stands behind too many stored queries. A stored query is judged before its targets, which come
+-- in order.
 use Rattle.std.specs.Prelude.{ℕ, zero, suc, if◌then◌else◌, List, [], ◌∷◌, map, Some, None}
 use Rattle.std.specs.declared.option.Option.{Option}
 use Rattle.mesh_base_values.specs.declared.values.Name.{Name}

@@ -27,8 +27,8 @@ pub record IsUntouched (old new : Told) : Type 0 where
   pub calls : new.calls ≡ old.calls
   pub faults : old.faults ≤ new.faults
 
--- Where the house tells its world, what is answered is what the world shows, and what dangles is what is lost there first:
--- then nothing is shown. A fault of the warehouse is told only where its count rose.
+-- Where the house tells its world, what is answered is what the world shows, and what dangles is what is lost there
+-- first: then nothing is shown. A fault of the warehouse is told only where its count rose.
 pub record Shows {T : Type 0} (shown : World → Option T) (lost : World → Option Name) (old new : Told) (result : Result T ShowFault) : Type 0 where
   pub untouched : IsUntouched old new
   pub ok : IfOk result (λ x. (w : World) → Tells old w → shown w ≡ Some x)

@@ -100,8 +100,8 @@ fn source_kept<W: Warehouse>(
     Ok(Some(Kept::Rows(rows)))
 }
 
-/// What the object of that name keeps or, by the columns that it is declared with, the source. One function reads both: as
-/// it is long and is called from two places, Rattle's own compiler doesn't inline it either.
+/// What the object of that name keeps or, by the columns that it is declared with, the source. One function reads
+/// both: as it is long and is called from two places, Rattle's own compiler doesn't inline it either.
 #[inline(never)]
 pub(crate) fn kept_at<W: Warehouse>(
     alloc: Global,

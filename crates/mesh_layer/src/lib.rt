@@ -1,6 +1,5 @@
-//! What a warehouse shows. Its contract: `object_rows`, `show` and `ask` answer the rows that `mesh_spec_changes::shown` says a world
-//! shows, or the object that dangles, and change nothing. It stands on
-//! `mesh_house`, `mesh_spec_changes::shown`, `mesh_eval` and the names of views in `mesh_spec_changes`.
+//! What a warehouse shows. Its contract: `object_rows`, `show` and `ask` answer the rows that
+//! `mesh_spec_changes::shown` says a world shows, or the object that dangles, and change nothing.
 #![tactic(auto)]
 
 mod faults;

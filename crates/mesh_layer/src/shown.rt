@@ -98,9 +98,9 @@ pub fn view_tables<W: Warehouse>(
     Ok(tables)
 }
 
-/// The rows of a query over the views of an environment's models, by the book's list of it. The columns of each are those
-/// of the object that the view points at. A relation that is none of these models, and a CTE that doesn't stand earlier,
-/// has neither columns nor rows.
+/// The rows of a query over the views of an environment's models, by the book's list of it. The columns of each are
+/// those of the object that the view points at. A relation that is none of these models, and a CTE that doesn't stand
+/// earlier, has neither columns nor rows.
 pub fn ask<W: Warehouse>(
     alloc: Global,
     house: &mut W,

@@ -131,7 +131,8 @@ pub fn has_shape(declared: &[Column], columns: &[Column]) -> bool
     each
 }
 
-/// The rows with the declared columns alone, in declared order: the rows themselves where those are all columns in theirs.
+/// The rows with the declared columns alone, in declared order: the rows themselves where those are all columns in
+/// theirs.
 pub fn picked_rows(
     alloc: Global,
     declared: &[Column],

@@ -1,5 +1,5 @@
-// The rows behind an object: each stored query is computed once. A level of the walk takes little of the stack: what is done
-// before it goes deeper, and once it is back, stands in functions that are not inlined.
+// The rows behind an object: each stored query is computed once. A level of the walk takes little of the stack: what
+// is done before it goes deeper, and once it is back, stands in functions that are not inlined.
 ghost use Rattle.std.specs.Prelude.{◌≡◌, ◌≤◌, ◌<◌, ◌+◌, ◌^◌, ℕ, List, ◌++◌, ◌∷◌, [], IfOk, OnOk, IsTrue, map, Some, None};
 ghost use Rattle.std.specs.Option.{option_map};
 ghost use Rattle.mesh_base_values.specs.declared.values.Cell.{Cell};
@@ -51,7 +51,8 @@ fn columns_at<W: Warehouse>(alloc: Global, house: &mut W, name: &Name) -> Result
     }
 }
 
-/// The rows of a stored query over the sources that it declares and these tables. As `kept_at`, it is called from two places.
+/// The rows of a stored query over the sources that it declares and these tables. As `kept_at`, it is called from two
+/// places.
 #[inline(never)]
 fn query_rows<W: Warehouse>(
     alloc: Global,
@@ -149,8 +150,8 @@ pub(crate) fn rows_behind<W: Warehouse>(
     }
 }
 
-/// The same of an object that keeps this stored query, which no table does. The query is let go by the caller alone, at one
-/// place, since each such place takes some of the stack.
+/// The same of an object that keeps this stored query, which no table does. The query is let go by the caller alone,
+/// at one place, since each such place takes some of the stack.
 #[cycle(walk)]
 fn query_behind<W: Warehouse>(
     alloc: Global,

@@ -1,5 +1,5 @@
--- Incremental models whose adjoining units can be computed by one query over all of them: a unit's rows are those of the
--- longer interval that lie in the unit.
+-- Incremental models whose adjoining units can be computed by one query over all of them: a unit's rows are those of
+-- the longer interval that lie in the unit.
 use Rattle.std.specs.Prelude.{ℕ, Bool, true, false, not, ◌&&◌, ◌||◌, if◌then◌else◌, List, [], ◌∷◌, Some, None}
 use Rattle.std.specs.List.{find, list_any}
 use Rattle.std.specs.declared.option.Option.{Option}
@@ -47,8 +47,8 @@ abbrev pub has_macro_in : Option Expr → Bool
 has_macro_in None = false
 has_macro_in (Some e) = has_macro e
 
--- One node: `x.c BETWEEN` the start `AND` the end of the unit; or an AND of which just one side has macros, and that side
--- has all of them in such a conjunct.
+-- One node: `x.c BETWEEN` the start `AND` the end of the unit; or an AND of which just one side has macros, and that
+-- side has all of them in such a conjunct.
 abbrev pub binds_here : ℕ → List ℕ → Expr-F (Expr × Bool) (When × Bool) → Bool
 binds_here item name (Binary op left right) = is_and op && (if has_macro right.0 then right.1 && not (has_macro left.0) else left.1)
 binds_here item name (Between value low high) = is_column item name value.0 && are_ends low.0 high.0

@@ -76,8 +76,8 @@ breakers_as own parents Full = timed_reached (Model own parents)
 breakers_as own parents View = []
 breakers_as own parents Seed = []
 
--- The names that break the rule: of an incremental model the relations of FROM items that may not be read as they are, of a
--- FULL one the timed sources that it reaches other than through incremental models.
+-- The names that break the rule: of an incremental model the relations of FROM items that may not be read as they
+-- are, of a FULL one the timed sources that it reaches other than through incremental models.
 abbrev pub breakers : Closure → List Name
 breakers (Model own parents) = breakers_as own parents own.kind
 

@@ -96,8 +96,8 @@ fn is_joinable_query(q: &Query, time: &Str) -> bool
     }
 }
 
-/// Whether the rows of an incremental model for each of some adjoining units are those of its query for all of them that lie
-/// in the unit: its macros only bind the column that its time column is.
+/// Whether the rows of an incremental model for each of some adjoining units are those of its query for all of them
+/// that lie in the unit: its macros only bind the column that its time column is.
 pub fn joinable(m: &Own) -> Result<bool, Memory>
     ensures { IfOk result (λ made. made ≡ is_joinable m.now) }
 {

@@ -1,7 +1,6 @@
-//! What a model reads, and what follows from it: the columns of models and sources that it names, whether it stays as it is
-//! computed while time goes on, and whether its adjoining units can be computed as one. Its contract: `reads`, `unsteady`
-//! and `joinable` give exactly what their definitions say. It stands on `mesh_base`, `mesh_base::rules`, `mesh_law_query` and
-//! `mesh_spec_changes::steady`.
+//! What a model reads, and what follows from it: the columns of models and sources that it names, whether it stays as
+//! it is computed while time goes on, and whether its adjoining units can be computed as one. Its contract: `reads`,
+//! `unsteady` and `joinable` give exactly what their definitions say.
 #![tactic(auto)]
 
 mod bounds;

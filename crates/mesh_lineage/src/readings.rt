@@ -144,7 +144,8 @@ fn query_reads(alloc: Global, q: &Query) -> Result<Reads, Memory>
     Ok(made)
 }
 
-/// The columns of models and sources that a definition names, by relation and then by column, each once. A seed names none.
+/// The columns of models and sources that a definition names, by relation and then by column, each once. A seed names
+/// none.
 #[tactic(auto, using(crate::proofs::Orders::one_order))]
 pub fn reads(m: &Own) -> Result<Reads, Memory>
     ensures { IfOk result (λ made. made ≡ readings m.now) }

@@ -1,7 +1,7 @@
 //! The containers that every crate of `mesh` keeps its values in, and the laws of lists that they rest on. It knows
 //! no word of SQL. A `Seq` is a list, a `Boxed` is the value in it, a `Sorted` is a list in strictly ascending order
-//! of its keys, a `Register` a list in any order that is looked up by a key; `Duplicate` copies to an equal value and `Same` tells exactly whether two values are equal. It stands
-//! on std alone.
+//! of its keys, a `Register` a list in any order that is looked up by a key; `Duplicate` copies to an equal value and
+//! `Same` tells exactly whether two values are equal.
 #![tactic(auto)]
 
 mod boxes;

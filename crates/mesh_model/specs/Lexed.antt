@@ -11,7 +11,8 @@ abbrev pub or_none : Result (List Token) ReadFault → List Token
 or_none (Ok ts) = ts
 or_none (Err fault) = []
 
--- the tokens in front of a place: a text or a comment that the place cuts has no end there, and is a fault where it begins
+-- the tokens in front of a place: a text or a comment that the place cuts has no end there, and is a fault where it
+-- begins
 abbrev pub cut : List ℕ → Result (List Token) ReadFault → List Token
 cut bytes (Ok ts) = ts
 cut bytes (Err (faults.Fault at kind)) = or_none (tokens (take at bytes))

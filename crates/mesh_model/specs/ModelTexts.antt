@@ -1,5 +1,5 @@
--- What a model's file says, or its first fault. Where the file has a faulty token, reading goes as far as the tokens in front
--- of it.
+-- What a model's file says, or its first fault. Where the file has a faulty token, reading goes as far as the tokens
+-- in front of it.
 use Rattle.std.specs.Prelude.{ℕ, ℤ, ◌-◌, Bool, true, false, ◌&&◌, not, ◌==◌, List, codes, length, Result, Ok, Err, if◌then◌else◌}
 use Rattle.std.specs.Option.{is_some, unwrap_or}
 use Rattle.std.specs.declared.option.Option.{Option}

@@ -13,8 +13,8 @@ use Rattle.mesh_model_statement.specs.declared.model.model.ModelText.{ModelText}
 use Rattle.mesh_model.specs.Lexed.{file_tokens, file_fault}
 use Rattle.mesh_model.specs.ModelTexts.{query_at, model_of}
 
--- a query is read from a token on: the one tree that the tokens spell, in which no expression has too many nodes, or why
--- they are refused, and where
+-- a query is read from a token on: the one tree that the tokens spell, in which no expression has too many nodes, or
+-- why they are refused, and where
 abbrev pub IsQueryRead : List Token → ℕ → Result Surface ReadFault → Type 0
 IsQueryRead ts from (Ok tree) = Spells deepest (a_query tree) (drop from ts) [] × (is_within tree ≡ true) × ((other : Surface) → IsQuery other (drop from ts) → tree ≡ other)
 IsQueryRead ts from (Err fault) = IsRefusal (take from ts) (drop from ts) fault

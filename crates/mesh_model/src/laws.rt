@@ -7,9 +7,9 @@ ghost use Rattle.mesh_model.specs.Complete.{is_complete};
 ghost use Rattle.mesh_model.specs.Lexed.{file_tokens, file_fault};
 ghost use Rattle.mesh_model.specs.ModelTexts.{model_of};
 
-/// A model that is read from a file has a name whose schema and model are identifiers without capitals, of at most 128 bytes
-/// each, the schema by the rule of schemas, a query unless it is a SEED, and where it is incremental a start and a lookback of
-/// at most 366 units.
+/// A model that is read from a file has a name whose schema and model are identifiers without capitals, of at most
+/// 128 bytes each, the schema by the rule of schemas, a query unless it is a SEED, and where it is incremental a
+/// start and a lookback of at most 366 units.
 #[tactic(auto, using(crate::proofs::Completed::model_complete))]
 pub fn models_are_complete()
     ensures { (file bytes : List ℕ) (query : Result Surface ReadFault) (m : ModelText) → model_of file (file_tokens bytes) (file_fault bytes) query ≡ Ok m → is_complete m ≡ true }

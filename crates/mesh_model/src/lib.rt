@@ -1,7 +1,6 @@
 //! The files of models. Its contract: `read_model` gives what the definition `model_of` says of a file's tokens: the
 //! MODEL statement, the query behind it and what follows from absent properties, or the first fault of the text. The
-//! query is read as `mesh_query` promises. It stands on `mesh_list`, `mesh_base_values`, `mesh_time`, `mesh_query_tokens`, `mesh_model_statement::model`,
-//! `mesh_query` and `mesh_model_statement`.
+//! query is read as `mesh_query` promises.
 #![tactic(auto)]
 
 mod behind;

@@ -1,8 +1,6 @@
 //! The file that declares the sources, which no model makes: CSV (RFC 4180, as `csv` reads it) under the header
-//! `name,column,type,role`, with a record for each column of a source. Its contract: `read_external` gives exactly what
-//! the definition `external_text` says of the file, the sources ascending by name or its first fault. It stands on
-//! `mesh_list`, `mesh_base_values`, `mesh_base`, `mesh_time_days::casts`, `mesh_query_grammar::lookahead` for types, `mesh_query_tokens` for faults, and
-//! `seeds`.
+//! `name,column,type,role`, with a record for each column of a source. Its contract: `read_external` gives exactly
+//! what the definition `external_text` says of the file, the sources ascending by name or its first fault.
 
 mod columns;
 mod laws;

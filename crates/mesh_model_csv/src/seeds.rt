@@ -1,7 +1,6 @@
 //! The CSV files of a project (RFC 4180, as `csv` reads them). Its contract: `read_seed` gives exactly what the
-//! definition `seed_text` says of a file beside its declared columns, its columns and rows or its first fault. Records
-//! and the names of a header are there for other files too. It stands on `mesh_list`, `mesh_base_values`, `mesh_time_days::casts`,
-//! `mesh_query_tokens` for faults, and `csv`.
+//! definition `seed_text` says of a file beside its declared columns, its columns and rows or its first fault.
+//! Records and the names of a header are there for other files too.
 
 mod fields;
 mod header;

@@ -1,7 +1,6 @@
-//! MODEL statements. Its contract: `read_statement` gives exactly what the definition `statement` says of the tokens of
-//! a model's file: the properties up to the semicolon, or the first fault among them. A seed's path is one of the
-//! project. It stands on `mesh_list`, `mesh_base_values`, `mesh_time`, `mesh_time_days::casts`, `mesh_query_tokens`, `mesh_query_grammar::lookahead` and
-//! `mesh_query_tokens::bounds`.
+//! MODEL statements. Its contract: `read_statement` gives exactly what the definition `statement` says of the tokens
+//! of a model's file: the properties up to the semicolon, or the first fault among them. A seed's path is one of the
+//! project.
 //! The module `model` has what a model's file says, as a type.
 #![tactic(auto)]
 

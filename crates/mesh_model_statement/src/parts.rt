@@ -14,7 +14,8 @@ use mesh_query_tokens::{ReadFault, Token, Tokens};
 use std::alloc::Global;
 
 /// The properties of a statement, and the names of all that stand in it. A start is a day counted from 1970-01-01; no
-/// columns stand where the property is absent. `audits` are the tokens of that property's value, none where it is absent.
+/// columns stand where the property is absent. `audits` are the tokens of that property's value, none where it is
+/// absent.
 #[derive(Drop)]
 pub struct Parts {
     pub seen: Strs,

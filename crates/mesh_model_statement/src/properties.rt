@@ -38,7 +38,8 @@ fn value_size(alloc: Global, any: bool, before: u64, tokens: &[Token]) -> Result
     }
 }
 
-// The value of a property, behind its name, which ends at byte `before`: the end of its last token, and the tokens behind it.
+// The value of a property, behind its name, which ends at byte `before`: the end of its last token, and the tokens
+// behind it.
 fn valued<'a>(
     alloc: Global,
     file: &[u8],
@@ -201,8 +202,8 @@ fn model_word(tokens: &[Token]) -> Result<(u64, &[Token]), ReadFault>
     }
 }
 
-/// The properties of the MODEL statement that the tokens of a file begin with, the byte at which its semicolon ends, and the tokens
-/// behind it. Places of faults are bytes of the text.
+/// The properties of the MODEL statement that the tokens of a file begin with, the byte at which its semicolon ends,
+/// and the tokens behind it. Places of faults are bytes of the text.
 pub fn read_statement<'a>(
     alloc: Global,
     file: &[u8],

@@ -39,8 +39,8 @@ abbrev pub IsRunIn : Book → List ℕ → Option Env → ℤ → Plan → Type 
 IsRunIn b env None t p = ⊥
 IsRunIn b env (Some e) t p = IsRunOf b env e t p
 
--- why there is no plan of a run: the moment is behind; else there is no such environment; else it is pending; else a model's
--- schedule is too long
+-- why there is no plan of a run: the moment is behind; else there is no such environment; else it is pending; else a
+-- model's schedule is too long
 abbrev pub RefusesRunOf : Book → Env → ℤ → PlanFault → Type 0
 RefusesRunOf b e t (Moment given kept) = (lt_z t b.moment ≡ true) × (given ≡ t) × (kept ≡ b.moment)
 RefusesRunOf b e t (Model name kind) = (lt_z t b.moment ≡ false) × (e.pending ≡ false) × IsTooLong (listed b.snapshots e.list) t name kind

@@ -1,8 +1,7 @@
-//! Plans. Its contract: `plan` says what is planned of a project for an environment at a moment, or the first fault: each
-//! model's category and object, what is computed again and what is due, as they are defined, and that this is a plan as the
-//! promise asks for one; `plan_run` says the same of the models that an environment lists, which it leaves as they are.
-//! It stands on `mesh_category::versions` for objects, `mesh_category::category`, `mesh_lineage` for what isn't steady, and `mesh_plan_due` for
-//! what is due.
+//! Plans. Its contract: `plan` says what is planned of a project for an environment at a moment, or the first fault:
+//! each model's category and object, what is computed again and what is due, as they are defined, and that this is a
+//! plan as the promise asks for one; `plan_run` says the same of the models that an environment lists, which it
+//! leaves as they are.
 #![tactic(auto)]
 
 mod compared;

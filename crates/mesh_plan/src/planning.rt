@@ -115,8 +115,8 @@ fn beside(
 }
 
 /// What is planned of a project for an environment at a moment; `again` names a model to be computed again with its
-/// descendants. The project is compared with the environment's list, or else production's. Faults are looked for in this
-/// order: the moment, the fingerprints, the schedules.
+/// descendants. The project is compared with the environment's list, or else production's. Faults are looked for in
+/// this order: the moment, the fingerprints, the schedules.
 pub fn plan(
     alloc: Global,
     p: &Project,

@@ -97,8 +97,8 @@ fn run_of(alloc: Global, b: &Book, env: &Str, e: &Env, t: i64) -> Result<Plan, P
     }
 }
 
-/// What is due at a moment of the models that an environment lists. Faults are looked for in this order: the moment, whether
-/// there is such an environment, whether it is pending, the schedules.
+/// What is due at a moment of the models that an environment lists. Faults are looked for in this order: the moment,
+/// whether there is such an environment, whether it is pending, the schedules.
 pub fn plan_run(alloc: Global, b: &Book, env: &Str, t: i64) -> Result<Plan, PlanFault>
     requires book { is_well_formed_book b.now ≡ true }
     requires moment { IsMoment t }

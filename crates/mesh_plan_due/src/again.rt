@@ -143,8 +143,8 @@ fn add_again(
     }
 }
 
-/// What of a plan's models is computed again although it is recorded: what is named to be, with all that stands on it, and
-/// what incremental models look back for. The horizons are those of the moment; each model has its entry.
+/// What of a plan's models is computed again although it is recorded: what is named to be, with all that stands on
+/// it, and what incremental models look back for. The horizons are those of the moment; each model has its entry.
 pub fn agains(
     alloc: Global,
     nodes: &[Node],

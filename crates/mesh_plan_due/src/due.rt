@@ -30,8 +30,8 @@ use mesh_list::{Duplicate, Memory, Seq};
 use std::alloc::Global;
 use std::collections::BTreeSet;
 
-/// What the dues of each model are found in: the models by name and their numbers, which of them each stands on, and what
-/// is computed again.
+/// What the dues of each model are found in: the models by name and their numbers, which of them each stands on, and
+/// what is computed again.
 pub(crate) struct Sight {
     pub spots: Vec<Spot>,
     pub numbers: Vec<usize>,

@@ -1,8 +1,7 @@
-//! How far the models of a project go at a moment, and what is due of them. Its contract: `horizons_of` gives the horizon
-//! of each model, `first_too_long` the first whose schedule has too many units, `agains` exactly what is computed again
-//! although it is recorded, and `dues` exactly what is due, each once and in a plan's order; a moment decides all of it. It
-//! stands on `mesh_spec_changes::due` for what these words mean, on `mesh_base::rules` for projects, on `mesh_time` for ticks and ranges, and on
-//! `mesh_house_book` for what is recorded.
+//! How far the models of a project go at a moment, and what is due of them. Its contract: `horizons_of` gives the
+//! horizon of each model, `first_too_long` the first whose schedule has too many units, `agains` exactly what is
+//! computed again although it is recorded, and `dues` exactly what is due, each once and in a plan's order; a moment
+//! decides all of it.
 #![tactic(auto)]
 
 mod again;

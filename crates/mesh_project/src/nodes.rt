@@ -1,8 +1,7 @@
-//! The models of a project over one another: which relations the text of a query names, which models stand before a model
-//! and are named by it, and each model's node with its definition, its parents' places and its fingerprint. Its contract:
-//! `are_apart` tells the first name that stands twice, and `nodes_of` gives the nodes of files in an order, or their first
-//! fault, as `specs/nodes/Apart.antt` and `Nodes.antt` there say. It stands on `mesh_project_files` for the files, on `mesh_resolve` with
-//! `mesh_law_resolve` for definitions, and on `mesh_canon_text` and `mesh_canon::fingerprint` for fingerprints.
+//! The models of a project over one another: which relations the text of a query names, which models stand before a
+//! model and are named by it, and each model's node with its definition, its parents' places and its fingerprint. Its
+//! contract: `are_apart` tells the first name that stands twice, and `nodes_of` gives the nodes of files in an order,
+//! or their first fault, as `specs/nodes/Apart.antt` and `Nodes.antt` there say.
 
 mod apart;
 mod earlier;

@@ -1,6 +1,5 @@
-//! The order of models. Its contract: from the names of models and the relations that each one's query names come either
-//! all of them by rank and name, each with its rank, or the names of those that reach themselves. It stands on
-//! `mesh_list` and `mesh_base_values`.
+//! The order of models. Its contract: from the names of models and the relations that each one's query names come
+//! either all of them by rank and name, each with its rank, or the names of those that reach themselves.
 
 mod cycles;
 mod laws;

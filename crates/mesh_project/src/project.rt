@@ -1,8 +1,7 @@
-//! Whole projects: the files of a folder, whatever forms their models have, as models by rank and name. Its contract: `load`
-//! gives the project that the relation `IsLoaded` says of the files of a folder, or their first fault with its file and
-//! place, and a project is proper by its type's rule: that a resolved query names the relations that its text names, and
-//! that the models in order are a proper project, are laws. It stands on `mesh_project_files` for the files, on `order` for
-//! ranks and cycles, on `nodes` for the models over one another, and on `mesh_law_resolve` for what is proper.
+//! Whole projects: the files of a folder, whatever forms their models have, as models by rank and name. Its contract:
+//! `load` gives the project that the relation `IsLoaded` says of the files of a folder, or their first fault with its
+//! file and place, and a project is proper by its type's rule: that a resolved query names the relations that its
+//! text names, and that the models in order are a proper project, are laws.
 
 mod laws;
 mod order;

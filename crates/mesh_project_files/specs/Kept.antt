@@ -21,7 +21,8 @@ pub record HasItsSeed (said : ModelText) (file : ModelFile) : Type 0 where
   pub cron : is_cron said.cron ≡ true
   pub seed : IsSeedWhere (is_some said.path) file.seed
 
--- A model's file as reading leaves it: what it says is complete, its cron is one, and a seed is there exactly for a SEED.
+-- A model's file as reading leaves it: what it says is complete, its cron is one, and a seed is there exactly for a
+-- SEED.
 pub record IsReadFile (file : ModelFile) : Type 0 where
   pub complete : is_complete file.text ≡ true
   pub cron : is_cron file.text.cron ≡ true

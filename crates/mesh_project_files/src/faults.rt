@@ -9,8 +9,8 @@ use mesh_list::{Duplicate, Memory};
 use mesh_query_tokens::{FaultKind, ReadFault};
 use std::alloc::Global;
 
-/// The first fault of the project's files, where it stands, or the folder failed, or memory ran out. `file` is a path in
-/// the project, and `-` for a fault of no one file; `at` is a place in its bytes.
+/// The first fault of the project's files, where it stands, or the folder failed, or memory ran out. `file` is a path
+/// in the project, and `-` for a fault of no one file; `at` is a place in its bytes.
 #[derive(Drop)]
 pub enum LoadFault {
     Fault { file: Str, at: u64, kind: FaultKind },

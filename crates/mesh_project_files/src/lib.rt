@@ -1,7 +1,6 @@
-//! The files of a project, whatever the form of its models. Its contract: `read_files` gives what the relation `AreFiles`
-//! says of the files of a folder: the declared sources, and each model's file with its seed in the order of their paths,
-//! or their first fault with its file and place. It stands on `mesh_list`, `mesh_base_values`, `mesh_base`, `mesh_io`,
-//! `text`, `mesh_model_csv::seeds` and `mesh_model_csv::external`.
+//! The files of a project, whatever the form of its models. Its contract: `read_files` gives what the relation
+//! `AreFiles` says of the files of a folder: the declared sources, and each model's file with its seed in the order
+//! of their paths, or their first fault with its file and place.
 #![tactic(auto)]
 
 mod faults;

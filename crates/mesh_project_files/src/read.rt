@@ -41,10 +41,10 @@ fn gather<F: Folder>(
     Ok(models)
 }
 
-/// The files of the project in `dir`: `external_models.csv` declares the sources, each file below `models` that ends in
-/// `.sql` is a model, in the order of their paths' bytes, and a SEED names a file of rows. The file PATH of the project is
-/// read as `dir/PATH`, and as PATH where `dir` is `.`; faults name it PATH. A listed file that isn't there any more is
-/// passed over.
+/// The files of the project in `dir`: `external_models.csv` declares the sources, each file below `models` that ends
+/// in `.sql` is a model, in the order of their paths' bytes, and a SEED names a file of rows. The file PATH of the
+/// project is read as `dir/PATH`, and as PATH where `dir` is `.`; faults name it PATH. A listed file that isn't there
+/// any more is passed over.
 pub fn read_files<F: Folder>(
     alloc: Global,
     folder: &mut F,

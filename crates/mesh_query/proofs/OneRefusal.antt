@@ -1,5 +1,5 @@
--- Tokens are refused in one way, and what is a query of the depth that is allowed for want of memory alone, or because an
--- expression is too large.
+-- Tokens are refused in one way, and what is a query of the depth that is allowed for want of memory alone, or
+-- because an expression is too large.
 use Rattle.std.proofs.Common.{◌≡◌, ◌+◌, ℕ, List, [], ◌∷◌, ◌++◌, codes, true, false, Some, ◌⊎◌, inl, inr, refl, ap, sym, ◌∙◌, arith}
 use Rattle.mesh_query_tokens.specs.declared.tokens.Token.{Token}
 use Rattle.mesh_query_tokens.specs.declared.faults.FaultKind.TheVariants.{Syntax, TooLarge}

@@ -28,8 +28,8 @@ AnswersFrom i n r s ts from before now result = MatchResult result (λ x. (from 
 abbrev pub Answers : Bool → ℕ → (r : Rule) → List Token → ℕ → ℕ → ℕ → Result (Tree r × ℕ) Fault → Type 0
 Answers i n r ts from before now result = AnswersFrom i n r (drop from ts) ts from before now result
 
--- What is read and what fails from one state on does so from an earlier one. With so many nodes left at the earlier one,
--- so many are left now.
+-- What is read and what fails from one state on does so from an earlier one. With so many nodes left at the earlier
+-- one, so many are left now.
 pub record Onward (i : Bool) (n : ℕ) (r : Rule) (s : List Token) (q : Plan r) (m : List Token) (before now : ℕ) : Type 0 where
   pub reads_on : (t : Tree r) (e : List Token) (left : ℕ) → Goes i n r q t m e now left → Reads i n r t s e before left
   pub fails_on : (c : Cause) (e : List Token) (left : ℕ) → GoesWrong i c n r q m e now left → GoesWrong i c n r (plan r) s e before left

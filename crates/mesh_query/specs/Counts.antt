@@ -1,6 +1,6 @@
--- How many nodes of an expression are left when reading has come so far. A node is met where the first token stands that
--- shows it. An expression begins with one node more than it may have, so that none is left where it has too many. Behind a
--- query as many have been met as its tree has: that is a law of this crate.
+-- How many nodes of an expression are left when reading has come so far. A node is met where the first token stands
+-- that shows it. An expression begins with one node more than it may have, so that none is left where it has too
+-- many. Behind a query as many have been met as its tree has: that is a law of this crate.
 use Rattle.std.specs.Prelude.{◌≡◌, ℕ, ◌+◌, ◌-◌, List, codes, Bool, true, false, ◌||◌, if◌then◌else◌, nat_le}
 use Rattle.mesh_query_tokens.specs.declared.tokens.Token.{Token}
 use Rattle.mesh_query_tokens.specs.declared.tokens.TokenKind.{TokenKind}
@@ -27,8 +27,8 @@ is_node (more_casts at v ks) kind = kind_is_a_sign kind
 is_node value kind = true
 is_node _ kind = false
 
--- the nodes that are met where one rule goes over to another: NOT, a minus sign and CASE, which have to be opened first,
--- and CAST
+-- the nodes that are met where one rule goes over to another: NOT, a minus sign and CASE, which have to be opened
+-- first, and CAST
 abbrev pub opens_node : Rule → Rule → Bool
 opens_node negation negation = true
 opens_node signed signed = true

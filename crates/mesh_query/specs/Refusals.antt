@@ -34,8 +34,8 @@ IsTooDeep s = (tree : Surface) → Spells deepest (query tree) s [] → ⊥
 abbrev pub IsTooLarge : List Token → Type 0
 IsTooLarge s = (tree : Surface) × Spells deepest (query tree) s [] × (is_within tree ≡ false)
 
--- Reading a query stops in front of the rest, and so many nodes of the expression that is read are left. No rule goes on
--- there, for that cause, or the query is over and the rest stands behind it.
+-- Reading a query stops in front of the rest, and so many nodes of the expression that is read are left. No rule goes
+-- on there, for that cause, or the query is over and the rest stands behind it.
 abbrev pub StopsAt : List Token → Cause → List Token → ℕ → Type 0
 StopsAt s cause rest left =
     GoesWrong false cause deepest the_query (plan the_query) s rest (most_nodes + 1) left
@@ -62,9 +62,9 @@ IsAmiss ts s left fault.Memory = Unit {0}
 IsAmiss ts s left (fault.Syntax q) = StopsAt s syntax (drop q ts) left × ((front : List Token) × (s ≡ front ++ drop q ts) × IsLongestBegun s front) × IsNoQuery s
 IsAmiss ts s left fault.Nesting = ((rest : List Token) × StopsAt s nesting rest left) × IsTooDeep s
 
--- The tokens behind those before are refused. They are no query, and the place is the end of the longest beginning of one,
--- behind which reading stops. Or they are no query of the depth that is allowed, and reading stops where more is opened.
--- Or an expression has too many nodes, in a query of that depth or before reading stops. Or memory is out.
+-- The tokens behind those before are refused. They are no query, and the place is the end of the longest beginning of
+-- one, behind which reading stops. Or they are no query of the depth that is allowed, and reading stops where more is
+-- opened. Or an expression has too many nodes, in a query of that depth or before reading stops. Or memory is out.
 abbrev pub IsRefusal : List Token → List Token → ReadFault → Type 0
 IsRefusal before s Memory = Unit {0}
 IsRefusal before s (Fault at Syntax) = IsNoQuery s × ((front rest : List Token) × (s ≡ front ++ rest) × IsLongestBegun s front × (at ≡ end_of (before ++ front)) × StopsFirst s syntax rest)

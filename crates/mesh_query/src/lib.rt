@@ -1,8 +1,7 @@
 //! The grammar of queries: tokens are read as a syntax tree. Its contract: `parse` gives exactly the tree that the
-//! tokens spell, from the one named to the last, with at most 64 parentheses, CASEs, NOTs and minus signs open at once
-//! and at most 4,096 nodes in an expression, or it tells the one fault that is met first: the end of the longest
-//! beginning of a query, or a limit. It stands on `mesh_list`, `mesh_base_values`, `mesh_query_tokens`, `mesh_query_grammar::surface`,
-//! `mesh_query_grammar`, `mesh_query_grammar::lookahead` and the days of `mesh_time`.
+//! tokens spell, from the one named to the last, with at most 64 parentheses, CASEs, NOTs and minus signs open at
+//! once and at most 4,096 nodes in an expression, or it tells the one fault that is met first: the end of the longest
+//! beginning of a query, or a limit.
 #![tactic(auto)]
 
 mod brackets;

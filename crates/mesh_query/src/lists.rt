@@ -1,5 +1,5 @@
-// Lists that are begun with one element, and what is made of a phrase that has been read: want of memory and the fault of
-// the phrase are one answer.
+// Lists that are begun with one element, and what is made of a phrase that has been read: want of memory and the
+// fault of the phrase are one answer.
 ghost use Rattle.std.specs.Prelude.{◌≡◌, [], ◌∷◌, ◌++◌, IfOk, MatchResult};
 ghost use Rattle.mesh_query_grammar.specs.declared.surface.expressions.AddStep.{roll-AddStep};
 ghost use Rattle.mesh_query_grammar.specs.declared.surface.expressions.MulStep.{roll-MulStep};

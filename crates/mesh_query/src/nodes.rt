@@ -6,8 +6,8 @@ ghost use Rattle.mesh_query.specs.Sizes.{most_nodes};
 /// Nodes of one expression.
 const MOST_NODES: u32 = 4_096;
 
-/// How many nodes of the expression that is read are left, of one more than it may have. Once none is left, none is left
-/// any more.
+/// How many nodes of the expression that is read are left, of one more than it may have. Once none is left, none is
+/// left any more.
 #[derive(Clone, Copy)]
 pub struct Nodes {
     left: u32,

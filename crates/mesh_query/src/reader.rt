@@ -23,9 +23,9 @@ use std::alloc::Global;
 /// Parentheses, CASEs, NOTs and minus signs that may be open round a token.
 const NESTING: u32 = 64;
 
-/// Reads one query from token `from`, counted from 0, to the end of the tokens. A fault of syntax is at the end of the
-/// last token that the beginning of a query has; where it has none, at the end of the last token before `from`, and at 0
-/// where there is none either. The two limits have place 0.
+/// Reads one query from token `from`, counted from 0, to the end of the tokens. A fault of syntax is at the end of
+/// the last token that the beginning of a query has; where it has none, at the end of the last token before `from`,
+/// and at 0 where there is none either. The two limits have place 0.
 pub fn parse(tokens: &Tokens, from: u32) -> Result<Surface, ReadFault>
     // What is read is spelled by the tokens.
     ensures found { IfOk result (λ tree. Spells deepest (a_query tree) (drop from tokens.now) []) }

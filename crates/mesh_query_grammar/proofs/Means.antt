@@ -1,4 +1,5 @@
--- What the grammar says of what a rule reads. Of what is left of a rule it says what the whole is, behind any beginning.
+-- What the grammar says of what a rule reads. Of what is left of a rule it says what the whole is, behind any
+-- beginning.
 use Rattle.std.proofs.Common.{◌≡◌, ℕ, ℤ, ◌+◌, List, ◌∷◌, codes, Bool, true, false, ◌⊎◌}
 use Rattle.mesh_query_tokens.specs.declared.tokens.Token.{Token}
 use Rattle.mesh_query_tokens.specs.declared.tokens.TokenKind.TheVariants.{Ident, Text}

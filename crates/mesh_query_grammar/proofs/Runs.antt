@@ -1,5 +1,5 @@
--- A run is the only one on what it reads and the token after it. A run that fails is begun by some phrase, and no run goes
--- on from what it read and the token at fault.
+-- A run is the only one on what it reads and the token after it. A run that fails is begun by some phrase, and no run
+-- goes on from what it read and the token at fault.
 use Rattle.std.proofs.Common.{◌≡◌, ℕ, ℤ, ◌+◌, List, [], ◌∷◌, ◌++◌, codes, Bool, true, false, ◌&&◌, Some, ◌⊎◌, inl, inr, refl, ap, sym, ◌∙◌, subst, arith}
 use Rattle.mesh_query_tokens.specs.declared.tokens.Token.{Token}
 use Rattle.mesh_query_tokens.specs.declared.tokens.TokenKind.TheVariants.{Text}

@@ -158,9 +158,9 @@ ends_items k =
     is_word (codes "from") k || is_word (codes "where") k || is_word (codes "group") k || is_word (codes "having") k || is_word (codes "union") k
     || is_sign (codes ")") k || is_sign (codes ";") k
 
--- What is done: end with a tree; give up; take the next token if it passes the test, and else go on without it; look at
--- the next token; note its place; read a phrase of another rule; read one that is one deeper; take a text that is a real
--- day; take a name, a dot and a star if these stand here.
+-- What is done: end with a tree; give up; take the next token if it passes the test, and else go on without it; look
+-- at the next token; note its place; read a phrase of another rule; read one that is one deeper; take a text that is
+-- a real day; take a name, a dot and a star if these stand here.
 pub data Plan (r : Rule) : Type 0 where
   done : Tree r → Plan r
   stuck : Plan r

@@ -1,6 +1,6 @@
 //! The grammar of queries: which tokens spell which tree, which tokens begin a query, and how both are found with one
 //! token of lookahead. Its contract is its laws: one list of tokens has one tree at most, and one place at most where
-//! it goes wrong. It stands on `mesh_base_values`, `mesh_query_tokens`, `mesh_query_grammar::surface` and `mesh_time_days`.
+//! it goes wrong.
 //! The module `surface` has the syntax tree of a query, and `lookahead` its next token and the names of types.
 #![tactic(auto)]
 

@@ -1,6 +1,6 @@
-//! The next token of a query: whether it is this word or sign, a name, a type, a function or an operator, and the place
-//! behind it. Its contract: what is taken is what the grammar names, and where nothing is taken the token at fault is
-//! told. It stands on `mesh_list`, `mesh_base_values`, `mesh_query_tokens`, `mesh_query_grammar::surface` and `mesh_query_grammar`.
+//! The next token of a query: whether it is this word or sign, a name, a type, a function or an operator, and the
+//! place behind it. Its contract: what is taken is what the grammar names, and where nothing is taken the token at
+//! fault is told.
 
 mod cursor;
 mod fault;

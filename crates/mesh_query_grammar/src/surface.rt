@@ -1,5 +1,5 @@
 //! The syntax tree of a query: one type for each rule of the grammar, with a field for each part of the rule and a
-//! variant for each of its alternatives. It stands on `mesh_list` and `mesh_base_values`.
+//! variant for each of its alternatives.
 
 mod expressions;
 mod queries;

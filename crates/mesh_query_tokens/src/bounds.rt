@@ -1,7 +1,6 @@
-//! The bounds of a MODEL statement: how far the value of a property goes and how deep it nests, which file of the project
-//! a path leads to, and how far a model may look back. Its contract: `value_len`, `file_at` and `lookback_number` give
-//! exactly what the definitions in `specs/Brackets.antt`, `Paths.antt` and `Numbers.antt` say. It stands on `mesh_list`,
-//! `mesh_base_values` and `mesh_query_tokens`.
+//! The bounds of a MODEL statement: how far the value of a property goes and how deep it nests, which file of the
+//! project a path leads to, and how far a model may look back. Its contract: `value_len`, `file_at` and
+//! `lookback_number` give exactly what the definitions in `specs/Brackets.antt`, `Paths.antt` and `Numbers.antt` say.
 
 mod brackets;
 mod faults;

@@ -1,6 +1,5 @@
 //! The tokens of model files and queries, and the faults of every text that is read. Its contract: `tokens_of` gives
-//! exactly the tokens of a text, each as long as it can be and with its place, or the text's first fault. It stands on
-//! `mesh_list` and `mesh_base_values`.
+//! exactly the tokens of a text, each as long as it can be and with its place, or the text's first fault.
 //! The module `bounds` says how far a property's value, a path and a lookback go.
 #![tactic(auto)]
 

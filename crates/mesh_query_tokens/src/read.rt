@@ -41,9 +41,9 @@ fn put(made: &mut Tokens, at: usize, length: usize, kind: Option<TokenKind>) -> 
 }
 
 /// The tokens of a model file or of a query (at most 1,048,576 bytes of UTF-8), each with its place in bytes. Blanks
-/// and comments, from `--` until the line ends or from `/*` through `*/`, stand between tokens. `Syntax` comes where no
-/// token begins, at the opening of a text or comment that isn't closed, and at the first byte that can't stand in UTF-8;
-/// `TooLarge` of a `number` or `name` at its first byte, and of the `file` at 0.
+/// and comments, from `--` until the line ends or from `/*` through `*/`, stand between tokens. `Syntax` comes where
+/// no token begins, at the opening of a text or comment that isn't closed, and at the first byte that can't stand in
+/// UTF-8; `TooLarge` of a `number` or `name` at its first byte, and of the `file` at 0.
 #[tactic(auto, unfolding(crate::specs::Text::tokens))]
 pub fn tokens_of(alloc: Global, bytes: &[u8]) -> Result<Tokens, ReadFault>
     ensures { Gives result (tokens bytes.now) }

@@ -1,4 +1,5 @@
--- The own definition of a model: what its file and its seed say, with its query resolved and the sources that this reads.
+-- The own definition of a model: what its file and its seed say, with its query resolved and the sources that this
+-- reads.
 use Rattle.std.specs.Prelude.{ℕ, Bool, true, false, ◌&&◌, not, List, [], ◌∷◌, Result, Ok, Err}
 use Rattle.std.specs.List.{list_any, filter}
 use Rattle.std.specs.Option.{is_some}

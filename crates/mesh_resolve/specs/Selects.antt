@@ -1,4 +1,5 @@
--- The walk through one SELECT: FROM, WHERE, items, keys and HAVING, then the rule on groups, then names that stand twice.
+-- The walk through one SELECT: FROM, WHERE, items, keys and HAVING, then the rule on groups, then names that stand
+-- twice.
 use Rattle.std.specs.Prelude.{Bool, List, map, Result, Ok}
 use Rattle.std.specs.Option.{option_map}
 use Rattle.std.specs.declared.option.Option.{Option}

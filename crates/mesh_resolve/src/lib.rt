@@ -1,8 +1,6 @@
-//! Queries whose names, columns and types are found, and the own definitions of models over them. Its contract: `resolve`
-//! gives exactly the query that the definitions give, or the first fault of their walk, and `own_of` the definition that
-//! a model's file, its seed and that query make, unless memory runs out. It stands on `mesh_resolve_scope` for conditions, on
-//! `mesh_resolve_selects::outputs` for items and keys, on `mesh_resolve_selects::selects` for the rules of a SELECT, and on the forms of `mesh_query_grammar::surface`,
-//! `mesh_model_statement::model` and `mesh_base`.
+//! Queries whose names, columns and types are found, and the own definitions of models over them. Its contract:
+//! `resolve` gives exactly the query that the definitions give, or the first fault of their walk, and `own_of` the
+//! definition that a model's file, its seed and that query make, unless memory runs out.
 #![tactic(auto)]
 
 mod catalog;

@@ -1,7 +1,6 @@
-//! The walk through an expression. Its contract: `typed_expression` gives exactly the expression with its columns and types,
-//! or the first fault in it, operands from left to right before their operators; one that would grow too large is never
-//! begun. `lone_name` tells an expression that is a single name. It stands on `mesh_resolve_types`, whose forms it puts together, on
-//! `mesh_resolve_scope::sight` for what may be named, and on the sizes of `mesh_query`.
+//! The walk through an expression. Its contract: `typed_expression` gives exactly the expression with its columns and
+//! types, or the first fault in it, operands from left to right before their operators; one that would grow too large
+//! is never begun. `lone_name` tells an expression that is a single name.
 //! The module `sight` has what an expression may name.
 #![tactic(auto)]
 

@@ -1,7 +1,6 @@
-//! The rule on groups, over resolved expressions: in a grouped SELECT a column stands inside an aggregate or in a part
-//! that equals a key, and aggregates stand in items and HAVING alone and not in one another. Its contract: each call
-//! tells exactly what its definition says, and of several places the one that stands first in the text. It stands on
-//! `mesh_list`, `mesh_base_values` and `mesh_base`.
+//! The rule on groups, over resolved expressions: in a grouped SELECT a column stands inside an aggregate or in a
+//! part that equals a key, and aggregates stand in items and HAVING alone and not in one another. Its contract: each
+//! call tells exactly what its definition says, and of several places the one that stands first in the text.
 
 mod barred;
 mod groups;

@@ -1,7 +1,7 @@
 //! The output columns of SELECTs: what they are called and which types they have, which of them the keys of GROUP BY
-//! mean, whether the sides of each UNION ALL have the same types, and which common table expression a name means, with
-//! its columns. Its contract: each call gives exactly what its definition says, or the first fault of that walk, unless
-//! memory runs out. It stands on `mesh_resolve_scope` for expressions, and on the forms of `mesh_query_grammar::surface` and `mesh_base`.
+//! mean, whether the sides of each UNION ALL have the same types, and which common table expression a name means,
+//! with its columns. Its contract: each call gives exactly what its definition says, or the first fault of that walk,
+//! unless memory runs out.
 
 mod commons;
 mod keys;

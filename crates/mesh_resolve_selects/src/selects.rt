@@ -1,7 +1,6 @@
-//! The parts of a SELECT, and what keeps its rules. Its contract: `stands` tells exactly what its definition says, the
-//! rule on groups first, part by part in the order of the walk, and then the first name that stands twice among the
-//! output columns and among the FROM items, unless memory runs out. It stands on `groups` for the rule on groups,
-//! and on the outputs and keys of `outputs`.
+//! The parts of a SELECT, and what keeps its rules. Its contract: `stands` tells exactly what its definition says,
+//! the rule on groups first, part by part in the order of the walk, and then the first name that stands twice among
+//! the output columns and among the FROM items, unless memory runs out.
 
 mod apart;
 mod faults;

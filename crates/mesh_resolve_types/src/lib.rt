@@ -1,6 +1,6 @@
-//! The types of expressions, and the faults of queries. Its contract: each form of an expression over finished operands
-//! gives the resolved expression with its type, or the fault of types, as the definitions in `specs/Forms.antt` say. It
-//! stands on `mesh_list`, `mesh_base_values`, `mesh_query_tokens`, `mesh_query_grammar::surface`, `mesh_resolve_types::rules`, `mesh_time_days::casts` and `mesh_base`.
+//! The types of expressions, and the faults of queries. Its contract: each form of an expression over finished
+//! operands gives the resolved expression with its type, or the fault of types, as the definitions in
+//! `specs/Forms.antt` say.
 //! The module `rules` says which types go together.
 #![tactic(auto)]
 

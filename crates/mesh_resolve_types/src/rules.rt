@@ -1,6 +1,5 @@
-//! The types of columns beside one another: which a place takes, which go together, which casts there are, and what a sum
-//! is. Its contract: each test and each answer is its definition in `specs/Kinds.antt`. It stands on `mesh_base_values` and
-//! `mesh_query_grammar::surface`.
+//! The types of columns beside one another: which a place takes, which go together, which casts there are, and what a
+//! sum is. Its contract: each test and each answer is its definition in `specs/Kinds.antt`.
 
 mod casts;
 mod kinds;

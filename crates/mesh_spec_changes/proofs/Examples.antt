@@ -80,7 +80,8 @@ started = run empty_world (applies (at 18_269) (plan prod 18_269 starter []) emp
 starter_applied : length (applies (at 18_269) (plan prod 18_269 starter []) empty_world) ≡ 30
 starter_applied = refl
 
--- each kind of change by a letter: moment, snapshot, table, view, rows, marks, range, record, pending, pointed, finalized
+-- each kind of change by a letter: moment, snapshot, table, view, rows, marks, range, record, pending, pointed,
+-- finalized
 abbrev letter : Change → ℕ
 letter (c.Moment t) = 109
 letter (c.PutSnapshot s) = 115

@@ -38,7 +38,8 @@ use Rattle.mesh_spec_changes.specs.due.Plans.{Planned, is_made}
 use Rattle.mesh_spec_changes.specs.due.Versions.{node_ref}
 use Rattle.mesh_spec_changes.specs.Environments.{prod, view_in, env_at, lifetime}
 
--- What is planned for an environment at a moment: its models by rank and name, and which parts of them are computed again.
+-- What is planned for an environment at a moment: its models by rank and name, and which parts of them are computed
+-- again.
 pub record Plan : Type 0 where
   pub env : List ℕ
   pub moment : ℤ

@@ -43,8 +43,8 @@ is_final (Some e) = not e.pending
 abbrev pub is_not_behind : ℤ → Book → Bool
 is_not_behind t b = not (lt_z t b.moment)
 
--- a world allows a command: the book is as it has to be, the moment isn't behind, the environment is known and, for a run,
--- not pending; a book is only moved from version 1 on, and no two snapshots may become one
+-- a world allows a command: the book is as it has to be, the moment isn't behind, the environment is known and, for a
+-- run, not pending; a book is only moved from version 1 on, and no two snapshots may become one
 abbrev pub allows : World → Command → Bool
 allows w (Apply plan) = is_present w.book && is_not_behind plan.moment w.book
 allows w (RunAll plan) = is_present w.book && (is_not_behind plan.moment w.book && is_final (env_at w.book plan.env))

@@ -18,8 +18,8 @@ pub fn what_changes_nothing()
     ensures { (clock : Clock) (c : Command) (w : World) → allows w c ≡ false → changes clock c w ≡ [] }
 {}
 
-/// A book whose snapshots get other fingerprints keeps the closure of each snapshot, under its new reference, and so those
-/// of every environment's list.
+/// A book whose snapshots get other fingerprints keeps the closure of each snapshot, under its new reference, and so
+/// those of every environment's list.
 pub fn migrating_keeps_closures()
     ensures snapshots { (b : Book) (renames : List Rename) → is_well_formed_book b ≡ true → has_twins (renamed_all renames b.snapshots) ≡ false → (r : Ref) (s : Snapshot) → snapshot_at b.snapshots r ≡ Some s →
         closure_at (migrate b renames).snapshots (renamed renames r) ≡ closure_at b.snapshots r }

@@ -1,6 +1,6 @@
-//! The snapshots of a book as models: the closure of each, through its parents in the book, and the project of a list of
-//! them, as an environment has one. Its definitions (`Closing`, `Listed`) are read in this order, with laws about them. It
-//! stands on `mesh_house_book`, `mesh_base::rules` and `mesh_spec_model`.
+//! The snapshots of a book as models: the closure of each, through its parents in the book, and the project of a list
+//! of them, as an environment has one. Its definitions (`Closing`, `Listed`) are read in this order, with laws about
+//! them.
 
 mod laws;
 

@@ -1,6 +1,6 @@
-//! Which tables may be used again: what a model needs of its ancestors, when a change only adds columns, and the category of
-//! a model beside the one that it is compared with. Its definitions are read in this order: `Cores`, `Compatible` and
-//! `Categories`. It stands on `mesh_law_query` and `mesh_spec_model`.
+//! Which tables may be used again: what a model needs of its ancestors, when a change only adds columns, and the
+//! category of a model beside the one that it is compared with. Its definitions are read in this order: `Cores`,
+//! `Compatible` and `Categories`.
 
 mod laws;
 

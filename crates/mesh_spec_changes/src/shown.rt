@@ -1,6 +1,5 @@
-//! What a warehouse shows: the rows behind an object, which is a table or stores a query, and behind a view. Its definitions
-//! (`Shown`) are its contract, with laws that show them at work. It stands on `mesh_house`, `mesh_base::rules` and
-//! `mesh_spec_model`.
+//! What a warehouse shows: the rows behind an object, which is a table or stores a query, and behind a view. Its
+//! definitions (`Shown`) are its contract, with laws that show them at work.
 
 mod laws;
 

@@ -1,4 +1,5 @@
--- The horizon of an incremental model is the earliest of these: its own last tick, and its incremental ancestors' horizons.
+-- The horizon of an incremental model is the earliest of these: its own last tick, and its incremental ancestors'
+-- horizons.
 use Rattle.std.proofs.Common.{◌≡◌, ℤ, pos, ◌*ℤ◌, Bool, true, false, cond, List, [], ◌∷◌, ◌++◌, map, refl, ap, sym, ◌∙◌}
 use Rattle.std.specs.List.{filter}
 use Rattle.std.proofs.lemmas.List.{map-append}

@@ -108,8 +108,8 @@ pub fn moments_have_clocks()
     ensures clocks { (t : ℤ) → IsMoment t → (clock : Clock) × Shows clock t }
 {}
 
-/// A tick is floored to the start of the unit that it lies in: that start is a multiple of the unit's size, and no other
-/// multiple begins a unit with the tick.
+/// A tick is floored to the start of the unit that it lies in: that start is a multiple of the unit's size, and no
+/// other multiple begins a unit with the tick.
 pub fn ticks_are_floored_to_their_unit()
     ensures within { (unit : TimeUnit) (t : ℤ) → IsWithin (floored unit t) (floored unit t +ℤ pos (unit_size unit)) t }
     ensures multiple { (unit : TimeUnit) (t : ℤ) → (k : ℤ) × (floored unit t ≡ k *ℤ pos (unit_size unit)) }

@@ -1,6 +1,6 @@
 //! What a model's rows are from scratch, at a moment and over the sources as they stand. Its definitions are read in
 //! this order: `Closures`, `Horizons`, `Sources` and `Scratch`. They are its contract, with laws that show them at
-//! work. It stands on `mesh_spec_query`, `mesh_time` and `mesh_time_days::seconds`.
+//! work.
 #![tactic(auto)]
 
 mod laws;

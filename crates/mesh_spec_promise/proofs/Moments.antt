@@ -1,4 +1,5 @@
--- A world stays well kept where its moment is raised or a source is loaded, but for the parts whose rows from scratch move.
+-- A world stays well kept where its moment is raised or a source is loaded, but for the parts whose rows from scratch
+-- move.
 use Rattle.std.proofs.Common.{◌≡◌, ◌++◌, IsTrue, ℕ, suc, ℤ, ◌≤ℤ◌, Bool, true, false, cond, not, ◌&&◌, ◌||◌, List, [], ◌∷◌, Some, refl, sym, ◌∙◌, ap, subst, arith}
 use Rattle.std.proofs.lemmas.Int.{ints}
 use Rattle.std.proofs.lemmas.Cmp.{tied_itself, int_cmp_total}

@@ -1,4 +1,5 @@
--- A model that is done stays so while another object's version changes, and while parts of other objects come into doubt.
+-- A model that is done stays so while another object's version changes, and while parts of other objects come into
+-- doubt.
 use Rattle.std.proofs.Common.{◌≡◌, Bool, true, false, cond, List, [], ◌∷◌, Some, refl, sym, ◌∙◌}
 use Rattle.std.specs.Cmp.{Equal-is}
 use Rattle.std.specs.List.{AllByRecursion}

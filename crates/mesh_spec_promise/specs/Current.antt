@@ -38,8 +38,8 @@ pub record IsCurrent (clock : Clock) (x : Parts) (b : Book) (s : Snapshot) : Typ
 pub data AllCurrent (clock : Clock) (x : Parts) (b : Book) : Snapshot → Type 0 where
   current : (s : Snapshot) → IsSnapshot b.snapshots s → IsCurrent clock x b s → ((r : Ref) → Contains s.parents r → (p : Snapshot) → snapshot_at b.snapshots r ≡ Some p → AllCurrent clock x b p) → AllCurrent clock x b s
 
--- The changes of these models are made: each is a snapshot of the book, under its object and with its closure, and is up
--- to date.
+-- The changes of these models are made: each is a snapshot of the book, under its object and with its closure, and is
+-- up to date.
 pub record IsDone (clock : Clock) (x : Parts) (b : Book) (p : Planned) : Type 0 where
   pub snapshot : Snapshot
   pub known : snapshot_at b.snapshots (node_ref p.node) ≡ Some snapshot

@@ -49,8 +49,8 @@ sources_after w other = w.sources
 abbrev pub met : Clock → Clock → Command → World → Parts → Parts
 met before after c w x = either x (moved w before after (sources_after w c))
 
--- the parts that a change takes out of doubt: those that it forgets or records anew, and all of a table that is made anew or
--- of which nothing is recorded any more
+-- the parts that a change takes out of doubt: those that it forgets or records anew, and all of a table that is made
+-- anew or of which nothing is recorded any more
 abbrev pub taken_by : Change → Parts
 taken_by (RecordRange object start end) q = same_part (Range object start end) q
 taken_by (RecordMarks object marks) q = same_part (Marks object) q
@@ -89,14 +89,15 @@ IsAsked clock w (RunAll plan) = IsTrue (is_moment plan.moment) × IsRunPlan cloc
 IsAsked clock w (Janitor t) = IsTrue (is_moment t)
 IsAsked clock w other = Unit {0}
 
--- a command is asked for in a world whose moment the first clock shows; the second shows the moment that it is judged at
+-- a command is asked for in a world whose moment the first clock shows; the second shows the moment that it is judged
+-- at
 pub record IsMet (before after : Clock) (w : World) (c : Command) : Type 0 where
   pub was : Shows before w.book.moment
   pub is : Shows after (judged_at w c)
   pub asked : IsAsked after w c
 
--- At every exit of a command a world stays well kept, but for the parts in doubt that are left. The changes made are any in
--- front.
+-- At every exit of a command a world stays well kept, but for the parts in doubt that are left. The changes made are
+-- any in front.
 abbrev pub StaysSound : Type 0
 StaysSound =
     (x : Parts) (w : World) (c : Command) (before after : Clock) → IsMet before after w c → Sound x w → Settles after c w (met before after c w x) →

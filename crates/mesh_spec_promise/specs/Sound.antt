@@ -88,16 +88,16 @@ AreUnits units ranges = (t : ℤ) → Has ranges t → (u : Bounds) × Contains 
 abbrev pub table_rows : World → Name → Option (List (List Cell))
 table_rows w name = rows_of (body_of (object_at w name))
 
--- An incremental table with these rows: what is recorded are units of the schedule, all rows lie in the schedule, and those
--- of a recorded unit are what they are from scratch, but perhaps for some parts.
+-- An incremental table with these rows: what is recorded are units of the schedule, all rows lie in the schedule, and
+-- those of a recorded unit are what they are from scratch, but perhaps for some parts.
 pub record IsIncrementalSound (clock : Clock) (x : Parts) (sources : List Input) (table : Option (List (List Cell))) (object : Name) (c : Closure) (own : Own) (v : Version) : Type 0 where
   pub units : AreUnits (schedule clock c) v.ranges
   pub within : v.made ≡ true → ForSome table (λ rows. All (lies_among own (schedule clock c)) rows)
   pub pieces : v.made ≡ true → (u : Bounds) → Contains (schedule clock c) u → IsTrue (is_held v.ranges u.start u.end) → x (unit_of object u) ≡ false →
       ForSome table (λ rows. IsSameBag (filter (is_of_unit own u) rows) (piece sources clock c u))
 
--- A FULL table with these rows: its marks are no later than those of its model, and where they are equal its rows are those
--- from scratch, but perhaps for some parts.
+-- A FULL table with these rows: its marks are no later than those of its model, and where they are equal its rows are
+-- those from scratch, but perhaps for some parts.
 pub record IsFullSound (clock : Clock) (x : Parts) (sources : List Input) (table : Option (List (List Cell))) (object : Name) (c : Closure) (v : Version) : Type 0 where
   pub no_later : ForSome v.marks (λ old. AllZip (λ m n. m ≤ℤ n) old (marks clock c))
   pub rows : v.marks ≡ Some (marks clock c) → x (Marks object) ≡ false → ForSome table (λ rows. IsSameBag rows (from_scratch sources clock c))

@@ -53,23 +53,23 @@ pub fn what_is_taken_leaves_doubt()
     ensures { (made : List Change) (x : Parts) (q : Forget) (c : Change) → Contains made c → taken_by c q ≡ true → left made x q ≡ false }
 {}
 
-/// In a world that is kept well, the object of a snapshot shows the snapshot's rows from scratch, where it and all that it
-/// stands on are up to date.
+/// In a world that is kept well, the object of a snapshot shows the snapshot's rows from scratch, where it and all
+/// that it stands on are up to date.
 pub fn objects_up_to_date_show_rows_from_scratch()
     ensures { (x : Parts) (w : World) (clock : Clock) → Sound x w → Shows clock w.book.moment → (s : Snapshot) → AllCurrent clock x w.book s →
         (rows : List (List Cell)) × (object_rows w s.object ≡ Some rows) × IsSameBag rows (from_scratch w.sources clock (closing w.book.snapshots s)) }
 {}
 
-/// In a world that is kept well, an environment that is finalized with the list of these models is final, where the changes
-/// of all of them are made.
+/// In a world that is kept well, an environment that is finalized with the list of these models is final, where the
+/// changes of all of them are made.
 pub fn finalized_environments_are_final()
     ensures { (x : Parts) (w : World) (clock : Clock) → Sound x w → Shows clock w.book.moment → (e : Env) → IsEnv w.book e → e.pending ≡ false →
         (models : List Planned) → e.list ≡ refs_by_name models → AreDone clock x w.book models → AllByRecursion (λ p. Contains e.list (planned_ref p)) models →
         Final w clock e.name models }
 {}
 
-/// In a world that is kept well, the rows that a model is filled with are its rows from scratch, where the changes of its
-/// parents and of all that they stand on are made: those of each unit, and all of a FULL model.
+/// In a world that is kept well, the rows that a model is filled with are its rows from scratch, where the changes of
+/// its parents and of all that they stand on are made: those of each unit, and all of a FULL model.
 pub fn models_are_filled_with_rows_from_scratch()
     ensures { (x : Parts) (w : World) (clock : Clock) → Sound x w → Shows clock w.book.moment → (models : List Planned) (p : Planned) (s : Snapshot) → IsSnapshot w.book.snapshots s →
         s.own ≡ p.node.own → s.parents ≡ map planned_ref (parents_in models p) → AllByRecursion (IsReadable clock x w.book) (parents_in models p) →

@@ -1,6 +1,6 @@
 //! The promise of a warehouse: worlds that are kept well, what moves as time goes on and sources change, when an
 //! environment is final, and what holds after any list of commands. Its definitions are read in this order: `Sound`,
-//! `Moved`, `Current`, `Final` and `Histories`. It stands on `mesh_spec_changes`.
+//! `Moved`, `Current`, `Final` and `Histories`.
 #![tactic(auto)]
 
 mod laws;

@@ -27,8 +27,8 @@ pub fn parts_equal_keys_as_expressions()
     ensures { (a b : Expr) → (same_expr a b ≡ true) ↔ (a ≡ b) }
 {}
 
-/// The value of an expression that no key equals, by its form and the values of its parts: for a row, where there are no
-/// keys, and in a group. An aggregate has a value in a group alone.
+/// The value of an expression that no key equals, by its form and the values of its parts: for a row, where there are
+/// no keys, and in a group. An aggregate has a value in a group alone.
 pub fn values_go_by_the_form()
     ensures literal { (c : Cell) (s : Scope) → ¬ Contains s.keys (expr.Literal c) → Ev (expr.Literal c) s ≡ c }
     ensures column { (item : ℕ) (name : List ℕ) (s : Scope) → ¬ Contains s.keys (expr.Col item name) → Ev (expr.Col item name) s ≡ s.column item name }

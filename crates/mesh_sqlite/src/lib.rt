@@ -1,8 +1,8 @@
-//! Records in a file of SQLite, and the warehouse over them. There is one table, `things`, with the kind, the name and the
-//! body of each record, which the `sqlite3` shell reads; each call is one transaction. Its contract: it is a keeper that
-//! tells no records, so what is proved of it is that its calls are safe and that a fault is counted wherever a call failed.
-//! That the file holds what was written rests on `sqlite`. `opened` and `close` are for a file of the host. It stands on
-//! `mesh_list`, `mesh_base_values`, `mesh_keep`, `mesh_keep_house::kept` and `sqlite`.
+//! Records in a file of SQLite, and the warehouse over them. There is one table, `things`, with the kind, the name
+//! and the body of each record, which the `sqlite3` shell reads; each call is one transaction. Its contract: it is a
+//! keeper that tells no records, so what is proved of it is that its calls are safe and that a fault is counted
+//! wherever a call failed. That the file holds what was written rests on `sqlite`. `opened` and `close` are for a
+//! file of the host.
 #![tactic(auto)]
 
 mod file;

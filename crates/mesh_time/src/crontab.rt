@@ -7,11 +7,11 @@ use crate::fields::{days_of_week, is_field, is_star, same_text, take_word, value
 use crate::ticks::{contains, count};
 use mesh_base_values::{Cron, CronFault};
 
-/// Reads the text of a cron by POSIX crontab. It is an alias (`@hourly`, `@daily`, `@midnight`, `@weekly`, `@monthly`,
-/// `@yearly` or `@annually`), or has five fields with spaces between. A field is `*`, or numbers, ranges `a-b` and steps
-/// `a-b/k` and `*/k` with commas between. Refused are, in this order, a text that hasn't five fields (field 0), the first
-/// field that can't be read (counted from 1), a cron that ticks in two minutes of an hour or more, and one whose day
-/// never comes.
+/// Reads the text of a cron by POSIX crontab. It is an alias (`@hourly`, `@daily`, `@midnight`, `@weekly`,
+/// `@monthly`, `@yearly` or `@annually`), or has five fields with spaces between. A field is `*`, or numbers, ranges
+/// `a-b` and steps `a-b/k` and `*/k` with commas between. Refused are, in this order, a text that hasn't five fields
+/// (field 0), the first field that can't be read (counted from 1), a cron that ticks in two minutes of an hour or
+/// more, and one whose day never comes.
 #[tactic(auto, unfolding(crate::specs::CronText::cron_of))]
 pub fn read_cron(text: &[u8]) -> Result<Cron, CronFault>
     ensures { result ≡ cron_of text.now }

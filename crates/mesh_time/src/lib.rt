@@ -1,7 +1,6 @@
 //! Crons, and ranges of whole seconds since 1970-01-01T00:00:00 UTC. Its contract: a text is read as a cron exactly
-//! where POSIX crontab has it; `floor` is the greatest tick of a cron that is not above a moment; `Ranges` have exactly
-//! the seconds that were added and not forgotten since, and list the units of a schedule that they lack. It stands on
-//! `mesh_list`, `mesh_base_values`, `mesh_time_days` and the calendar of `jiff`.
+//! where POSIX crontab has it; `floor` is the greatest tick of a cron that is not above a moment; `Ranges` have
+//! exactly the seconds that were added and not forgotten since, and list the units of a schedule that they lack.
 #![tactic(auto)]
 
 mod crontab;

@@ -85,8 +85,8 @@ impl Ranges {
         Ok(())
     }
 
-    /// Forgets the seconds of all these spans, which may stand in any order, in one pass over those that are recorded. A
-    /// span whose start is not below its end has none. At `Err` nothing has changed.
+    /// Forgets the seconds of all these spans, which may stand in any order, in one pass over those that are
+    /// recorded. A span whose start is not below its end has none. At `Err` nothing has changed.
     pub fn forget_each(&mut self, gone: &[Bounds]) -> Result<(), Memory>
         ensures seconds { OnOk result ((t : ℤ) → Has self.new t ↔ (Has self.old t × (Has gone.now t → ⊥))) }
         ensures spans { OnOk result (self.new ≡ spans_without_each gone.now self.old) }

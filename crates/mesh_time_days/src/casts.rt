@@ -1,5 +1,5 @@
 //! Cells as another type, and the numbers, truths and days that texts are. Its contract: each call is its definition,
-//! in `Dates` and `Casts`. It stands on `mesh_base_values`, `mesh_time_days` and `itoa`.
+//! in `Dates` and `Casts`.
 
 mod casts;
 mod days;

@@ -31,7 +31,8 @@ pub fn moment_of(text: &[u8]) -> Option<i64>
     }
 }
 
-/// A moment, in seconds since 1970-01-01T00:00:00, as `YYYY-MM-DDTHH:MM:SS`. It may lie before that, from the year 1 on.
+/// A moment, in seconds since 1970-01-01T00:00:00, as `YYYY-MM-DDTHH:MM:SS`. It may lie before that, from the year 1
+/// on.
 pub fn moment_text(t: i64) -> [u8; 19]
     requires { IsBetween (negsuc 62_135_596_799) (pos 253_402_300_799) t }
     ensures { IsSecondText t result }

@@ -1,7 +1,7 @@
-//! The second that a cell stands for, and which rows lie in a range of seconds by their time column. Its contract is its
-//! definitions, in `Times` and `Rows`, with the law that the second of a cell is its time value: `second_in`, `is_within`
-//! and `lies_in` answer just what these say, and `rewrite` leaves just those rows. So does `add`, without a look at the rows
-//! that are there, where all of them are before the range, as `are_before` tells. It stands on `mesh_time_days::casts` and `mesh_time_days`.
+//! The second that a cell stands for, and which rows lie in a range of seconds by their time column. Its contract is
+//! its definitions, in `Times` and `Rows`, with the law that the second of a cell is its time value: `second_in`,
+//! `is_within` and `lies_in` answer just what these say, and `rewrite` leaves just those rows. So does `add`, without
+//! a look at the rows that are there, where all of them are before the range, as `are_before` tells.
 
 mod laws;
 mod rows;

@@ -100,8 +100,8 @@ is_well_formed parents own =
     && (are_distinct (columns_of own)
     && (is_body_seen (read_relations own.sources parents) own.defn && are_its_parents parents own)))))
 
--- A model stands on its parents: its rank is 0 without parents, and else one more than their greatest, and its definition
--- is well formed with them.
+-- A model stands on its parents: its rank is 0 without parents, and else one more than their greatest, and its
+-- definition is well formed with them.
 abbrev pub stands_on : List Parent → ℕ → Own → Bool
 stands_on parents rank own = nat_eq rank (rank_over 0 parents) && is_well_formed parents own
 

@@ -79,8 +79,8 @@ pub fn read_own(alloc: Global, text: &[u8]) -> Result<Own, CanonFault>
     read_by(alloc, Form::Current, text)
 }
 
-/// The definition that has this text as its former one, as stored warehouses have it that were written before kinds said
-/// a lookback. A text that nests too deep is refused as `read_own` refuses it.
+/// The definition that has this text as its former one, as stored warehouses have it that were written before kinds
+/// said a lookback. A text that nests too deep is refused as `read_own` refuses it.
 pub fn read_own_old(alloc: Global, text: &[u8]) -> Result<Own, CanonFault>
     // What is read has this former text.
     ensures found { IfOk result (λ m. text.now ≡ own_text_old m) }

@@ -72,13 +72,14 @@ has_last n s = not (same_text s.fingerprint n.fingerprint) && same_name s.object
 abbrev pub taker : List Snapshot → Node → Option Snapshot
 taker all n = find (has_last n) all
 
--- a fresh name is looked for, and snapshots of other fingerprints have all four; the first that has the last is of this one
+-- a fresh name is looked for, and snapshots of other fingerprints have all four; the first that has the last is of
+-- this one
 pub record AreAllTaken (all : List Snapshot) (base : List Ref) (category : Category) (n : Node) (stored : List ℕ) : Type 0 where
   pub none : version all (compared_in all base n.own.name) category n ≡ None
   pub by_ : option_map (λ (s : Snapshot). s.fingerprint) (taker all n) ≡ Some stored
 
--- A model clashes with a stored fingerprint: with its own, which stands for something else in the book or the project, or
--- else with that of a snapshot that has a name which it needs.
+-- A model clashes with a stored fingerprint: with its own, which stands for something else in the book or the
+-- project, or else with that of a snapshot that has a name which it needs.
 abbrev pub Clashes : List Snapshot → List Node → List Ref → Category → Node → List ℕ → Type 0
 Clashes all nodes base category n stored =
     ((ClashesWithBook all nodes n ⊎ ClashesWithProject nodes n) × (stored ≡ n.fingerprint))

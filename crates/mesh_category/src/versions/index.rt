@@ -32,8 +32,8 @@ pub(crate) type Prints = BTreeMap<[u8; 32], Told>;
 /// Names, and a fingerprint for each.
 pub(crate) type Holders = BTreeMap<Name, [u8; 32]>;
 
-/// What the fingerprints of a project stand for in a book, and, where one is new, those that have an object and those of
-/// a list.
+/// What the fingerprints of a project stand for in a book, and, where one is new, those that have an object and those
+/// of a list.
 pub(crate) struct Index {
     pub told: Prints,
     pub objects: Holders,

@@ -99,9 +99,9 @@ fn all_named(
     Ok(made)
 }
 
-/// The name of the table or the stored query of each model of a project, where `c` has their categories against a list that
-/// an environment of the book may have. `c` and the list are those that the models are compared with. Each fingerprint and
-/// each name is found in steps in proportion to a logarithm.
+/// The name of the table or the stored query of each model of a project, where `c` has their categories against a
+/// list that an environment of the book may have. `c` and the list are those that the models are compared with. Each
+/// fingerprint and each name is found in steps in proportion to a logarithm.
 pub fn versions(
     alloc: Global,
     p: &Project,

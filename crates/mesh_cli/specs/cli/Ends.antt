@@ -9,9 +9,10 @@ use Rattle.mesh_house.specs.declared.world.World.{World}
 use Rattle.mesh_cli.specs.cli.Asked.{Gives, Makes, asks_clock, reads_folder, uses_house}
 use Rattle.mesh_cli.specs.cli.Sides.{Sides}
 
--- Commanded: a command was called for, for the project in a folder, and answered so. It makes changes and gives answers as it is
--- to in the world that the house tells; the outside is told to have failed only where a count of its faults rose; and what the
--- command doesn't need is as it was. One that doesn't use the warehouse gives such an answer in every world.
+-- Commanded: a command was called for, for the project in a folder, and answered so. It makes changes and gives
+-- answers as it is to in the world that the house tells; the outside is told to have failed only where a count of its
+-- faults rose; and what the command doesn't need is as it was. One that doesn't use the warehouse gives such an
+-- answer in every world.
 pub record Commanded (dir : List ℕ) (c : Command) (old new : Sides) (answer : Result (List ℕ) Refusal) : Type 0 where
   pub house : Answers (Rose old.folder.faults new.folder.faults ⊎ Rose old.clock.faults new.clock.faults) (Makes dir old c) (Gives dir old c) old.house new.house answer
   pub files : new.folder.files ≡ old.folder.files

@@ -47,8 +47,8 @@ pub record IsTextLine (text : List ℕ) (line : Line) : Type 0 where
 abbrev pub LineAnswers : List ℕ → Line → Sides → Sides → Result (List ℕ) Refusal → Type 0
 LineAnswers dir line old new answer = Commanded (place_or line.paths dir) line.command old new answer ⊎ ((new ≡ old) × (answer ≡ Err Memory))
 
--- What is answered where some words or a text ask for a line: that of a command other than a batch; or they ask for none; or
--- memory was wanting before its command.
+-- What is answered where some words or a text ask for a line: that of a command other than a batch; or they ask for
+-- none; or memory was wanting before its command.
 pub data AskedAnswers (asks : Line → Type 0) (dir : List ℕ) (old new : Sides) (answer : Result (List ℕ) Refusal) : Type 0 where
   command : (line : Line) → asks line → is_batch line.command ≡ false → Commanded (place_or line.paths dir) line.command old new answer → AskedAnswers asks dir old new answer
   usage : ((line : Line) → ¬ asks line) → new ≡ old → answer ≡ Err Usage → AskedAnswers asks dir old new answer
@@ -97,7 +97,8 @@ pub data BatchEnds (dir : List ℕ) (input left : SourceTold) (old new : Sides) 
   unread : (r : Refusal) → IsScript input left (Err r) → IsSaid r old new sinks printed s → BatchEnds dir input left old new sinks printed s
   lines_run : (script : List ℕ) → IsScript input left (Ok script) → ScriptEnds dir script old new sinks printed s → BatchEnds dir input left old new sinks printed s
 
--- How words end: they ask for a command other than a batch, or for none, and the input is as it was; or they ask for a batch.
+-- How words end: they ask for a command other than a batch, or for none, and the input is as it was; or they ask for
+-- a batch.
 pub data WordsEnd (words : List (List ℕ)) (input left : SourceTold) (old new : Sides) (sinks printed : Sinks) (s : ℕ) : Type 0 where
   asked : left ≡ input → AskedEnds (IsLine words) here old new sinks printed s → WordsEnd words input left old new sinks printed s
   batch : (line : Line) → IsLine words line → is_batch line.command ≡ true →

@@ -37,8 +37,8 @@ dev = codes "dev"
 abbrev pub here : List ℕ
 here = codes "."
 
--- What is printed of a command, which makes such changes of a world and gives such answers there, and of what goes on from the
--- world that it leaves: its line and the rest, or the line of its refusal, which ends the text.
+-- What is printed of a command, which makes such changes of a world and gives such answers there, and of what goes on
+-- from the world that it leaves: its line and the rest, or the line of its refusal, which ends the text.
 pub data Then (makes : World → List Change → Type 0) (gives : World → Result (List ℕ) Refusal → Type 0) (line : List ℕ → List ℕ) (rest : World → List ℕ → Type 0) (w : World) : List ℕ → Type 0 where
   done : (answer : List ℕ) (list : List Change) (text : List ℕ) → gives w (Ok answer) → makes w list → rest (run w list) text → Then makes gives line rest w (line answer ++ text)
   refused : (r : Refusal) → is_fault r ≡ false → gives w (Err r) → Then makes gives line rest w (refusal_line r)

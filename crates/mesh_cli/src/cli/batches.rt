@@ -158,8 +158,8 @@ fn begun(alloc: Global, script: &[u8], top: &Line) -> Result<(Str, Vec<Str>), Me
     Ok((dir, texts))
 }
 
-/// Runs the lines of a script in order, and stops at the first status that isn't 0, which it answers. A line without `--paths`
-/// takes the folder of the command that runs the script.
+/// Runs the lines of a script in order, and stops at the first status that isn't 0, which it answers. A line without
+/// `--paths` takes the folder of the command that runs the script.
 pub fn batch<R: Threads + Sync, W: Warehouse, F: Folder, C: Clock, O: Sink, E: Sink>(
     rt: &R,
     alloc: Global,

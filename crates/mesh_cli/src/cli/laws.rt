@@ -16,8 +16,8 @@ ghost use Rattle.mesh_cli.specs.cli.Ends.{Ended};
 ghost use Rattle.mesh_cli_print.specs.printed.Printing.{IsWritten, Sinks};
 ghost use Rattle.mesh_cli.specs.cli.Sides.{Sides};
 
-/// A command that ends with status 0 made exactly the changes that it has for the world that the house told, one call each, and
-/// wrote the text that it gives there; nothing was written on the other sink.
+/// A command that ends with status 0 made exactly the changes that it has for the world that the house told, one call
+/// each, and wrote the text that it gives there; nothing was written on the other sink.
 #[tactic(auto, using(crate::proofs::cli::Ending::done_made, crate::proofs::cli::Ending::done_told))]
 pub fn commands_that_are_done_made_their_changes()
     ensures made { (dir : List ℕ) (c : Asked) (old new : Sides) (sinks printed : Sinks) (w : World) → Ended dir c old new sinks printed 0 → Tells old.house w →
@@ -32,8 +32,8 @@ pub fn commands_that_are_refused_change_nothing()
     ensures { (dir : List ℕ) (c : Asked) (old new : Sides) (sinks printed : Sinks) (s : ℕ) → (ended : Ended dir c old new sinks printed s) → (r : Refusal) → ended.answer ≡ Err r → is_early r ≡ true → IsAlone old.house new.house }
 {}
 
-/// A command for which nothing stands against it in the world that the house told, and during which nothing failed, ends with
-/// status 0, or with 4 for want of memory.
+/// A command for which nothing stands against it in the world that the house told, and during which nothing failed,
+/// ends with status 0, or with 4 for want of memory.
 #[tactic(auto, using(crate::proofs::cli::Ending::nothing_against_it))]
 pub fn commands_without_a_refusal_are_done()
     ensures { (dir : List ℕ) (c : Asked) (old new : Sides) (sinks printed : Sinks) (w : World) (s : ℕ) → Ended dir c old new sinks printed s → Tells old.house w →

@@ -88,10 +88,10 @@ fn done<R: Threads + Sync, W: Warehouse, F: Folder, C: Clock, S: Source, O: Sink
     }
 }
 
-/// Runs one command line: its words are those behind the program's own name. The answer is the exit status: 0 where the command
-/// was done; 1 for a fault of the project, or of the words' own query, names and files; 2 for words that are no command line; 3
-/// where the warehouse failed, 4 for want of memory, 5 where the folder, the clock or the input failed, 6 where `out` or `err`
-/// did; and 7 for what the warehouse's state doesn't allow.
+/// Runs one command line: its words are those behind the program's own name. The answer is the exit status: 0 where
+/// the command was done; 1 for a fault of the project, or of the words' own query, names and files; 2 for words that
+/// are no command line; 3 where the warehouse failed, 4 for want of memory, 5 where the folder, the clock or the
+/// input failed, 6 where `out` or `err` did; and 7 for what the warehouse's state doesn't allow.
 pub fn mesh<R: Threads + Sync, W: Warehouse, F: Folder, C: Clock, S: Source, O: Sink, E: Sink>(
     rt: &R,
     alloc: Global,

@@ -37,8 +37,9 @@ fn played<R: Threads + Sync>(rt: &R, alloc: Global, n: u32, workers: u32) -> Res
     headed(alloc, n, rest)
 }
 
-/// Makes the shop project with so many orders in memory, applies it to production, adds a column and applies that to `dev`, runs
-/// both some days later, and tells the units of each, the number of rows of production's totals and their sum.
+/// Makes the shop project with so many orders in memory, applies it to production, adds a column and applies that to
+/// `dev`, runs both some days later, and tells the units of each, the number of rows of production's totals and their
+/// sum.
 pub fn demo<R: Threads + Sync>(
     rt: &R,
     alloc: Global,

@@ -1,5 +1,5 @@
-// The commands of a demonstration, one after another: each one's line stands in front of what comes of the next ones. A refusal
-// ends the text with its line.
+// The commands of a demonstration, one after another: each one's line stands in front of what comes of the next ones.
+// A refusal ends the text with its line.
 ghost use Rattle.std.specs.Prelude.{◌≡◌, ◌≤◌, true, false, IfOk};
 ghost use Rattle.mesh_house.specs.Memory.{memory_world};
 ghost use Rattle.mesh_house.specs.Sources.{are_plain};

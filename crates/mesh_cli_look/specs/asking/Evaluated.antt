@@ -63,8 +63,8 @@ tables_behind env s w = option_map (inputs w.sources s.own) (each_there (map (vi
 abbrev pub lost_behind : List ℕ → Snapshot → World → Option Name
 lost_behind env s w = first_of (map (lost_model env w) (parents_of s))
 
--- the rows of a model for some seconds over the tables that it reads: of an incremental one those that lie in these, in one
--- evaluation, and all of another one
+-- the rows of a model for some seconds over the tables that it reads: of an incremental one those that lie in these,
+-- in one evaluation, and all of another one
 abbrev pub rows_for : Own → Bounds → List Input → List (List Cell)
 rows_for own u tables = if is_incremental own.kind then piece_over own tables u else defn_rows own.defn tables no_bounds
 

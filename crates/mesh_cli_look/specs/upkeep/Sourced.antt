@@ -56,7 +56,7 @@ file_rows files dir file columns = file_within files dir file (codes "source") 1
 abbrev pub declared_rows : List File → List ℕ → Name → List ℕ → List Decl → Result Seed LoadFault
 declared_rows files dir name file sources = columns_named name sources >>= file_rows files dir file
 
--- the columns that the project in DIR declares for a source, and the rows that a file has for it: a source that isn't declared
--- is told before the file is read
+-- the columns that the project in DIR declares for a source, and the rows that a file has for it: a source that isn't
+-- declared is told before the file is read
 abbrev pub source_rows : List File → List ℕ → Name → List ℕ → Result Seed LoadFault
 source_rows files dir name file = sources_in files dir >>= declared_rows files dir name file

@@ -255,9 +255,9 @@ fn evaluated<W: Warehouse>(
     model_text(alloc, house, env, model, there, u)
 }
 
-/// The rows of an environment's model as they are printed: a seed's own, and else those of its query over its parents' views
-/// in the environment and its declared sources as they stand. Of an incremental model they are those of the days from `first`
-/// to `last`, both included.
+/// The rows of an environment's model as they are printed: a seed's own, and else those of its query over its
+/// parents' views in the environment and its declared sources as they stand. Of an incremental model they are those
+/// of the days from `first` to `last`, both included.
 pub fn evaluate<W: Warehouse>(
     alloc: Global,
     house: &mut W,

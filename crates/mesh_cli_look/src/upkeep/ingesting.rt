@@ -148,9 +148,9 @@ fn load<W: Warehouse>(
     }
 }
 
-/// `ingest`: a declared source gets the rows of a file of the project in `dir`, whose columns are the declared ones in any
-/// order, instead of its old rows, or behind them where `append` says so. The answer is the line that is printed when it is
-/// done.
+/// `ingest`: a declared source gets the rows of a file of the project in `dir`, whose columns are the declared ones
+/// in any order, instead of its old rows, or behind them where `append` says so. The answer is the line that is
+/// printed when it is done.
 pub fn ingest<W: Warehouse, F: Folder>(
     alloc: Global,
     folder: &mut F,

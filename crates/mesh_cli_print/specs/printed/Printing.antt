@@ -22,8 +22,8 @@ IsWritten text old new = new.written ≡ option_map (λ bytes. bytes ++ text) ol
 abbrev pub IsBegun : List ℕ → SinkTold → SinkTold → Type 0
 IsBegun text old new = (n : ℕ) × IsWritten (take n text) old new
 
--- A text was to be written with a status: it was, or with 6 the sink failed and with 4 memory was wanting, and a beginning of the
--- text was written.
+-- A text was to be written with a status: it was, or with 6 the sink failed and with 4 memory was wanting, and a
+-- beginning of the text was written.
 abbrev pub IsPut : List ℕ → ℕ → SinkTold → SinkTold → ℕ → Type 0
 IsPut text whole old new s =
     ((s ≡ whole) × IsWritten text old new) ⊎ (((s ≡ 6) × Rose old.faults new.faults × IsBegun text old new) ⊎ ((s ≡ 4) × IsBegun text old new))

@@ -20,8 +20,9 @@ fn put_line(out: &mut Vec<u8>, file: &[u8], at: u64, kind: &FaultKind) -> Result
     put(out, b"\n")
 }
 
-/// The line of a fault, with its line feed. `file` is a path within the project; for a fault that lies in no single file
-/// it is `-`, or the name of the model whose source or fingerprint is at fault. `at` counts the file's bytes from 0.
+/// The line of a fault, with its line feed. `file` is a path within the project; for a fault that lies in no single
+/// file it is `-`, or the name of the model whose source or fingerprint is at fault. `at` counts the file's bytes
+/// from 0.
 pub fn fault_line(alloc: Global, file: &[u8], at: u64, kind: &FaultKind) -> Result<Str, Memory>
     ensures { IfOk result (λ line. line ≡ fault_line file.now at kind.now) }
 {

@@ -224,7 +224,8 @@ fn put_plan(out: &mut Vec<u8>, p: &Plan) -> Result<(), Memory>
 }
 
 /// What is printed of a plan: its environment and moment; but for a run, the models that differ from those that the
-/// environment lists, by name, and those that aren't steady; what is due, in the order of the plan; and the number of that.
+/// environment lists, by name, and those that aren't steady; what is due, in the order of the plan; and the number of
+/// that.
 pub fn plan_text(p: &Plan) -> Result<Str, Memory>
     ensures { IfOk result (λ text. text ≡ plan_text p.now) }
 {

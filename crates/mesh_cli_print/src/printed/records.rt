@@ -85,8 +85,8 @@ fn put_rows<W: Write + Drop>(
     Ok(())
 }
 
-/// Rows as a CSV file (RFC 4180), with the columns' names in front and a line feed behind each record. NULL and the empty
-/// text are both an empty field.
+/// Rows as a CSV file (RFC 4180), with the columns' names in front and a line feed behind each record. NULL and the
+/// empty text are both an empty field.
 pub fn rows_text(alloc: Global, columns: &[Column], rows: &[Row]) -> Result<Str, Memory>
     ensures { IfOk result (λ text. text ≡ rows_text columns.now rows.now) }
 {

@@ -16,8 +16,8 @@ abbrev pub is_skipped : List ℕ → Bool
 is_skipped [] = true
 is_skipped (b ∷ bs) = b == 35
 
--- The words of a line stand between spaces. A word may stand in double quotes, in which no double quote stands; elsewhere
--- one can't stand.
+-- The words of a line stand between spaces. A word may stand in double quotes, in which no double quote stands;
+-- elsewhere one can't stand.
 abbrev mutual
   pub between : List ℕ → Option (List (List ℕ))
   between [] = Some []

@@ -22,7 +22,8 @@ impl Drop for BoundWhen {
     }
 }
 
-/// An expression whose columns are places, whose macros have their cells, and whose parts that equal a key are that key.
+/// An expression whose columns are places, whose macros have their cells, and whose parts that equal a key are that
+/// key.
 #[cycle(bounds)]
 pub enum Bound {
     /// A cell of the row, and NULL where it has none.

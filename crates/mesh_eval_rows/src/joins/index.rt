@@ -1,7 +1,7 @@
 //! Rows found by what they are. Its contract: an `Index` over rows tells the places of those that are equal to a row,
 //! in ascending order, and `distinct_rows` keeps one of each. Time is in proportion to the rows where their hashes
-//! spread. The rows are `Listed`: each in a list of its own, or all in the one list of `FlatRows`, where a row takes no
-//! memory of its own and is read at once. It stands on `mesh_list`, `mesh_base_values` and the definitions of `mesh_spec_query`.
+//! spread. The rows are `Listed`: each in a list of its own, or all in the one list of `FlatRows`, where a row takes
+//! no memory of its own and is read at once.
 
 mod chains;
 mod distinct;

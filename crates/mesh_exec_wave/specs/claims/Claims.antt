@@ -32,8 +32,8 @@ below h (suc k) = below h k + h (k % 2 ^ 64)
 abbrev pub IdleIsEmpty : List Claimed → Type 0
 IdleIsEmpty views = (i : ℕ) (v : Claimed) → get_elem? views i ≡ some v → v.parts ≡ 0 → v.drawn ≡ []
 
--- What was drawn is, as a bag, the numbers below some k, each modulo 2^64, and the word is k modulo 2^64. The seats have all
--- parts between them.
+-- What was drawn is, as a bag, the numbers below some k, each modulo 2^64, and the word is k modulo 2^64. The seats
+-- have all parts between them.
 abbrev pub Claims : List ℕ → List Claimed → Type 0
 Claims words views = (k : ℕ) × (words ≡ (k % 2 ^ 64) ∷ []) × ((h : ℕ → ℕ) → total h views ≡ below h k) × (parts_of views ≡ 64) × IdleIsEmpty views
 

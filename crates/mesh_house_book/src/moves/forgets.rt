@@ -29,8 +29,8 @@ impl Drop for Held {
     }
 }
 
-/// Each range of the list is taken out of its version's ranges, and the marks of each other item's version go. What names
-/// no version changes nothing.
+/// Each range of the list is taken out of its version's ranges, and the marks of each other item's version go. What
+/// names no version changes nothing.
 pub fn forget_units(book: &mut Book, list: &[Forget]) -> Result<(), Memory>
     ensures ok { OnOk result (book.new ≡ forget_units book.old list.now) }
     ensures err { OnErr result (book.new ≡ book.old) }

@@ -13,9 +13,9 @@ use crate::{BOOK_VERSION, Book};
 use mesh_base::{Rename, Snapshot};
 use mesh_list::{Memory, Register, together};
 
-/// Each snapshot that the map names by its name and fingerprint gets its new fingerprint, also in parents and in the lists
-/// of environments, and the book's version is 2 then. A map that would give two snapshots of one name one fingerprint
-/// changes nothing. Of two renames of one reference the first counts.
+/// Each snapshot that the map names by its name and fingerprint gets its new fingerprint, also in parents and in the
+/// lists of environments, and the book's version is 2 then. A map that would give two snapshots of one name one
+/// fingerprint changes nothing. Of two renames of one reference the first counts.
 pub fn migrate(book: &mut Book, renames: &[Rename]) -> Result<(), Memory>
     ensures ok { OnOk result (book.new ≡ migrate book.old renames.now) }
     ensures err { OnErr result (book.new ≡ book.old) }

@@ -21,8 +21,8 @@ fingerprint_by renames s = sha256 (node_text s.own (map (renamed renames) s.pare
 abbrev pub rename_by : List Rename → Snapshot → Rename
 rename_by renames s = record { old = snapshot_ref s; new = fingerprint_by renames s }
 
--- The map of a book: each snapshot, in the book's order, with the fingerprint of its definition over the fingerprints that
--- the same map gives its parents.
+-- The map of a book: each snapshot, in the book's order, with the fingerprint of its definition over the fingerprints
+-- that the same map gives its parents.
 abbrev pub IsMap : Book → List Rename → Type 0
 IsMap b renames = renames ≡ map (rename_by renames) b.snapshots
 

@@ -8,8 +8,8 @@ ghost use Rattle.mesh_house_book.specs.declared.book.Book.{Book};
 ghost use Rattle.mesh_house_book.specs.WellFormed.{is_well_formed_book, snapshot_at};
 ghost use Rattle.mesh_spec_changes.specs.Kept.{gone_snapshots, gone_tables, is_kept};
 
-/// In a book that breaks no rule, what a snapshot stands on stays where the snapshot does. The snapshots that go are just
-/// those that don't stay, and no table goes that one uses that stays.
+/// In a book that breaks no rule, what a snapshot stands on stays where the snapshot does. The snapshots that go are
+/// just those that don't stay, and no table goes that one uses that stays.
 pub fn what_is_used_stays()
     ensures parents { (b : Book) (t : ℤ) → is_well_formed_book b ≡ true → (s p : Snapshot) (r : Ref) → Contains b.snapshots s → is_kept b t s ≡ true →
         Contains s.parents r → snapshot_at b.snapshots r ≡ Some p → is_kept b t p ≡ true }

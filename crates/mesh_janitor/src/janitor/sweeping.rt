@@ -43,8 +43,8 @@ fn sweep_all<W: Warehouse>(alloc: Global, house: &mut W, b: &Book, t: i64) -> Re
     Ok(swept)
 }
 
-/// Takes out what is over at the moment and what nothing that stays uses, by this book, which was read before. Where the
-/// moment is before the book's, the house is left alone.
+/// Takes out what is over at the moment and what nothing that stays uses, by this book, which was read before. Where
+/// the moment is before the book's, the house is left alone.
 pub fn sweep<W: Warehouse>(
     alloc: Global,
     house: &mut W,

@@ -45,8 +45,8 @@ fn map_of(alloc: Global, b: &Book) -> Result<Renames, Memory>
     Ok(renames)
 }
 
-/// The map of a book: each snapshot's new fingerprint. `Twins` tells the first snapshot in the book's order that would get
-/// the name and fingerprint of a later one, with the first such later one.
+/// The map of a book: each snapshot's new fingerprint. `Twins` tells the first snapshot in the book's order that
+/// would get the name and fingerprint of a later one, with the first such later one.
 pub fn book_renames(alloc: Global, b: &Book) -> Result<Renames, MigrationFault>
     requires { is_well_formed_book b.now ≡ true }
     ensures map { IfOk result (λ renames. IsMap b.now renames) }

@@ -13,9 +13,9 @@ use mesh_house::{Warehouse, WhFail};
 use mesh_house_book::Book;
 use std::alloc::Global;
 
-/// Gives the environment the list, points the view of each of its models at that model's object, drops the views of the
-/// models that it had before and has no more, and finalizes it. The environment's record is that of this book, which was
-/// read before. The answer is the number of the changes, each one call.
+/// Gives the environment the list, points the view of each of its models at that model's object, drops the views of
+/// the models that it had before and has no more, and finalizes it. The environment's record is that of this book,
+/// which was read before. The answer is the number of the changes, each one call.
 pub fn promote<W: Warehouse>(
     alloc: Global,
     house: &mut W,

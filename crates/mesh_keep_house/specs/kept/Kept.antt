@@ -1,5 +1,5 @@
--- What a house over a keeper tells: the world of its keeper's records, the calls for changes, and the keeper's faults with
--- the records that weren't read.
+-- What a house over a keeper tells: the world of its keeper's records, the calls for changes, and the keeper's faults
+-- with the records that weren't read.
 use Rattle.std.specs.Prelude.{◌≡◌, ◌⊎◌, ℕ, ◌+◌, ◌-◌, ◌^◌, ◌≤◌, min, List, Some, None, Result, IsErrOf, OnOk}
 use Rattle.std.specs.Option.{option_map}
 use Rattle.std.specs.declared.option.Option.{Option}

@@ -22,8 +22,8 @@ abbrev pub Takes : {A : Type 0} → Option A → Result A LoadFail → Type 0
 Takes said (Ok x) = said ≡ Some x
 Takes said (Err fail) = Lacks said fail
 
--- records were read: the keeper failed only where its count rose, and where it tells its records, what came is what they
--- say, and a record wasn't read only where they say nothing
+-- records were read: the keeper failed only where its count rose, and where it tells its records, what came is what
+-- they say, and a record wasn't read only where they say nothing
 pub record Loads {A : Type 0} (said : List Kept → Option A) (old new : KeeperTold) (result : Result A LoadFail) : Type 0 where
   pub records : new.records ≡ old.records
   pub faults : old.faults ≤ new.faults

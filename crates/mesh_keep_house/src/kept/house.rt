@@ -85,7 +85,8 @@ impl<K: Keeper> KeptHouse<K> {
         }
     }
 
-    // Makes a change in memory, and then by one write. Where that is refused, the world is absent until it is read anew.
+    // Makes a change in memory, and then by one write. Where that is refused, the world is absent until it is read
+    // anew.
     fn make(&mut self, alloc: Global, change: &Change) -> Result<(), WhFail>
         ensures steps { Steps change.now (K.told self.old.keeper) (K.told self.new.keeper) result }
         ensures counts { (self.new.calls ≡ self.old.calls) × (self.new.unread ≡ self.old.unread) }

@@ -1,5 +1,5 @@
--- The thing that a body says: what its parts say, where a program can hold it and this is its body. What the parts say is
--- read freely, since the body is compared at the end.
+-- The thing that a body says: what its parts say, where a program can hold it and this is its body. What the parts
+-- say is read freely, since the body is compared at the end.
 use Rattle.std.specs.Prelude.{ℕ, ◌==◌, ◌&&◌, Bool, true, if◌then◌else◌, List, [], ◌∷◌, codes, Option, Some, None}
 use Rattle.mesh_base_values.specs.Kinds.{lookback_of}
 use Rattle.mesh_base_values.specs.Picked.{same_text}

@@ -28,8 +28,8 @@ pub record IsOfObject (object : Name) (before after : World) : Type 0 where
 abbrev pub making_of : Clock → Book → List Forget → List Planned → Planned → List Change
 making_of clock b forgets all p = makes (is_made (version_of b p.object)) all p p.node.own.kind (is_any (due clock b forgets p))
 
--- A model is made and filled with all that is due of it. The world stays sound along these changes, then the model is done,
--- and only its object has changed.
+-- A model is made and filled with all that is due of it. The world stays sound along these changes, then the model is
+-- done, and only its object has changed.
 pub record IsOneFilled (clock : Clock) (b : Book) (forgets : List Forget) (all : List Planned) (p : Planned) (x : Parts) (w : World) : Type 0 where
   pub filled : List Change
   pub fills_it : fills clock (run w (making_of clock b forgets all p)) all p (due clock b forgets p) ≡ Some filled

@@ -42,15 +42,15 @@ abbrev pub put_version : Option Version → Name → Version
 put_version None object = new_version object
 put_version (Some v) object = v
 
--- The models of a plan stand in the book of a world, where nothing of them is forgotten yet: versions and environments are those
--- of the book before.
+-- The models of a plan stand in the book of a world, where nothing of them is forgotten yet: versions and
+-- environments are those of the book before.
 pub record ArePut (b : Book) (all : List Planned) (w : World) : Type 0 where
   pub placed : AllByRecursion (IsPlaced all w.book.snapshots) all
   pub versions : (p : Planned) → Contains all p → version_of w.book p.object ≡ Some (put_version (version_of b p.object) p.object)
   pub environments : w.book.environments ≡ b.environments
 
--- a version holds just the units that aren't due, has a table's marks where that isn't due, and any marks of another kind
--- where that isn't due
+-- a version holds just the units that aren't due, has a table's marks where that isn't due, and any marks of another
+-- kind where that isn't due
 abbrev pub HasTheRest : Clock → Book → List Forget → Version → Planned → Kind → Type 0
 HasTheRest clock b forgets v p (Incremental time lookback) = (u : Bounds) → Contains (schedule clock p.closure) u → is_held v.ranges u.start u.end ≡ not (is_due_unit b forgets p u)
 HasTheRest clock b forgets v p Full =

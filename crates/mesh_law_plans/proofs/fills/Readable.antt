@@ -1,4 +1,5 @@
--- Models that are up to date with all that they stand on stay so where the version of a model that stands on them changes.
+-- Models that are up to date with all that they stand on stay so where the version of a model that stands on them
+-- changes.
 use Rattle.std.proofs.Common.{◌≡◌, ℕ, zero, suc, ◌+◌, ◌<◌, ◌≤◌, false, inl, inr, List, [], ◌∷◌, Some, refl, sym, ◌∙◌, ap, subst, arith}
 use Rattle.std.specs.List.{AllByRecursion, Contains}
 use Rattle.std.specs.Option.{option_map}

@@ -20,8 +20,8 @@ ghost use Rattle.mesh_spec_promise.specs.Sound.{IsBookSound, Sound};
 ghost use Rattle.mesh_law_changes.specs.along.Along.{StaysAlong};
 ghost use Rattle.mesh_law_changes.specs.along.Ready.{AreApart, AreRanked, ArePut, IsReady};
 
-/// Where the models of a plan stand in the book, and what is in doubt of them is due, a world stays sound while what is computed
-/// again is forgotten. Then the plan is ready: what isn't due of its models is recorded and not in doubt.
+/// Where the models of a plan stand in the book, and what is in doubt of them is due, a world stays sound while what
+/// is computed again is forgotten. Then the plan is ready: what isn't due of its models is recorded and not in doubt.
 pub fn opened_plans_are_ready()
     ensures { (clock : Clock) (b : Book) (forgets : List Forget) (all : List Planned) (restate : Option Restate) (y : Parts) (w : World) → IsBookSound b → Sound y w → Shows clock w.book.moment → ArePut b all w →
         forgets ≡ again clock b restate all → AreApart all → AreRanked all [] all →

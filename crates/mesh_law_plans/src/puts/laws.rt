@@ -16,8 +16,8 @@ ghost use Rattle.mesh_spec_promise.specs.Sound.{Sound};
 ghost use Rattle.mesh_law_changes.specs.along.Along.{StaysAlong};
 ghost use Rattle.mesh_law_changes.specs.along.Ready.{ArePut};
 
-/// The world stays well kept while the models of a plan are put into its book. Then each of them is a snapshot there, with its
-/// parents, its object and its closure, its object has a version, and all else is as before.
+/// The world stays well kept while the models of a plan are put into its book. Then each of them is a snapshot there,
+/// with its parents, its object and its closure, its object has a version, and all else is as before.
 pub fn plans_are_put()
     ensures { (clock : Clock) (x y : Parts) (w : World) (nodes : List Node) (restate : Option Restate) (plan : Plan) → Sound x w → is_present w.book ≡ true → is_proper nodes ≡ true →
         IsPlan clock w.book nodes restate plan → Sound y (step w (Moment plan.moment)) →

@@ -1,5 +1,5 @@
--- An apply, and a run, keep a world sound at each exit, whether they settle or not, but for what is in doubt, what moves, and all
--- parts of what they plan.
+-- An apply, and a run, keep a world sound at each exit, whether they settle or not, but for what is in doubt, what
+-- moves, and all parts of what they plan.
 use Rattle.std.proofs.Common.{◌≡◌, ◌≤◌, Bool, true, false, ◌||◌, List, [], ◌∷◌, ◌++◌, length, refl, sym, ap, ◌∙◌, subst}
 use Rattle.std.specs.Int.Signed.{lt_z}
 use Rattle.std.specs.List.{AllByRecursion}

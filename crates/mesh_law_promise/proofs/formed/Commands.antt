@@ -1,5 +1,5 @@
--- Commands keep worlds sound but for what is in doubt, what moves, and all parts of the objects that they plan, whether they settle
--- or not.
+-- Commands keep worlds sound but for what is in doubt, what moves, and all parts of the objects that they plan,
+-- whether they settle or not.
 use Rattle.std.proofs.Common.{◌≡◌, Bool, true, false, cond, List, [], ◌++◌, refl, sym, subst}
 use Rattle.mesh_list.proofs.Ascends.{and_left, and_right}
 use Rattle.mesh_spec_model.specs.Horizons.{Clock}

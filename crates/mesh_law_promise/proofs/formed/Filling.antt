@@ -40,8 +40,8 @@ use Rattle.mesh_law_plans.proofs.fills.Twins.{marks_are, twin_own}
 use Rattle.mesh_law_promise.proofs.Promoting.{IsModelMade}
 use Rattle.mesh_law_promise.proofs.formed.Formed.{FormedAlong}
 
--- A model that is made is filled by some changes: the world stays sound along them, and they change nothing but its object, which
--- stays made.
+-- A model that is made is filled by some changes: the world stays sound along them, and they change nothing but its
+-- object, which stays made.
 pub record IsFormed (p : Planned) (z : Parts) (w : World) (list : List Change) : Type 0 where
   pub along : FormedAlong z w list
   pub made : IsModelMade (run w list).book p

@@ -1,4 +1,5 @@
--- The models of a plan are made and filled one after another, whatever the rows of any are, and then some last changes come.
+-- The models of a plan are made and filled one after another, whatever the rows of any are, and then some last
+-- changes come.
 use Rattle.std.proofs.Common.{◌≡◌, true, ◌⊎◌, inl, inr, List, [], ◌∷◌, ◌++◌, Option, Some, refl, sym, ap, ◌∙◌, subst}
 use Rattle.std.specs.List.{AllByRecursion}
 use Rattle.std.proofs.lemmas.List.{append-nil, append_assoc}

@@ -1,5 +1,5 @@
--- An incremental model that is made is filled, whatever the rows of its parents are: its due units are written and recorded one
--- after another.
+-- An incremental model that is made is filled, whatever the rows of its parents are: its due units are written and
+-- recorded one after another.
 use Rattle.std.proofs.Common.{◌≡◌, inl, inr, ◌⊎◌, ℕ, suc, ℤ, ◌<ℤ◌, ◌≤ℤ◌, true, false, not, List, [], ◌∷◌, ◌++◌, map, Some, refl, sym, ◌∙◌, ap, subst, arith}
 use Rattle.std.proofs.lemmas.Int.{ints}
 use Rattle.std.specs.List.{AllPairs, Contains, flat_map}

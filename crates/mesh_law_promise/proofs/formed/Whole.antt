@@ -1,4 +1,5 @@
--- What fills a model is there, where the models that stand before it are made with all of their parents: nothing dangles.
+-- What fills a model is there, where the models that stand before it are made with all of their parents: nothing
+-- dangles.
 use Rattle.std.proofs.Common.{◌≡◌, true, List, [], ◌∷◌, map, Option, Some, refl, sym, ◌∙◌, ap, subst, inl, inr}
 use Rattle.std.specs.List.{flat_map, list_all}
 use Rattle.std.specs.Option.{option_and_then, option_map}

@@ -1,5 +1,5 @@
--- A model whose table is recorded is filled in its turn with the rows that it has, those from scratch. What of it isn't due isn't
--- filled, and keeps its rows whatever they are.
+-- A model whose table is recorded is filled in its turn with the rows that it has, those from scratch. What of it
+-- isn't due isn't filled, and keeps its rows whatever they are.
 use Rattle.std.proofs.Common.{◌≡◌, ℕ, ℤ, Bool, true, false, cond, not, ◌&&◌, ◌||◌, List, [], ◌∷◌, ◌++◌, map, None, Some, refl, sym, ◌∙◌, ap, subst, IsSome}
 use Rattle.std.specs.List.{AllByRecursion, Contains, filter, flat_map}
 use Rattle.std.specs.Option.{is_some, option_map}

@@ -1,5 +1,5 @@
--- What holds of a table at each exit of an apply and of a run, where it holds whenever a model of the table is filled again: in the
--- sound worlds of one that settles, or in any.
+-- What holds of a table at each exit of an apply and of a run, where it holds whenever a model of the table is filled
+-- again: in the sound worlds of one that settles, or in any.
 use Rattle.std.proofs.Common.{◌≡◌, true, List, [], ◌∷◌, map, None, refl, sym, ◌∙◌, ap, subst}
 use Rattle.std.specs.List.{AllByRecursion}
 use Rattle.std.specs.declared.option.Option.{Option}
@@ -97,7 +97,8 @@ module _ (x : Parts) (w : World) (sound : Sound x w) (before after : Clock) (s :
         let opened : HoldsAlong K w (run_opens plan) = along w (run_opens plan) (tt, forgetting_elsewhere s.object plan.forgets) k in
         holds_append K w (run_opens plan) (Executed (run w (run_opens plan)) []) opened (more (holds_end K w (run_opens plan) opened))
 
-    -- A model of the table is filled again in any world in which it holds: whatever is in doubt, and whether the command settles or not.
+    -- A model of the table is filled again in any world in which it holds: whatever is in doubt, and whether the
+    -- command settles or not.
     module _ (refilled : (p : Planned) → p.object ≡ s.object → IsTwin (closing w.book.snapshots s) p.closure → p.node.own ≡ s.own
         → (u : World) → K u → FillsAgain after w.book plan.forgets plan.models K p u) where
       placed_hold : HasTwins → (u : World) → ArePut w.book plan.models u → (last : List Change) → Each (IsElsewhere s.object) last → (v : World) → K v → HoldsAlong K v (Executed v last)

@@ -1,4 +1,5 @@
--- A table that keeps the rows of a part of it, each as often, under changes of other objects and under writes that give them again.
+-- A table that keeps the rows of a part of it, each as often, under changes of other objects and under writes that
+-- give them again.
 use Rattle.std.proofs.Common.{◌≡◌, ℕ, ℤ, Bool, true, false, cond, List, Some, None, refl, sym, ◌∙◌, ap}
 use Rattle.std.specs.Ordering.{is_eq}
 use Rattle.std.specs.declared.option.Option.{Option}

@@ -1,4 +1,5 @@
--- What is recorded of a table and isn't computed again keeps its rows at each exit of a command, whether that settles or not.
+-- What is recorded of a table and isn't computed again keeps its rows at each exit of a command, whether that settles
+-- or not.
 use Rattle.std.proofs.Common.{◌≡◌, true, List, ◌++◌, Some, refl}
 use Rattle.std.specs.List.{filter}
 use Rattle.mesh_list.proofs.Ascends.{and_left, and_right}
@@ -34,7 +35,8 @@ use Rattle.mesh_law_promise.proofs.isolation.Turns.{FillsAgain}
 
 module _ (x : Parts) (w : World) (sound : Sound x w) (before after : Clock) (s : Snapshot) (known : IsSnapshot w.book.snapshots s) (v : Version) (at : version_of w.book s.object ≡ Some v)
     (plan : Plan) where
-  -- what of a table holds along the changes of the plan's command, where it holds whenever a model of the table is filled again
+  -- what of a table holds along the changes of the plan's command, where it holds whenever a model of the table is
+  -- filled again
   abbrev Refills : (World → Type 0) → Type 0
   Refills K = (p : Planned) → p.object ≡ s.object → IsTwin (closing w.book.snapshots s) p.closure → p.node.own ≡ s.own → (u : World) → K u → FillsAgain after w.book plan.forgets plan.models K p u
 

@@ -1,5 +1,5 @@
--- An incremental table keeps the rows of a unit while units of its schedule are written and recorded: others, and this one too,
--- where it gets these rows again.
+-- An incremental table keeps the rows of a unit while units of its schedule are written and recorded: others, and
+-- this one too, where it gets these rows again.
 use Rattle.std.proofs.Common.{◌≡◌, ℕ, ℤ, Bool, true, false, cond, not, List, [], ◌∷◌, ◌++◌, Some, inl, inr, refl, sym, ◌∙◌, ap, subst, arith}
 use Rattle.std.proofs.lemmas.Cmp.{tied_itself, int_cmp_total}
 use Rattle.std.proofs.lemmas.Int.{ints}

@@ -1,4 +1,5 @@
--- What no change of a sweep touches: the sources, the objects of the snapshots that stay, and a view of an environment that stays.
+-- What no change of a sweep touches: the sources, the objects of the snapshots that stay, and a view of an
+-- environment that stays.
 use Rattle.std.proofs.Common.{◌≡◌, ℤ, Bool, true, false, cond, ◌⊎◌, inl, inr, List, [], ◌∷◌, ◌++◌, map, Some, None, refl, sym, ◌∙◌, ap, subst}
 use Rattle.std.specs.Cmp.{Equal-is}
 use Rattle.std.specs.List.{flat_map}

@@ -34,7 +34,8 @@ use Rattle.mesh_law_upkeep.proofs.sweep.Kept.{entry_kept, kept_object, there}
 use Rattle.mesh_law_promise.proofs.shown.Leaving.{IsSpared, entry_among, entry_plain, exit_spared}
 use Rattle.mesh_law_promise.proofs.shown.Targets.{body_reads}
 
--- Where the sources and the objects that stay are as they were, the objects of snapshots that stay show the rows that they showed.
+-- Where the sources and the objects that stay are as they were, the objects of snapshots that stay show the rows that
+-- they showed.
 module _ (x : Parts) (w : World) (sound : Sound x w) (t : ℤ) (v : World) (sources : v.sources ≡ w.sources)
     (object_is : (n : Name) → (Has n (gone_tables w.book t) → ⊥) → object_at v n ≡ object_at w n) where
   abbrev all : List Snapshot

@@ -21,8 +21,8 @@ use Rattle.mesh_spec_changes.specs.due.Parts.{Parts, is_among, unit_of}
 use Rattle.mesh_spec_changes.specs.Commands.{Command, Apply, RunAll, Janitor, Ingest, Invalidate, MigrateAll, Nothing}
 use Rattle.mesh_spec_promise.specs.Sound.{table_rows}
 
--- A command doesn't switch the environment of this name: an apply switches its own, and a run none. The janitor may delete any,
--- and a migration renames the entries of all.
+-- A command doesn't switch the environment of this name: an apply switches its own, and a run none. The janitor may
+-- delete any, and a migration renames the entries of all.
 abbrev pub LeavesOut : Command → List ℕ → Type 0
 LeavesOut (Apply plan) name = ¬ (name ≡ plan.env)
 LeavesOut (RunAll plan) name = Unit {0}
@@ -47,9 +47,10 @@ again_in (Apply plan) q = is_among plan.forgets q
 again_in (RunAll plan) q = is_among plan.forgets q
 again_in other q = false
 
--- What is recorded of a snapshot's table, and isn't left out, has in a later world the rows that it has in this one: a recorded
--- unit of an incremental table, a FULL table whose marks are those of its model, and a seed's. The table stands, as what is recorded
--- does in a sound world. Some parts are left out: those in doubt in one law, those that are computed again in the other.
+-- What is recorded of a snapshot's table, and isn't left out, has in a later world the rows that it has in this one:
+-- a recorded unit of an incremental table, a FULL table whose marks are those of its model, and a seed's. The table
+-- stands, as what is recorded does in a sound world. Some parts are left out: those in doubt in one law, those that
+-- are computed again in the other.
 abbrev pub KeepsRows : Clock → Clock → Parts → World → World → Snapshot → Version → Kind → Type 0
 KeepsRows before after out w later s v (Incremental time lookback) =
     (u : Bounds) → Contains (schedule before (closing w.book.snapshots s)) u → is_held v.ranges u.start u.end ≡ true → out (unit_of s.object u) ≡ false →

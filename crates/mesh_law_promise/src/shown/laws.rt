@@ -26,16 +26,16 @@ pub fn every_view_shows_rows()
     ensures { (x : Parts) (w : World) → Sound x w → (name target : Name) → view w name ≡ Some target → IsSome (view_rows w name) }
 {}
 
-/// The models of each plan that an apply or a run has in a world that is kept well have objects of their own, and for the rows of
-/// one of them nothing is looked at but its object and those of models before it.
+/// The models of each plan that an apply or a run has in a world that is kept well have objects of their own, and for
+/// the rows of one of them nothing is looked at but its object and those of models before it.
 pub fn plans_are_apart()
     ensures { (clock : Clock) (x : Parts) (w : World) → Sound x w →
         ((nodes : List Node) (restate : Option Restate) (plan : Plan) → is_proper nodes ≡ true → IsPlan clock w.book nodes restate plan → IsApart w plan.models)
         × ((plan : Plan) → IsRunPlan clock w.book plan → IsApart w plan.models) }
 {}
 
-/// Wherever the janitor stops, at any moment, each view of an environment that isn't over then points where it pointed, and shows
-/// the rows that it showed; one that didn't stand doesn't stand.
+/// Wherever the janitor stops, at any moment, each view of an environment that isn't over then points where it
+/// pointed, and shows the rows that it showed; one that didn't stand doesn't stand.
 pub fn sweeps_leave_other_views()
     ensures { (x : Parts) (w : World) (t : ℤ) → Sound x w → (made rest : List Change) → sweeps w.book t ≡ made ++ rest →
         (e : Env) → IsEnv w.book e → is_over t e.expires ≡ false → (r : Ref) → IsEntry e r →

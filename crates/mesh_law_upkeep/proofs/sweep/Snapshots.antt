@@ -89,8 +89,8 @@ module _ (b : Book) (well : is_well_formed_book b ≡ true) (t : ℤ) where
   abbrev all : List Snapshot
   all = b.snapshots
 
-  -- What is left while these snapshots are still to go: they and those that stay, the environments that stay, and nothing of
-  -- a table that goes.
+  -- What is left while these snapshots are still to go: they and those that stay, the environments that stay, and
+  -- nothing of a table that goes.
   pub record IsLeft (ss : List Snapshot) (w : World) : Type 0 where
     pub known : (s : Snapshot) → IsSnapshot w.book.snapshots s → IsSnapshot all s × ((is_kept b t s ≡ true) ⊎ Has s ss)
     pub kept : (s : Snapshot) → IsSnapshot all s → is_kept b t s ≡ true → IsSnapshot w.book.snapshots s

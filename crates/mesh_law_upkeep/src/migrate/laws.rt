@@ -19,7 +19,8 @@ pub fn migrating_leaves_the_rows_of_views()
     ensures { (clock : Clock) (w : World) (renames : List Rename) (made rest : List Change) → changes clock (MigrateAll renames) w ≡ made ++ rest → (name : Name) → view_rows (run w made) name ≡ view_rows w name }
 {}
 
-/// So has each environment, whichever parts are in doubt, one list of dues by a run before the command and at every exit of it.
+/// So has each environment, whichever parts are in doubt, one list of dues by a run before the command and at every
+/// exit of it.
 pub fn migrating_leaves_what_is_due()
     ensures { (x : Parts) (w : World) → Sound x w → (clock : Clock) (renames : List Rename) (made rest : List Change) → changes clock (MigrateAll renames) w ≡ made ++ rest →
         (plan later : Plan) → IsRunPlan clock w.book plan → IsRunPlan clock (run w made).book later → later.env ≡ plan.env →

@@ -1,5 +1,5 @@
--- What the file that declares the sources says: the sources, ascending by name, or its first fault. Records and fields are
--- counted from 1; the header is record 1.
+-- What the file that declares the sources says: the sources, ascending by name, or its first fault. Records and
+-- fields are counted from 1; the header is record 1.
 use Rattle.std.specs.Prelude.{ℕ, suc, ◌+◌, Bool, false, ◌&&◌, not, nat_le, nat_lt, ◌==◌, List, [], ◌∷◌, ◌++◌, codes, length, take, drop, Result, Ok, Err, if◌then◌else◌}
 use Rattle.std.specs.List.{list_any}
 use Rattle.std.specs.Option.{is_some, unwrap_or}

@@ -13,8 +13,8 @@ pub fn rows_fit_columns()
     ensures { (declared : List Column) (bytes : List ℕ) (seed : Seeds) → seed_text declared bytes ≡ Ok seed → list_all (fits seed.columns) seed.rows ≡ true }
 {}
 
-/// Where a file is read without declared columns, each column of INT has a row with a number in its place, and all its other
-/// rows have a number or NULL there.
+/// Where a file is read without declared columns, each column of INT has a row with a number in its place, and all
+/// its other rows have a number or NULL there.
 #[tactic(auto, using(crate::proofs::seeds::Numbers::numbers_found))]
 pub fn numbers_are_found()
     ensures { (bytes : List ℕ) (seed : Seeds) (c : ℕ) → seed_text [] bytes ≡ Ok seed → kind_at c seed.columns ≡ Some Int → are_numbers c seed.rows ≡ true }

@@ -67,8 +67,8 @@ impl Record {
 
 pub type Records = Seq<Record>;
 
-// Puts a record that was read behind those before it. A slice gives no error of input, though no clause says so, and records
-// of any length are read.
+// Puts a record that was read behind those before it. A slice gives no error of input, though no clause says so, and
+// records of any length are read.
 fn put(list: &mut Vec<Record>, found: csv::Result<ByteRecord>) -> Result<(), Memory>
     ensures { OnOk result ((fields : Fields) × (found ≡ Ok fields) × (list.new.items ≡ list.old.items ++ fields_of fields ∷ [])) }
 {

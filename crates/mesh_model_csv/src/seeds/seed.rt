@@ -186,8 +186,8 @@ fn seed_of(alloc: Global, columns: &[Column], records: &[Record]) -> Result<Seed
 }
 
 /// The columns and rows of a seed's file beside its declared columns, of which there are none where it declares none.
-/// Refused is a file that isn't so shaped (`BadRow`: records and fields count from 1, and field 0 is the record's shape),
-/// an identifier of more than 128 bytes, or more than 1,024 columns.
+/// Refused is a file that isn't so shaped (`BadRow`: records and fields count from 1, and field 0 is the record's
+/// shape), an identifier of more than 128 bytes, or more than 1,024 columns.
 pub fn read_seed(bytes: &Str, columns: &Columns) -> Result<Seed, ReadFault>
     ensures { Gives result (seed_text columns.now bytes.now) }
 {

@@ -4,8 +4,9 @@ use mesh_query_grammar::surface::Surface;
 use mesh_query_tokens::Tokens;
 
 /// A model as it is written. `start` is a day counted from 1970-01-01. Without the property, `columns` is empty.
-/// `path` is that of a SEED's file in the project, and `path_at` the byte at which its text begins, 0 where there is none.
-/// `audits` are the tokens of that property's value as they stand in the file, none without it. A SEED has no query.
+/// `path` is that of a SEED's file in the project, and `path_at` the byte at which its text begins, 0 where there is
+/// none. `audits` are the tokens of that property's value as they stand in the file, none without it. A SEED has no
+/// query.
 pub struct ModelText {
     pub file: Str,
     pub name: Name,

@@ -38,7 +38,8 @@ input_at (Some n) = input_of n ∷ []
 abbrev pub inputs_at : List Node → List Place → List Input
 inputs_at nodes places = flat_map (λ (p : Place). input_at (slice_get nodes p.at)) places
 
--- what the query of a model may read: the models before it and the declared sources, with macros for an incremental model
+-- what the query of a model may read: the models before it and the declared sources, with macros for an incremental
+-- model
 abbrev pub known_before : List Decl → List Node → Kind → Known
 known_before sources nodes kind = record {
   models = map input_of nodes;

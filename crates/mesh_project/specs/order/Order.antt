@@ -42,7 +42,8 @@ abbrev pub above : List ℕ → ℕ
 above [] = 0
 above (n ∷ ns) = max (n + 1) (above ns)
 
--- these are the ranks of the models: each is 0 where a model reads none, and else one more than the greatest of those that it reads
+-- these are the ranks of the models: each is 0 where a model reads none, and else one more than the greatest of those
+-- that it reads
 abbrev pub AreRanks : List Reader → (ℕ → ℕ) → Type 0
 AreRanks models ranks = (at : ℕ) → at < length models → ranks at ≡ above (map ranks (parents models at))
 

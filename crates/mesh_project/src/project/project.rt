@@ -49,9 +49,9 @@ pub fn project_of(alloc: Global, files: &ProjectFiles) -> Result<Project, LoadFa
     })
 }
 
-/// The project in `dir`. Its first fault is that of reading its files; behind that, the second model of one name, or one
-/// that has a source's; then models that reach themselves, all of them told; and then what resolving says of the models by
-/// rank and name. Each fingerprint is the SHA-256 of a model's definition and its parents' fingerprints.
+/// The project in `dir`. Its first fault is that of reading its files; behind that, the second model of one name, or
+/// one that has a source's; then models that reach themselves, all of them told; and then what resolving says of the
+/// models by rank and name. Each fingerprint is the SHA-256 of a model's definition and its parents' fingerprints.
 pub fn load<F: Folder>(alloc: Global, folder: &mut F, dir: &Str) -> Result<Project, LoadFault>
     ensures { AsksAs (λ fs. IsLoaded fs dir.now) (F.told folder.old) (F.told folder.new) result }
 {

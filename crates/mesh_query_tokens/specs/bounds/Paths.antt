@@ -50,7 +50,7 @@ unfoldable pub file_from : List ℕ → List ℕ → List ℕ → Option (List �
 file_from folder part [] = file_in folder part
 file_from folder part (b ∷ bs) = behind_byte folder part b >>= λ s. file_from s.0 s.1 bs
 
--- The file of the project that a path in a model's file leads to. There is none where the path begins with a slash, leaves
--- the project on its way, or doesn't end in a name.
+-- The file of the project that a path in a model's file leads to. There is none where the path begins with a slash,
+-- leaves the project on its way, or doesn't end in a name.
 abbrev pub file_at : List ℕ → List ℕ → Option (List ℕ)
 file_at file path = if begins_with 47 path then None else file_from (folder_of file) [] path

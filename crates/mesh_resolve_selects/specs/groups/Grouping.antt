@@ -68,8 +68,8 @@ barred = fold-Expr Breaches Breaches barred_here when_barred
 abbrev pub barred_when : When → Breaches
 barred_when = fold-When Breaches Breaches barred_here when_barred
 
--- In an item and in HAVING. Where columns are free they may stand by themselves: in a SELECT that isn't grouped, and in a
--- part that equals a key.
+-- In an item and in HAVING. Where columns are free they may stand by themselves: in a SELECT that isn't grouped, and
+-- in a part that equals a key.
 abbrev pub Placed : Type 0
 Placed = Bool → Breaches
 

@@ -1,5 +1,5 @@
--- How many nodes an expression has, where an aggregate counts as one. A part is smaller than what it stands in, so parts
--- of one size are apart from one another.
+-- How many nodes an expression has, where an aggregate counts as one. A part is smaller than what it stands in, so
+-- parts of one size are apart from one another.
 use Rattle.std.specs.Prelude.{ℕ, ◌+◌, ◌-◌, ◌^◌, List, map, min}
 use Rattle.std.specs.List.{sum}
 use Rattle.mesh_base.specs.declared.expressions.Expr.{Expr, fold-Expr}

@@ -6,8 +6,9 @@ ghost use Rattle.mesh_resolve_selects.specs.groups.Sizes.{counted, size, sizes_o
 
 use mesh_base::Expr;
 
-/// Whether an expression equals a key. `before` nodes were walked before it, and `after` when it had been walked. Only keys
-/// of its size are compared with it: parts of one size are apart, so a key is compared with each node of an item at most once.
+/// Whether an expression equals a key. `before` nodes were walked before it, and `after` when it had been walked.
+/// Only keys of its size are compared with it: parts of one size are apart, so a key is compared with each node of an
+/// item at most once.
 pub(crate) fn is_key(e: &Expr, keys: &[Expr], sizes: &[u64], before: u64, after: u64) -> bool
     requires sizes { sizes.now ≡ sizes_of keys.now }
     requires after { after ≡ counted before (size e.now) }

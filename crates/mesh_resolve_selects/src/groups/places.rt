@@ -55,8 +55,9 @@ fn cut(breaches: &mut Seq<bool>, length: usize)
     *breaches = Seq::from_vec(items);
 }
 
-/// `before` nodes were walked before it, and the answer is how many were when it had been. Its parts are walked first, since
-/// they tell how many nodes it has; those of a key are walked again, as often as there are keys that they stand in.
+/// `before` nodes were walked before it, and the answer is how many were when it had been. Its parts are walked
+/// first, since they tell how many nodes it has; those of a key are walked again, as often as there are keys that
+/// they stand in.
 #[tactic(auto, using(crate::proofs::groups::Placed::placed_out))]
 #[cycle(places)]
 fn place_part(

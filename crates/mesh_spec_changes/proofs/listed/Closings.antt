@@ -1,5 +1,5 @@
--- A snapshot's closure stays where other snapshots join the book, and where snapshots are put again with their definitions
--- and parents.
+-- A snapshot's closure stays where other snapshots join the book, and where snapshots are put again with their
+-- definitions and parents.
 use Rattle.std.proofs.Common.{◌≡◌, ℕ, zero, suc, true, inl, inr, List, [], ◌∷◌, Some, refl, sym, ◌∙◌, ap}
 use Rattle.std.specs.Option.{option_map}
 use Rattle.std.specs.declared.option.Option.{Option}

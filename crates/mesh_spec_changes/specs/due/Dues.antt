@@ -77,8 +77,8 @@ is_due_unit b forgets p u = not (holds b p.object u) || is_among forgets (unit_o
 abbrev pub due_units : Clock → Book → List Forget → Planned → List Bounds
 due_units clock b forgets p = filter (is_due_unit b forgets p) (schedule clock p.closure)
 
--- the due parts of a model, by its kind: such units, a table that was computed up to other marks or is computed again, a
--- seed or a view without marks
+-- the due parts of a model, by its kind: such units, a table that was computed up to other marks or is computed
+-- again, a seed or a view without marks
 abbrev pub due_of : Clock → Book → List Forget → Planned → Kind → List Forget
 due_of clock b forgets p (Incremental time lookback) = map (unit_of p.object) (due_units clock b forgets p)
 due_of clock b forgets p Full = if are_marks (marks_of (version_of b p.object)) (marks clock p.closure) && not (is_among forgets (Marks p.object)) then [] else Marks p.object ∷ []

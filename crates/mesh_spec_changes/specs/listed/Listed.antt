@@ -12,8 +12,8 @@ use Rattle.mesh_base.specs.declared.snapshots.Ref.{Ref}
 use Rattle.mesh_base.specs.declared.snapshots.Snapshot.{Snapshot}
 use Rattle.mesh_house_book.specs.WellFormed.{are_kept, have_parents, snapshot_at}
 
--- A list that an environment may have: its entries are snapshots of the book, at most 4,096, their names ascend, so that a
--- model has one, and with an entry it has its parents.
+-- A list that an environment may have: its entries are snapshots of the book, at most 4,096, their names ascend, so
+-- that a model has one, and with an entry it has its parents.
 abbrev pub is_list_fit : List Snapshot → List Ref → Bool
 is_list_fit all list =
     are_kept all list

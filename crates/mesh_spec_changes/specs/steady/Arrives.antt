@@ -31,8 +31,8 @@ StaysStatic before after d = d.time ≡ None → source_named before d ≡ sourc
 abbrev pub KeepsUnits : List Input → List Input → List Bounds → Decl → Type 0
 KeepsUnits before after units d = (time : List ℕ) → d.time ≡ Some time → (u : Bounds) → Contains units u → HasSameRows before after d time u
 
--- Static sources stay, and each timed source that an incremental snapshot names keeps the rows of the units of its schedule
--- at the book's moment.
+-- Static sources stay, and each timed source that an incremental snapshot names keeps the rows of the units of its
+-- schedule at the book's moment.
 pub record Arrives (w : World) (after : List Input) : Type 0 where
   pub static : (s : Snapshot) → IsSnapshot w.book.snapshots s → All (StaysStatic w.sources after) s.own.sources
   pub timed : (clock : Clock) → Shows clock w.book.moment → (s : Snapshot) → IsSnapshot w.book.snapshots s → is_incremental s.own.kind ≡ true →

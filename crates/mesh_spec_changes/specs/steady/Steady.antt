@@ -1,5 +1,6 @@
--- Models whose computed rows don't change as time goes on, whatever arrives in timed sources later: each timed relation that
--- an incremental model reads is bound to the unit, and a FULL model reads timed sources through incremental models alone.
+-- Models whose computed rows don't change as time goes on, whatever arrives in timed sources later: each timed
+-- relation that an incremental model reads is bound to the unit, and a FULL model reads timed sources through
+-- incremental models alone.
 use Rattle.std.specs.Prelude.{ℕ, suc, Bool, true, false, not, ◌&&◌, ◌||◌, nat_eq, List, [], ◌∷◌}
 use Rattle.std.specs.List.{find, list_all, list_any}
 use Rattle.std.specs.Option.{is_some}
@@ -78,8 +79,8 @@ abbrev pub bounds_in : ℕ → List ℕ → Option Expr → Bool
 bounds_in item time None = false
 bounds_in item time (Some e) = bounds item time e
 
--- Where that conjunct may stand: in WHERE; for the right side of an inner join in ON instead; for the right side of a LEFT
--- JOIN in ON alone.
+-- Where that conjunct may stand: in WHERE; for the right side of an inner join in ON instead; for the right side of a
+-- LEFT JOIN in ON alone.
 abbrev pub bounds_by : Join → ℕ → List ℕ → Option Expr → Option Expr → Bool
 bounds_by First item time on filter = bounds_in item time filter
 bounds_by Cross item time on filter = bounds_in item time filter

@@ -12,7 +12,8 @@ ghost use Rattle.mesh_spec_changes.specs.due.Marks.{marks};
 ghost use Rattle.mesh_spec_changes.specs.due.Parts.{unit_of};
 ghost use Rattle.mesh_spec_changes.specs.due.Plans.{Planned};
 
-/// A schedule and the marks of a model only grow with the moment, so marks that were once others are never the same again.
+/// A schedule and the marks of a model only grow with the moment, so marks that were once others are never the same
+/// again.
 pub fn schedules_and_marks_grow()
     ensures schedules { (t u : ℤ) (clock later : Clock) → t ≤ℤ u → Shows clock t → Shows later u → (c : Closure) → HasCrons c →
         (v : Bounds) → Contains (schedule clock c) v → Contains (schedule later c) v }
@@ -21,8 +22,8 @@ pub fn schedules_and_marks_grow()
         ¬ (marks first c ≡ marks second c) → ¬ (marks first c ≡ marks third c) }
 {}
 
-/// What is due of an incremental model are the units of its schedule that aren't recorded or are computed again, each once
-/// and in order.
+/// What is due of an incremental model are the units of its schedule that aren't recorded or are computed again, each
+/// once and in order.
 pub fn due_units_are_in_order()
     ensures units { (clock : Clock) (b : Book) (forgets : List Forget) (p : Planned) (time : List ℕ) (lookback : ℕ) → p.node.own.kind ≡ kind.Incremental time lookback →
         due clock b forgets p ≡ map (unit_of p.object) (due_units clock b forgets p) }

@@ -21,8 +21,8 @@ pub fn snapshots_stand_on_their_parents_closures()
         (parents : Closures) × (closure_at b.snapshots r ≡ Some (Model s.own parents)) × (map Some (each_of parents) ≡ map (closure_at b.snapshots) s.parents) }
 {}
 
-/// A snapshot has one closure in two lists of snapshots where each of the first is in the second, with its definition, its
-/// parents and its rank. So a closure stays where others are put.
+/// A snapshot has one closure in two lists of snapshots where each of the first is in the second, with its
+/// definition, its parents and its rank. So a closure stays where others are put.
 pub fn closures_stay_where_snapshots_are_put()
     ensures { (b : Book) → is_well_formed_book b ≡ true → (all : List Snapshot) → ((r : Ref) (p : Snapshot) → snapshot_at b.snapshots r ≡ Some p → IsAlike all r p) →
         (p q : Snapshot) → IsSnapshot b.snapshots p → q.own ≡ p.own → q.parents ≡ p.parents → q.rank ≡ p.rank → closing all q ≡ closing b.snapshots p }

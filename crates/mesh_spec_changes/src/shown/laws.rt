@@ -24,8 +24,9 @@ pub fn views_show_their_targets()
     ensures none { (w : World) (name : Name) → view w name ≡ None → view_rows w name ≡ None }
 {}
 
-/// A table shows its rows. An object that stores a query shows the query's rows over what its targets show and the sources
-/// that it declares, where all that it names is there and each target shows rows; one that stores no query shows nothing.
+/// A table shows its rows. An object that stores a query shows the query's rows over what its targets show and the
+/// sources that it declares, where all that it names is there and each target shows rows; one that stores no query
+/// shows nothing.
 pub fn tables_and_stored_queries_show_their_rows()
     ensures table { (w : World) (name : Name) (rows : List (List Cell)) → body_of (object_at w name) ≡ Some (body.Rows rows) → object_rows w name ≡ Some rows }
     ensures stored { (depth : ℕ) (w : World) (name : Name) (own : Own) (targets : List Pair) (q : Query) → body_of (object_at w name) ≡ Some (body.Stored own targets) → own.defn ≡ defn.Sql q →
@@ -33,7 +34,8 @@ pub fn tables_and_stored_queries_show_their_rows()
         then option_map (λ (ts : List Input). Sel q (inputs w.sources own ts) no_bounds) (each_there (map (target_table (rows_through depth w) w) targets)) else None) }
 {}
 
-/// A name in whose schema no two underscores adjoin is no object's, so nothing is shown there, whatever the sources are.
+/// A name in whose schema no two underscores adjoin is no object's, so nothing is shown there, whatever the sources
+/// are.
 pub fn objects_alone_are_shown()
     ensures object { (w : World) (name : Name) → is_physical name ≡ false → object_rows w name ≡ None }
     ensures view { (w : World) (name target : Name) → view w name ≡ Some target → is_physical target ≡ false → view_rows w name ≡ None }
