@@ -15,6 +15,11 @@ mod queries;
 pub mod rules;
 mod snapshots;
 
+pub use mesh_base_values::{
+    Bounds, Cell, ColType, Column, Columns, Cron, CronFault, Kind, Name, Names, Numbers, Pair,
+    Pairs, Row, Rows, RowsList, Schedule, Seed, Spans, Str, Strs, Unit, cell_cmp, row_cmp,
+    sort_rows,
+};
 pub use definitions::{Decl, Defn, Externals, Own, Reading, Reads, Sources};
 pub use expressions::{AggKind, Expr, Exprs, Func, Op, Var, When, Whens};
 pub use forgets::{Forget, Forgets, Rename, Renames, Restate};

@@ -26,6 +26,7 @@ pub use house::{Warehouse, WhFail};
 pub use laws::calls_go_on_from_one_another;
 pub use making::{make, make_all};
 pub use memory::MemHouse;
+pub use mesh_house_book::{Book, BookFault, Version, Versions, book_fault};
 pub use objects::{Body, Object, Objects};
 pub use sources::SourceTables;
 pub use world::{Change, Changes, ViewOf, World};

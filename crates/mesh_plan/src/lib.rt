@@ -11,6 +11,7 @@ mod gone;
 mod planning;
 mod running;
 
-pub use mesh_category::versions::PlanFault;
+pub use mesh_category::versions::{PlanFault, project_of, versions};
+pub use mesh_cli_print::plans::plan_text;
 pub use planning::plan;
 pub use running::plan_run;

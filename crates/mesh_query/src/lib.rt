@@ -16,4 +16,5 @@ mod relations;
 
 pub use laws::{one_refusal, what_is_counted_is_in_the_tree};
 pub use mesh_query_tokens::tokens_of as tokens;
+pub use mesh_query_tokens::{FaultKind, ReadFault, Token, TokenKind, Tokens};
 pub use reader::parse;

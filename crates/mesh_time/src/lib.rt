@@ -11,6 +11,7 @@ mod ranges;
 mod ticks;
 
 pub use crontab::read_cron;
+pub use mesh_time_days::{day_of, day_text, moment_of, moment_text, time_value};
 pub use laws::{
     adding_is_exact, forgetting_each_is_exact, forgetting_is_exact, held_is_every_second,
     same_seconds_same_ranges, units_end_by_the_end, units_follow_one_another,
