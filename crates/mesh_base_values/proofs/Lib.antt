@@ -1,2 +1,4 @@
+pub mod Equals
+pub mod Tests
 pub mod Total
 pub mod Unique

@@ -9,14 +9,10 @@ use Rattle.mesh_base_values.specs.declared.values.Cell.{Cell}
 use Rattle.mesh_base_values.specs.Order.{row_order}
 use Rattle.mesh_base_values.specs.Bag.{times, IsSameBag, IsAscending}
 use Rattle.mesh_base_values.proofs.Total.{row_total, row_exact}
+use Rattle.mesh_base_values.proofs.Equals.{equal_of}
 
 abbrev Row : Type 0
 Row = List Cell
-
-equal_of : (o : Ordering) → is_eq o ≡ true → o ≡ Equal
-equal_of Less e = cc
-equal_of Equal e = refl
-equal_of Greater e = cc
 
 tie : (o r : Ordering) → o ≡ ordering_reverse r → is_lt o ≡ false → is_lt r ≡ false → o ≡ Equal
 tie o Less e f g = cc

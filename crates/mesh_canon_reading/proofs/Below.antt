@@ -1,6 +1,6 @@
 -- What passes a test below a number, one number on.
 use Rattle.std.proofs.Common.{◌≡◌, ℕ, zero, suc, ◌+◌, ◌<◌, Bool, true, false, cond, ◌||◌, refl, ap, subst, arith, add-one, inl, inr}
-use Rattle.std.proofs.lemmas.Bool.{cases_eq}
+use Rattle.std.proofs.lemmas.Bool.{cases_eq, or_right}
 use Rattle.mesh_base_values.specs.Crons.{count_below, some_below}
 
 pub some_more : (p : ℕ → Bool) (n : ℕ) → some_below p n ≡ false → p n ≡ false → some_below p (n + 1) ≡ false
@@ -10,10 +10,6 @@ some_more p n none here = rw (add-one, here, none) refl
 pub some_none : (p : ℕ → Bool) → some_below p 0 ≡ false
 unfolding some_below
 some_none p = refl
-
-or_right : (a b : Bool) → b ≡ true → (a || b) ≡ true
-or_right true b h = refl
-or_right false b h = h
 
 pub some_from : (p : ℕ → Bool) (n k : ℕ) → k < n → p k ≡ true → some_below p n ≡ true
 unfolding some_below

@@ -4,10 +4,9 @@ use Rattle.std.specs.Borrow.{Bor}
 use Rattle.std.specs.BTreeSet.{BTreeSet, IsFromIterResult, btree_set_len}
 use Rattle.std.specs.Cmp.{IsTotalOrder}
 use Rattle.std.specs.List.{IsDistinct, fold, list_any}
-use Rattle.std.specs.Ordering.{eq_by_cmp, is_eq, ordering_reverse}
+use Rattle.std.specs.Ordering.{eq_by_cmp, is_eq}
 use Rattle.std.specs.Set.{distinct_count, is_member, unique_keys}
 use Rattle.std.specs.declared.cmp.Ordering.{Ordering}
-use Rattle.std.specs.declared.cmp.Ordering.TheVariants.{Less, Equal, Greater}
 use Rattle.std.proofs.lemmas.Cmp.{eq_by_cmp_equiv, on_total}
 use Rattle.std.proofs.lemmas.List.{length-map}
 use Rattle.std.proofs.lemmas.Map.Keys.{IsDistinct-push}
@@ -17,26 +16,17 @@ use Rattle.mesh_base_values.specs.declared.values.Cell.{Cell}
 use Rattle.mesh_base_values.specs.Order.{cell_order}
 use Rattle.mesh_base_values.specs.contracts.values.CellOrd.TheImpl.{cmp-value}
 use Rattle.mesh_base_values.proofs.Total.{cell_exact, cell_is, cell_total}
+use Rattle.mesh_base_values.proofs.Equals.{eq_turned as turned, equal_of as equal_is}
 use Rattle.mesh_spec_query.specs.Aggregates.{distinct, same_cell}
 
 abbrev Same : Cell → Cell → Bool
 Same = eq_by_cmp cell_order
-
-turned : (o : Ordering) → is_eq (ordering_reverse o) ≡ is_eq o
-turned Less = refl
-turned Equal = refl
-turned Greater = refl
 
 flip : (x y : Cell) → same_cell x y ≡ Same x y
 flip x y = ap is_eq (cell_total.antisymm y x) ∙ turned (cell_order x y)
 
 among : (x : Cell) (seen : List Cell) → list_any (same_cell x) seen ≡ is_member Same seen x
 among x seen = ap (λ (f : Cell → Bool). list_any f seen) (λ i y. flip x y i)
-
-equal_is : (o : Ordering) → is_eq o ≡ true → o ≡ Equal
-equal_is Less h = cc
-equal_is Equal h = refl
-equal_is Greater h = cc
 
 abbrev step : List Cell → Cell → List Cell
 step seen x = cond (list_any (same_cell x) seen) seen (seen ++ x ∷ [])

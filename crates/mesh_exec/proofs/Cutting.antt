@@ -10,6 +10,7 @@ use Rattle.mesh_base_values.specs.declared.kinds.Kind.{Kind}
 use Rattle.mesh_base_values.specs.declared.kinds.Kind.TheVariants.{Full, View, Seed as SeedKind, Incremental}
 use Rattle.mesh_base_values.specs.declared.times.Bounds.{Bounds}
 use Rattle.mesh_base_values.specs.declared.values.Cell.{Cell}
+use Rattle.mesh_base_values.proofs.Tests.{lt_says as below, le_says as upto, both_parts as is_both}
 use Rattle.mesh_base.specs.Outputs.{columns_of}
 use Rattle.mesh_base.specs.declared.definitions.Own.{Own}
 use Rattle.mesh_base.specs.declared.jobs.Input.{Input}
@@ -31,7 +32,6 @@ use Rattle.mesh_exec_works.specs.Written.{written}
 use Rattle.mesh_exec_works.specs.Plain.{model_of}
 use Rattle.mesh_exec.specs.Fills.{fillings, span_rows}
 use Rattle.mesh_exec.specs.Runs.{begins_at, end_of, goes_all_on, goes_on, is_run, last_end}
-use Rattle.mesh_exec.proofs.Running.{is_both}
 
 abbrev Rows : Type 0
 Rows = List (List Cell)
@@ -61,12 +61,6 @@ picked_twice p (row ∷ rows) = go (p row) refl (picked_twice p rows)
 
 same_end : (a b : ℤ) → int_eq a b ≡ true → a ≡ b
 same_end a b h = search rules
-
-below : (a b : ℤ) → lt_z a b ≡ true → a <ℤ b
-below a b h = omega (arith, signed_arith, h)
-
-upto : (a b : ℤ) → le_z a b ≡ true → a ≤ℤ b
-upto a b h = omega (arith, signed_arith, h)
 
 in_days : (t : ℤ) → is_in_days t ≡ true → IsInDays t
 in_days t h = let b = is_both (le_z (negsuc 62_135_596_799) t) (le_z t (pos 253_402_300_799)) h in (upto (negsuc 62_135_596_799) t b.0, upto t (pos 253_402_300_799) b.1)

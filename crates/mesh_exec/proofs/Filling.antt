@@ -14,6 +14,7 @@ use Rattle.mesh_base_values.specs.declared.kinds.Kind.TheVariants.{Full, View, S
 use Rattle.mesh_base_values.specs.declared.times.Bounds.{Bounds}
 use Rattle.mesh_base_values.specs.declared.values.Cell.{Cell}
 use Rattle.mesh_base_values.specs.declared.values.Column.{Column}
+use Rattle.mesh_base_values.proofs.Tests.{both_parts as is_both}
 use Rattle.mesh_base.specs.Outputs.{defn_columns, select_columns}
 use Rattle.mesh_base.specs.declared.definitions.Defn.{Defn}
 use Rattle.mesh_base.specs.declared.definitions.Defn.TheVariants.{Seed, Sql}
@@ -43,7 +44,6 @@ use Rattle.mesh_exec.specs.Jobs.{due_job, jobs_of, span_job}
 use Rattle.mesh_exec.specs.Runs.{AreRunsOf, are_fit_runs, dues_in, is_fit_run, is_run, spanned}
 use Rattle.mesh_exec.specs.declared.runs.Run.{Run}
 use Rattle.mesh_exec.proofs.Cutting.{cut_run}
-use Rattle.mesh_exec.proofs.Running.{is_both}
 
 at_most : (o : Option Job) → length (option_to_list o) ≤ 1
 at_most None = omega arith

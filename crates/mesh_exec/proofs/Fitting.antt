@@ -2,9 +2,10 @@
 use Rattle.std.proofs.Common.{◌≡◌, ℕ, suc, ◌+◌, Bool, true, false, cond, nat_eq, List, [], ◌∷◌, length, Some, IsTrue, refl, sym, ap, ◌∙◌, arith}
 use Rattle.std.specs.Prelude.{◌&&◌, nat_le}
 use Rattle.std.specs.List.{list_all, slice_get}
-use Rattle.std.proofs.lemmas.Bool.{eqb-true}
+use Rattle.std.proofs.lemmas.Bool.{eqb-true, and_from as both_are}
 use Rattle.std.specs.declared.option.Option.{Option}
 use Rattle.mesh_list.specs.Keyed.{ascends}
+use Rattle.mesh_base_values.proofs.Tests.{both_parts as is_both}
 use Rattle.mesh_base.specs.declared.plans.Due.{Due}
 use Rattle.mesh_base.specs.declared.plans.Entry.{Entry}
 use Rattle.mesh_base.specs.declared.snapshots.Node.{Node}
@@ -12,7 +13,6 @@ use Rattle.mesh_base.specs.rules.Proper.{is_body_of, is_fit as is_node_fit, have
 use Rattle.mesh_exec_works.specs.Dues.{behind, leading}
 use Rattle.mesh_exec_works.specs.Executable.{is_due_in, is_due_of, place_of}
 use Rattle.mesh_exec_works.specs.Works.{are_fit, is_fit, parts_from}
-use Rattle.mesh_exec.proofs.Running.{both_are, is_both}
 
 same_place : (a b : ℕ) → nat_eq a b ≡ true → a ≡ b
 same_place a b h = eqb-true a b h

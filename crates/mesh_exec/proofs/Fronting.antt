@@ -6,6 +6,7 @@ use Rattle.std.proofs.lemmas.Bool.{ltb-true}
 use Rattle.std.proofs.lemmas.List.{length-map, map-append}
 use Rattle.std.proofs.lemmas.List.Elements.{All-append, All-nil}
 use Rattle.mesh_base_values.specs.declared.values.Cell.{Cell}
+use Rattle.mesh_base_values.proofs.Tests.{both_parts as is_both}
 use Rattle.mesh_base.specs.declared.jobs.Input.{Input}
 use Rattle.mesh_base.specs.declared.jobs.Job.{Job}
 use Rattle.mesh_house.specs.declared.world.Change.{Change}
@@ -27,7 +28,7 @@ use Rattle.mesh_exec.specs.Runs.{AreRunsOf, are_fit_runs}
 use Rattle.mesh_exec.specs.declared.ready.Cut.{Cut}
 use Rattle.mesh_exec.specs.declared.runs.Run.{Run}
 use Rattle.mesh_exec.proofs.Filling.{all_there, few_jobs, jobs_rows, runs_fill, zip_fills}
-use Rattle.mesh_exec.proofs.Running.{drop_at, is_both, runs_fit, take_at}
+use Rattle.mesh_exec.proofs.Running.{drop_at, runs_fit, take_at}
 
 module _ (c : Cut) (cut : IsCut c) where
   pub runs_are : is_computed c.work.node.now.own.kind ≡ true → AreRunsOf (is_joinable c.work.node.now.own) c.work.dues.now c.runs

@@ -7,6 +7,7 @@ use Rattle.std.specs.declared.option.Option.{Option}
 use Rattle.std.proofs.lemmas.List.{append-nil, drop_all, take_all}
 use Rattle.mesh_list.specs.Counts.{risen}
 use Rattle.mesh_base_values.specs.declared.values.Name.{Name}
+use Rattle.mesh_base_values.proofs.Tests.{both_parts as is_both}
 use Rattle.mesh_query_tokens.specs.declared.faults.FaultKind.{FaultKind}
 use Rattle.mesh_base.specs.declared.jobs.Input.{Input}
 use Rattle.mesh_base.specs.declared.plans.Due.{Due}
@@ -37,7 +38,6 @@ use Rattle.mesh_exec.specs.Answers.{of_house, of_show}
 use Rattle.mesh_exec.specs.Executed.{executes, fills, filled, part_fills, part_filling, part_outline, parts_outline}
 use Rattle.mesh_exec.specs.Fills.{fillings}
 use Rattle.mesh_exec.specs.Steps.{IsPartMade, MakesPart, MakesParts, Reached, Tries, or_nothing}
-use Rattle.mesh_exec.proofs.Running.{is_both}
 use Rattle.mesh_exec.proofs.Stepping.{each_many, each_sources, making_sources, none_made, prefix_more, prefix_then, run_then, whole_prefix, written_many, written_sources}
 
 -- the tables that a part finds are those that its fills are over

@@ -8,13 +8,13 @@ use Rattle.std.proofs.lemmas.Bool.{ltb-true, ltb-false}
 use Rattle.std.proofs.lemmas.List.Elements.{Contains-append_cases}
 use Rattle.mesh_list.specs.Keyed.{ascends, below_first}
 use Rattle.mesh_base_values.specs.Names.{name_cmp}
+use Rattle.mesh_base_values.proofs.Tests.{both_parts as is_both}
 use Rattle.mesh_base.specs.declared.plans.Due.{Due}
 use Rattle.mesh_base.specs.declared.plans.Entry.{Entry}
 use Rattle.mesh_base.specs.declared.snapshots.Node.{Node}
 use Rattle.mesh_base.specs.rules.Proper.{are_fit as nodes_fit, have_distinct_names, is_proper, node_cmp, node_itself}
 use Rattle.mesh_exec_works.specs.Dues.{behind}
 use Rattle.mesh_exec_works.specs.Works.{Part, parts_from}
-use Rattle.mesh_exec.proofs.Running.{is_both}
 
 abbrev Rising : List Node → Type 0
 Rising ns = ascends node_cmp node_itself ns ≡ true

@@ -1,10 +1,12 @@
 -- The due parts of a model stand in runs.
-use Rattle.std.proofs.Common.{◌≡◌, ◌≤◌, ◌<◌, ◌+◌, ◌-◌, ℕ, zero, suc, ℤ, Bool, true, false, cond, ◌&&◌, List, [], ◌∷◌, ◌++◌, length, take, drop, get_or, Some, refl, sym, ap, ◌∙◌, subst, arith, append_assoc, add-one}
+use Rattle.std.proofs.Common.{◌≡◌, ◌≤◌, ◌<◌, ◌+◌, ◌-◌, ℕ, zero, suc, ℤ, Bool, true, false, cond, List, [], ◌∷◌, ◌++◌, length, take, drop, get_or, Some, refl, sym, ap, ◌∙◌, subst, arith, append_assoc, add-one}
 use Rattle.std.specs.List.{flat_map, list_all}
 use Rattle.std.specs.declared.option.Option.{Option}
 use Rattle.std.proofs.lemmas.List.{append-nil, drop_all}
 use Rattle.std.proofs.lemmas.List.Folds.{list_all-append}
 use Rattle.std.proofs.lemmas.Grind.{flat_map-append}
+use Rattle.std.proofs.lemmas.Bool.{and_from as both_are}
+use Rattle.mesh_base_values.proofs.Tests.{both_parts as is_both}
 use Rattle.mesh_base.specs.declared.plans.Due.{Due}
 use Rattle.mesh_base.specs.declared.snapshots.Node.{Node}
 use Rattle.mesh_lineage.specs.Joinable.{is_joinable}
@@ -13,14 +15,6 @@ use Rattle.mesh_exec_works.specs.Executable.{is_due_of}
 use Rattle.mesh_exec_works.specs.Works.{is_fit}
 use Rattle.mesh_exec.specs.declared.runs.Run.{Run}
 use Rattle.mesh_exec.specs.Runs.{AreRunsOf, are_fit_runs, dues_in, end_of, goes_all_on, goes_on, is_fit_run, is_run, onward, run_ahead}
-
-pub is_both : (a b : Bool) → (a && b) ≡ true → (a ≡ true) × (b ≡ true)
-is_both true true h = (refl, refl)
-is_both true false h = cc
-is_both false b h = cc
-
-pub both_are : (a b : Bool) → a ≡ true → b ≡ true → (a && b) ≡ true
-both_are a b h k = rw h k
 
 module _ {X : Type 0} where
   pub drop_at : (xs : List X) (i : ℕ) (x : X) → i < length xs → x ≡ get_or xs i x → drop i xs ≡ x ∷ drop (suc i) xs

@@ -18,7 +18,7 @@ mod sources;
 
 pub use executing::execute;
 pub use faults::ExecFault;
+pub use laws::a_plan_of_a_book_makes_what_is_asked;
 pub use mesh_exec_wave::claims::{ClaimSeat, ClaimTable, draw};
 pub use mesh_exec_wave::wave::{Gate, OpenGate, wave};
-pub use laws::a_plan_of_a_book_makes_what_is_asked;
 pub use sources::{Breach, kind_of, model_breach};

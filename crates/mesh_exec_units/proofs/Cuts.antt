@@ -3,7 +3,7 @@ use Rattle.std.proofs.Common.{◌≡◌, ℕ, Bool, true, false, not, ◌&&◌, 
 use Rattle.std.specs.Int.Signed.{le_z, lt_z}
 use Rattle.std.specs.List.{All, filter, flat_map, fold, list_any}
 use Rattle.std.specs.declared.option.Option.{Option}
-use Rattle.std.proofs.lemmas.Bool.{and_parts}
+use Rattle.std.proofs.lemmas.Bool.{and_parts, not-true as not_true, or_parts as neither}
 use Rattle.std.proofs.lemmas.List.{append-nil}
 use Rattle.std.proofs.lemmas.List.Elements.{All-cons}
 use Rattle.std.proofs.lemmas.Int.{ints}
@@ -15,6 +15,7 @@ use Rattle.mesh_base_values.specs.declared.kinds.Kind.TheVariants.{Full, View, S
 use Rattle.mesh_base_values.specs.declared.times.Bounds.{Bounds}
 use Rattle.mesh_base_values.specs.declared.values.Cell.{Cell}
 use Rattle.mesh_base_values.specs.declared.values.Column.{Column}
+use Rattle.mesh_base_values.proofs.Tests.{le_true as le_told, lt_true as lt_told}
 use Rattle.mesh_base.specs.Outputs.{defn_columns, item_columns, select_columns}
 use Rattle.mesh_base.specs.declared.definitions.Defn.{Defn}
 use Rattle.mesh_base.specs.declared.definitions.Defn.TheVariants.{Seed, Sql}
@@ -37,12 +38,8 @@ use Rattle.mesh_spec_changes.specs.Changes.{ascending}
 use Rattle.mesh_exec_wave.proofs.wave.Ascending.{cut_ascending}
 use Rattle.mesh_lineage.specs.Joinable.{binds, binds_in, has_macro, has_macro_in, has_macro_elsewhere, is_bound_here, is_item_bound, is_joinable, is_joinable_as, is_joinable_query, is_joinable_select, item_named}
 use Rattle.mesh_exec_units.specs.Units.{Adjoin, AreUnits, IsInDays, IsPartOf, IsUnit, end_of, run_of}
-use Rattle.mesh_exec_units.proofs.Free.{free, neither}
+use Rattle.mesh_exec_units.proofs.Free.{free}
 use Rattle.mesh_exec_units.proofs.Bound.{at_node, bound_alike, lies}
-
-not_true : (b : Bool) → not b ≡ true → b ≡ false
-not_true true h = absurd (cc)
-not_true false h = refl
 
 -- What has no macro is the same for two intervals.
 module _ (u w : Bounds) where
@@ -148,12 +145,6 @@ timed u (Some t) h =
     let low = p.0 in
     let high = p.1 in
     record { t = t; is = refl; low = omega (arith, signed_arith, low); high = omega (arith, signed_arith, high) }
-
-le_told : (a b : ℤ) → a ≤ℤ b → le_z a b ≡ true
-le_told a b le = grind (arith, ints)
-
-lt_told : (a b : ℤ) → a <ℤ b → lt_z a b ≡ true
-lt_told a b lt = grind (arith, ints)
 
 module _ (u w : Bounds) (unit : IsUnit u) (whole : IsUnit w) (part : IsPartOf u w) where
   wider : (t : ℤ) → u.start ≤ℤ t → t <ℤ u.end → (w.start ≤ℤ t) × (t <ℤ w.end)

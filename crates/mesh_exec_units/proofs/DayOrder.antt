@@ -11,16 +11,12 @@ use Rattle.std.specs.Prelude.{nat_lt}
 use Rattle.jiff_core.specs.Calendar.{days_in_month}
 use Rattle.jiff_core.proofs.SignedLemmas.{signed_arith, unsigned_abs-parts, one_part}
 use Rattle.mesh_base_values.specs.NameOrder.{texts_total}
+use Rattle.mesh_base_values.proofs.Tests.{by_lt}
 use Rattle.mesh_time_days.specs.Moments.{IsDayNumber, two_digits}
 use Rattle.mesh_time_days.specs.casts.Dates.{Civil, civil_text, day_after, day_form, day_text, is_day_number, next_day}
 
 abbrev text_order : List ℕ → List ℕ → Ordering
 text_order = slice_cmp nat_cmp
-
-by_lt : {A : Type 0} (i k : ℕ) → (i < k → A) → (k ≤ i → A) → A
-by_lt i zero down up = up (omega arith)
-by_lt zero (suc k) down up = down (omega arith)
-by_lt (suc i) (suc k) down up = by_lt i k (λ h. down (omega arith)) (λ h. up (omega arith))
 
 less : (m n : ℕ) → m < n → nat_cmp m n ≡ Less
 less m n lt = sym (nat_cmp_is m n Less lt)

@@ -1,8 +1,9 @@
 -- What has no macro has one value, whatever the interval is.
-use Rattle.std.proofs.Common.{◌≡◌, Bool, true, false, ◌||◌, List, [], ◌∷◌, map, refl, ap, sym, ◌∙◌, subst}
+use Rattle.std.proofs.Common.{◌≡◌, Bool, false, ◌||◌, List, [], ◌∷◌, map, refl, ap, sym, ◌∙◌, subst}
 use Rattle.std.specs.List.{list_any}
 use Rattle.std.specs.declared.option.Option.{Option}
 use Rattle.std.specs.declared.option.Option.TheVariants.{None, Some}
+use Rattle.std.proofs.lemmas.Bool.{or_parts as neither}
 use Rattle.mesh_base_values.specs.declared.times.Bounds.{Bounds}
 use Rattle.mesh_base_values.specs.declared.values.Cell.{Cell}
 use Rattle.mesh_base_values.specs.declared.values.Cell.TheVariants as cell
@@ -16,10 +17,6 @@ use Rattle.mesh_spec_query.specs.Cells.{op_value, negative, opposite, is_null, b
 use Rattle.mesh_spec_query.specs.Ev.{Scope, Value, Seen, Ev, Ev_when, ev_here, when_value, valued, key_of, key_or, node_value, over_group, at_row}
 use Rattle.mesh_spec_query.proofs.Nodes.{Ev_out}
 use Rattle.mesh_lineage.specs.Joinable.{has_macro, macro_here, macro_when, when_macro}
-
-pub neither : (a b : Bool) → (a || b) ≡ false → (a ≡ false) × (b ≡ false)
-neither true b h = absurd (cc)
-neither false b h = (refl, h)
 
 -- the same but for the interval
 abbrev pub during : Bounds → Scope → Scope

@@ -1,9 +1,10 @@
 -- The tables that were found before some models were made are those that are found afterwards.
-use Rattle.std.proofs.Common.{◌≡◌, Bool, true, false, cond, List, [], ◌∷◌, ◌++◌, map, Some, None, refl, sym, ap, ◌∙◌}
-use Rattle.std.specs.Prelude.{◌&&◌, ◌||◌}
+use Rattle.std.proofs.Common.{◌≡◌, Bool, true, false, cond, List, [], ◌∷◌, ◌++◌, map, Some, None, refl, ap, ◌∙◌}
+use Rattle.std.specs.Prelude.{◌&&◌}
 use Rattle.std.specs.Option.{option_and_then, option_map}
 use Rattle.std.specs.Ordering.{is_eq}
 use Rattle.std.specs.declared.option.Option.{Option}
+use Rattle.std.proofs.lemmas.Bool.{or_parts as neither, or_from as none_of}
 use Rattle.mesh_base_values.specs.Names.{name_cmp}
 use Rattle.mesh_base_values.specs.declared.kinds.Kind.{Kind}
 use Rattle.mesh_base_values.specs.declared.kinds.Kind.TheVariants.{Full, View, Seed, Incremental}
@@ -30,13 +31,6 @@ use Rattle.mesh_exec_works.specs.Works.{Part}
 pub record Spares (parts : List Part) (w v : World) : Type 0 where
   pub sources : v.sources ≡ w.sources
   pub objects : (n : Name) → has_object parts n ≡ false → object_at v n ≡ object_at w n
-
-pub neither : (a b : Bool) → (a || b) ≡ false → (a ≡ false) × (b ≡ false)
-neither true b h = absurd (let no : true ≡ false = h in cc)
-neither false b h = (refl, h)
-
-none_of : (a b : Bool) → a ≡ false → b ≡ false → (a || b) ≡ false
-none_of a b h k = rw h k
 
 -- an object is that of none of some parts and of one more
 has_more : (parts : List Part) (p : Part) (n : Name) → has_object (parts ++ p ∷ []) n ≡ false → (has_object parts n ≡ false) × (is_eq (name_cmp p.entry.object n) ≡ false)

@@ -7,11 +7,13 @@ use Rattle.std.specs.declared.cmp.Ordering.TheVariants.{Less, Equal, Greater}
 use Rattle.std.specs.Ordering.{is_lt, is_eq, is_gt, ordering_reverse}
 use Rattle.std.specs.Cmp.{IsTotalOrder, Equal-is}
 use Rattle.std.proofs.lemmas.Map.Lookups.{CmpEqualImpliesEq}
+use Rattle.std.proofs.lemmas.Bool.{and_from as and_both}
 use Rattle.mesh_list.specs.Keyed.{found, placed, without, below_first, ascends, place_of}
-use Rattle.mesh_list.proofs.Ascends.{and_left, and_right, and_both}
+use Rattle.mesh_list.proofs.Ascends.{and_left, and_right}
 use Rattle.mesh_list.proofs.Each.{lt_is, below_later}
 use Rattle.mesh_list.proofs.Found.{found-placed}
 use Rattle.mesh_list.proofs.Standing.{has_it, lacks_it, passes_all, where_first, where_none}
+use Rattle.mesh_base_values.proofs.Equals.{eq_turned}
 use Rattle.mesh_house.specs.Outside.{itself, stays, outside}
 
 -- a comparison that is turned around
@@ -19,11 +21,6 @@ gt_turned : (o : Ordering) → is_lt (ordering_reverse o) ≡ is_gt o
 gt_turned Less = refl
 gt_turned Equal = refl
 gt_turned Greater = refl
-
-eq_turned : (o : Ordering) → is_eq (ordering_reverse o) ≡ is_eq o
-eq_turned Less = refl
-eq_turned Equal = refl
-eq_turned Greater = refl
 
 -- two tests that agree keep the same
 filter_alike : {A : Type 0} (p q : A → Bool) → ((x : A) → p x ≡ q x) → (xs : List A) → filter p xs ≡ filter q xs

@@ -3,6 +3,7 @@ use Rattle.std.proofs.Common.{◌≡◌, ℕ, ◌+◌, ℤ, Bool, true, false, c
 use Rattle.std.specs.Prelude.{◌↔◌, IsTrue, IsNone}
 use Rattle.std.specs.declared.option.Option.{Option}
 use Rattle.std.specs.Option.{is_some}
+use Rattle.std.proofs.lemmas.Bool.{not-true as not_true}
 use Rattle.mesh_base_values.specs.Names.{name_cmp}
 use Rattle.mesh_house_book.specs.Changes.{version_object}
 use Rattle.mesh_house_book.specs.WellFormed.{all_fit, book_fault, breach_from, breach_or, envs_breach, is_above, is_env_fit, is_moment, is_snapshot_fit, is_version, is_well_formed_book, front_breach, snapshots_breach, versions_breach}
@@ -34,10 +35,6 @@ either part (Some place) later = refl
 and_true : (b : Bool) → (b && true) ≡ b
 and_true true = refl
 and_true false = refl
-
-not_true : (b : Bool) → not b ≡ true → b ≡ false
-not_true true h = cc
-not_true false h = refl
 
 all_parts : (b : Book) → none (book_fault b) ≡ is_well_formed_book b
 all_parts b =

@@ -4,21 +4,17 @@ use Rattle.std.specs.declared.option.Option.{Option}
 use Rattle.std.specs.declared.cmp.Ordering.{Ordering}
 use Rattle.std.specs.declared.cmp.Ordering.TheVariants.{Less, Equal, Greater}
 use Rattle.std.specs.Option.{is_some}
-use Rattle.std.specs.Ordering.{is_eq, is_lt, ordering_then, ordering_reverse}
+use Rattle.std.specs.Ordering.{is_eq, ordering_then, ordering_reverse}
+use Rattle.std.proofs.lemmas.Bool.{and_from as and_both}
 use Rattle.mesh_list.specs.Keyed.{found, ascends, below_first}
-use Rattle.mesh_list.proofs.Ascends.{and_left, and_right, and_both}
-use Rattle.mesh_list.proofs.Each.{below_later}
+use Rattle.mesh_list.proofs.Ascends.{and_left, and_right}
+use Rattle.mesh_list.proofs.Each.{below_later, lt_is}
 use Rattle.mesh_base_values.specs.declared.values.Name.{Name}
 use Rattle.mesh_base.specs.declared.snapshots.Ref.{Ref}
 use Rattle.mesh_base_values.specs.Names.{text_cmp, name_cmp}
 use Rattle.mesh_base_values.specs.NameOrder.{names_exact, names_total}
 use Rattle.mesh_base.specs.Keys.{ref_cmp, ref_itself, ref_name}
 use Rattle.mesh_house_book.specs.WellFormed.{is_listed}
-
-lt_is : (o : Ordering) → is_lt o ≡ true → o ≡ Less
-lt_is Less h = refl
-lt_is Equal h = cc
-lt_is Greater h = cc
 
 abbrev up : List Ref → Bool
 up xs = ascends name_cmp ref_name xs

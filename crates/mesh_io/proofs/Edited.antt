@@ -5,10 +5,11 @@ use Rattle.std.specs.Ordering.{is_eq}
 use Rattle.std.specs.Cmp.{Equal-is}
 use Rattle.std.proofs.lemmas.Map.Lookups.{exact_bytes}
 use Rattle.mesh_list.specs.Keyed.{found}
-use Rattle.mesh_list.proofs.Ascends.{and_left, and_right, and_both}
+use Rattle.mesh_list.proofs.Ascends.{and_left, and_right}
 use Rattle.mesh_base_values.specs.Names.{text_cmp}
 use Rattle.mesh_io.specs.declared.files.File.{File}
 use Rattle.std.specs.Option.{option_map}
+use Rattle.std.proofs.lemmas.Bool.{and_from as and_both}
 use Rattle.mesh_io.specs.Files.{path_of, content_of, bytes_at, are_distinct, rewritten, deleted}
 
 abbrev pub one : List ℕ → List ℕ → Bool

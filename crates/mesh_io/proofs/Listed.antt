@@ -2,9 +2,6 @@
 use Rattle.std.proofs.Common.{◌≡◌, ℕ, Bool, true, false, cond, List, [], ◌∷◌, ◌++◌, nat_eq, length, drop, is_some, Some, None, refl, sym, ◌∙◌, ap, arith}
 use Rattle.std.specs.declared.option.Option.{Option}
 use Rattle.std.specs.Option.{option_map}
-use Rattle.std.specs.declared.cmp.Ordering.{Ordering}
-use Rattle.std.specs.declared.cmp.Ordering.TheVariants.{Less, Equal, Greater}
-use Rattle.std.specs.Ordering.{is_eq, ordering_reverse}
 use Rattle.std.proofs.Math.Seq.{drop-append_seam}
 use Rattle.mesh_io.proofs.Edited.{one, one_is}
 use Rattle.std.specs.Cmp.{IsTotalOrder}
@@ -18,6 +15,7 @@ use Rattle.mesh_list.specs.Keyed.{found, ascends}
 use Rattle.mesh_list.proofs.Ascends.{ascends-placed}
 use Rattle.mesh_list.proofs.Found.{found-placed}
 use Rattle.mesh_base_values.specs.Names.{text_cmp}
+use Rattle.mesh_base_values.proofs.Equals.{self_equal}
 use Rattle.mesh_io.specs.declared.files.File.{File}
 use Rattle.mesh_io.specs.Files.{path_of, content_of, bytes_at, after_slash, below, same_path, with_path, are_ascending, listing}
 
@@ -31,11 +29,6 @@ ascends_by (Some path) paths h = ascends-placed text_cmp text_total same_path pa
 pub ascends-listing : (dir : List ℕ) (fs : List File) → are_ascending (listing dir fs) ≡ true
 ascends-listing dir [] = refl
 ascends-listing dir (f ∷ fs) = ascends_by (below dir f.path) (listing dir fs) (ascends-listing dir fs)
-
-self_equal : (o : Ordering) → o ≡ ordering_reverse o → is_eq o ≡ true
-self_equal Less e = cc
-self_equal Equal e = refl
-self_equal Greater e = cc
 
 one_self : (a : List ℕ) → one a a ≡ true
 one_self a = self_equal (text_cmp a a) (text_total.antisymm a a)

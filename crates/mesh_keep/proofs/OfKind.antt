@@ -6,10 +6,10 @@ use Rattle.std.specs.declared.cmp.Ordering.{Ordering}
 use Rattle.std.specs.declared.cmp.Ordering.TheVariants.{Less, Equal, Greater}
 use Rattle.std.specs.Ordering.{is_eq, is_lt, nat_cmp, ordering_then}
 use Rattle.std.specs.Cmp.{unsigned_tied}
-use Rattle.std.proofs.lemmas.Bool.{eqb-true}
+use Rattle.std.proofs.lemmas.Bool.{eqb-true, and_from as and_both}
 use Rattle.std.proofs.lemmas.Cmp.{nat_cmp_total, tied_itself}
 use Rattle.mesh_list.specs.Keyed.{ascends, below_first, found}
-use Rattle.mesh_list.proofs.Ascends.{and_both, and_left, and_right}
+use Rattle.mesh_list.proofs.Ascends.{and_left, and_right}
 use Rattle.mesh_list.proofs.Each.{below_later, lt_is}
 use Rattle.mesh_base_values.specs.Names.{text_cmp}
 use Rattle.mesh_keep.specs.declared.kept.Kept.{Kept}

@@ -7,14 +7,16 @@ use Rattle.std.specs.declared.cmp.Ordering.{Ordering}
 use Rattle.std.specs.Ordering.{is_eq}
 use Rattle.std.specs.Cmp.{Equal-is, IsTotalOrder}
 use Rattle.std.proofs.lemmas.Cmp.{tied_itself}
-use Rattle.std.proofs.lemmas.Map.Lookups.{CmpEqualImpliesEq, exact_bytes}
+use Rattle.std.proofs.lemmas.Map.Lookups.{CmpEqualImpliesEq}
+use Rattle.std.proofs.lemmas.Bool.{and_from as and_both}
 use Rattle.mesh_list.specs.Keyed.{ascends, below_first, found, placed}
-use Rattle.mesh_list.proofs.Ascends.{and_both, and_left, and_right, ascends-placed}
+use Rattle.mesh_list.proofs.Ascends.{and_left, and_right, ascends-placed}
 use Rattle.mesh_list.proofs.Each.{each_found, found-behind}
 use Rattle.mesh_list.proofs.Found.{found-placed}
 use Rattle.mesh_base_values.specs.Names.{text_cmp}
 use Rattle.mesh_base_values.specs.NameOrder.{texts_total}
 use Rattle.mesh_base_values.specs.Picked.{same_text}
+use Rattle.mesh_base_values.proofs.Equals.{text_itself as same_itself, text_is as same_is}
 use Rattle.mesh_house_book.proofs.moves.Sorting.{one_list}
 use Rattle.mesh_house.proofs.Tested.{all-placed}
 use Rattle.mesh_canon_reading.specs.Fits.{text_fits}
@@ -35,11 +37,6 @@ pub record HoldsKind {A K : Type 0} (R : K → K → Ordering) (key : A → K) (
   pub named : (n b : List ℕ) → body_at kept kind n ≡ Some b → (k : K) × (n ≡ text k)
 
 -- a text is that text, and no other
-pub same_itself : (t : List ℕ) → same_text t t ≡ true
-same_itself t = ap is_eq (tied_itself texts_total t)
-
-pub same_is : (a b : List ℕ) → same_text a b ≡ true → a ≡ b
-same_is a b h = exact_bytes a b ((Equal-is (text_cmp a b)).0 h)
 
 tested : {A : Type 0} (b : Bool) (y x : A) → (if b then Some y else None) ≡ Some x → (b ≡ true) × (y ≡ x)
 tested true y x e = (refl, some_is y x e)

@@ -2,7 +2,7 @@
 use Rattle.std.proofs.Common.{◌≡◌, ℕ, ℤ, Bool, true, false, cond, not, List, Some, None, refl, sym, ap, ◌∙◌, subst}
 use Rattle.std.specs.Int.Signed.{lt_z}
 use Rattle.std.specs.declared.option.Option.{Option}
-use Rattle.mesh_list.proofs.Ascends.{and_both}
+use Rattle.std.proofs.lemmas.Bool.{and_from as and_both}
 use Rattle.mesh_base.specs.declared.forgets.Restate.{Restate}
 use Rattle.mesh_base.specs.declared.snapshots.Env.{Env}
 use Rattle.mesh_base.specs.declared.snapshots.Node.{Node}

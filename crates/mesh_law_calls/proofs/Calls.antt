@@ -1,6 +1,7 @@
 -- A call through which nothing comes out otherwise is events that leave nothing in doubt; a line that is done leaves
 -- what it promises.
-use Rattle.std.proofs.Common.{◌≡◌, ◌⊎◌, ◌||◌, inl, inr, ℕ, Bool, true, false, List, Some, Err, Result, refl, sym, ◌∙◌, subst}
+use Rattle.std.proofs.Common.{◌≡◌, ◌⊎◌, inl, inr, ℕ, Bool, true, false, List, Some, Err, Result, refl, sym, ◌∙◌, subst}
+use Rattle.std.proofs.lemmas.Bool.{or_from as neither}
 use Rattle.mesh_base.specs.declared.forgets.Forget.{Forget}
 use Rattle.mesh_spec_model.specs.Horizons.{Clock}
 use Rattle.mesh_house.specs.House.{Told}
@@ -37,10 +38,6 @@ settles_none clock (promise.Ingest name columns rows keep) w m none = tt
 settles_none clock (promise.Invalidate env) w m none = tt
 settles_none clock (promise.MigrateAll renames) w m none = tt
 settles_none clock promise.Nothing w m none = tt
-
-pub neither : (a b : Bool) → a ≡ false → b ≡ false → (a || b) ≡ false
-neither true b a_is b_is = absurd (let clash : true ≡ false = a_is in cc)
-neither false b a_is b_is = b_is
 
 abbrev pub still_settles : (x : Parts) → ((q : Forget) → x q ≡ false) → (w : World) (k : promise.Command) → IsStill w k → IsSettled x w k
 still_settles x none w k h = record {

@@ -4,7 +4,7 @@ use Rattle.std.specs.Prelude.{◌&&◌}
 use Rattle.std.specs.Int.Signed.{le_z}
 use Rattle.std.proofs.lemmas.List.{append-nil}
 use Rattle.mesh_list.proofs.Ascends.{and_left, and_right}
-use Rattle.mesh_time.proofs.Apart.{le_says}
+use Rattle.mesh_base_values.proofs.Tests.{le_says}
 use Rattle.mesh_time_days.specs.Moments.{IsMoment}
 use Rattle.mesh_house_book.specs.WellFormed.{is_moment, is_version}
 use Rattle.mesh_spec_model.proofs.Clocks.{shown}

@@ -6,8 +6,9 @@ use Rattle.std.specs.List.{Contains, list_all}
 use Rattle.std.specs.Ordering.{is_eq}
 use Rattle.std.proofs.lemmas.Cmp.{tied_itself}
 use Rattle.std.proofs.lemmas.Map.Lookups.{exact_bytes}
+use Rattle.std.proofs.lemmas.Bool.{and_from as and_both}
 use Rattle.mesh_list.specs.Keyed.{ascends}
-use Rattle.mesh_list.proofs.Ascends.{and_left, and_right, and_both}
+use Rattle.mesh_list.proofs.Ascends.{and_left, and_right}
 use Rattle.mesh_base_values.specs.Names.{name_cmp, text_cmp}
 use Rattle.mesh_base_values.specs.NameOrder.{texts_total}
 use Rattle.mesh_base_values.specs.declared.values.Name.{Name}

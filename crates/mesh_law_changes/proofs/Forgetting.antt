@@ -15,11 +15,13 @@ use Rattle.mesh_base_values.specs.declared.kinds.Kind.{Kind}
 use Rattle.mesh_base_values.specs.declared.kinds.Kind.TheVariants.{Full, View, Seed, Incremental}
 use Rattle.mesh_base_values.specs.declared.times.Bounds.{Bounds}
 use Rattle.mesh_base_values.specs.declared.values.Name.{Name}
+use Rattle.mesh_base_values.proofs.Equals.{name_is as object_is}
+use Rattle.mesh_base_values.proofs.Tests.{lt_says}
 use Rattle.mesh_base.specs.declared.forgets.Forget.{Forget}
 use Rattle.mesh_base.specs.declared.forgets.Forget.TheVariants.{Marks, Range}
 use Rattle.mesh_base.specs.declared.snapshots.Snapshot.{Snapshot}
 use Rattle.mesh_time.specs.Ranges.{Has, IsWithin, is_apart, is_held}
-use Rattle.mesh_time.proofs.Apart.{lt_says, lt_not}
+use Rattle.mesh_time.proofs.Apart.{lt_not}
 use Rattle.mesh_time.proofs.Forgotten.{has_forgotten, is_apart-forgotten}
 use Rattle.mesh_time.proofs.Held.{has_if_held, held_if_has}
 use Rattle.mesh_house_book.specs.declared.book.Book.{Book}
@@ -38,7 +40,7 @@ use Rattle.mesh_spec_promise.specs.Histories.{left}
 use Rattle.mesh_spec_promise.specs.Sound.{Sound, IsTableSound}
 use Rattle.mesh_spec_promise.proofs.Doubts.{doubted}
 use Rattle.mesh_spec_promise.proofs.Seconds.{scheduled_once, scheduled_proper}
-use Rattle.mesh_law_changes.proofs.Recorded.{object_is, recorded_sound, retold, stands_made, table_retold}
+use Rattle.mesh_law_changes.proofs.Recorded.{recorded_sound, retold, stands_made, table_retold}
 
 outside : (u : Bounds) (t : ℤ) → (t <ℤ u.start) ⊎ (u.end ≤ℤ t) → IsWithin u.start u.end t → ⊥
 outside u t (inl l) h = omega (arith, ints, h.0, l)

@@ -6,8 +6,9 @@ use Rattle.std.specs.declared.cmp.Ordering.TheVariants.{Less, Equal, Greater}
 use Rattle.std.specs.List.{All, Contains, list_all}
 use Rattle.std.specs.Option.{is_some, option_map, option_to_list}
 use Rattle.std.specs.Ordering.{is_eq, is_lt}
+use Rattle.std.proofs.lemmas.Bool.{and_from as and_both}
 use Rattle.mesh_list.specs.Keyed.{ascends, below_first, found, placed, put_by}
-use Rattle.mesh_list.proofs.Ascends.{and_left, and_right, and_both, ascends-placed}
+use Rattle.mesh_list.proofs.Ascends.{and_left, and_right, ascends-placed}
 use Rattle.mesh_list.proofs.Each.{each_found}
 use Rattle.mesh_base_values.specs.Crons.{is_cron}
 use Rattle.mesh_base_values.specs.Names.{has_two_underscores, name_cmp, text_cmp}

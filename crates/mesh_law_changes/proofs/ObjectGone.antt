@@ -13,6 +13,7 @@ use Rattle.mesh_base_values.specs.declared.kinds.Kind.TheVariants.{Full, View, S
 use Rattle.mesh_base_values.specs.declared.values.Cell.{Cell}
 use Rattle.mesh_base_values.specs.declared.values.Name.{Name}
 use Rattle.mesh_base_values.specs.declared.values.Pair.{Pair}
+use Rattle.mesh_base_values.proofs.Equals.{name_is as object_is}
 use Rattle.mesh_base.specs.declared.snapshots.Snapshot.{Snapshot}
 use Rattle.mesh_house_book.specs.declared.book.Book.{Book}
 use Rattle.mesh_house_book.specs.declared.versions.Version.{Version}
@@ -28,7 +29,7 @@ use Rattle.mesh_spec_changes.specs.listed.Closing.{closing, IsSnapshot}
 use Rattle.mesh_spec_changes.specs.due.Marks.{marks}
 use Rattle.mesh_spec_changes.specs.due.Parts.{Parts}
 use Rattle.mesh_spec_promise.specs.Sound.{Sound, AreUnits, IsMade, IsTyped, IsFullSound, IsIncrementalSound, IsSeedSound, IsTableSound, AreObjectsSound, AreViewsSound, parent_objects, table_rows}
-use Rattle.mesh_law_changes.proofs.Recorded.{object_is, other_object, same_object}
+use Rattle.mesh_law_changes.proofs.Recorded.{other_object, same_object}
 use Rattle.mesh_law_changes.proofs.Rising.{found-without}
 
 -- what is recorded of a version that isn't made is so of any table

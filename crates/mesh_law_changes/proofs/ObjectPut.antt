@@ -10,6 +10,7 @@ use Rattle.mesh_base_values.specs.declared.kinds.Kind.TheVariants.{Full, View, S
 use Rattle.mesh_base_values.specs.declared.values.Cell.{Cell}
 use Rattle.mesh_base_values.specs.declared.values.Name.{Name}
 use Rattle.mesh_base_values.specs.declared.values.Pair.{Pair}
+use Rattle.mesh_base_values.proofs.Equals.{name_is as object_is}
 use Rattle.mesh_base.specs.Outputs.{columns_of}
 use Rattle.mesh_base.specs.declared.snapshots.Snapshot.{Snapshot}
 use Rattle.mesh_house_book.specs.declared.versions.Version.{Version}
@@ -21,7 +22,7 @@ use Rattle.mesh_house.specs.World.{body_of, object_at, rows_of, version_of}
 use Rattle.mesh_spec_changes.specs.listed.Closing.{closing, IsSnapshot}
 use Rattle.mesh_spec_changes.specs.due.Parts.{Parts}
 use Rattle.mesh_spec_promise.specs.Sound.{Sound, Uses, IsBodyOf, IsFullSound, IsIncrementalSound, IsMade, IsSeedSound, IsTyped, IsTableSound, AreObjectsSound, AreViewsSound, parent_objects, table_rows}
-use Rattle.mesh_law_changes.proofs.Recorded.{object_is, same_object}
+use Rattle.mesh_law_changes.proofs.Recorded.{same_object}
 
 module _ (x : Parts) (w : World) (sound : Sound x w) (new : Object) (objects : List Object) (ascend : IsTrue (ascends name_cmp object_name objects)) (physical : IsTrue (are_physical objects))
     (found_after : (name : Name) → object_at (record w { objects = objects }) name ≡ cond (is_eq (name_cmp new.name name)) (Some new) (object_at w name)) (used : Uses w.book new.name)

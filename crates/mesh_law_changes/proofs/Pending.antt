@@ -7,8 +7,9 @@ use Rattle.std.specs.List.{Contains, list_all}
 use Rattle.std.specs.Ordering.{is_eq}
 use Rattle.std.proofs.lemmas.Cmp.{tied_itself}
 use Rattle.std.proofs.lemmas.Map.Lookups.{exact_bytes}
+use Rattle.std.proofs.lemmas.Bool.{and_from as and_both}
 use Rattle.mesh_list.specs.Keyed.{ascends, exchanged, found, placed}
-use Rattle.mesh_list.proofs.Ascends.{and_left, and_right, and_both, ascends-placed}
+use Rattle.mesh_list.proofs.Ascends.{and_left, and_right, ascends-placed}
 use Rattle.mesh_list.proofs.Found.{found-placed}
 use Rattle.mesh_base_values.specs.Names.{name_cmp, text_cmp}
 use Rattle.mesh_base_values.specs.NameOrder.{texts_total}

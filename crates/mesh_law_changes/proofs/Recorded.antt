@@ -3,14 +3,16 @@ use Rattle.std.proofs.Common.{◌≡◌, Bool, true, false, cond, ◌&&◌, List
 use Rattle.std.specs.Cmp.{Equal-is}
 use Rattle.std.proofs.lemmas.Cmp.{tied_itself}
 use Rattle.std.specs.Ordering.{is_eq}
+use Rattle.std.proofs.lemmas.Bool.{and_from as and_both}
 use Rattle.mesh_list.specs.Keyed.{ascends, exchanged}
-use Rattle.mesh_list.proofs.Ascends.{and_left, and_right, and_both}
+use Rattle.mesh_list.proofs.Ascends.{and_left, and_right}
 use Rattle.mesh_list.proofs.Standing.{ascends-exchanged}
 use Rattle.mesh_base_values.specs.Names.{name_cmp}
 use Rattle.mesh_base_values.specs.NameOrder.{names_exact, names_total}
 use Rattle.mesh_base_values.specs.declared.kinds.Kind.{Kind}
 use Rattle.mesh_base_values.specs.declared.kinds.Kind.TheVariants.{Full, View, Seed, Incremental}
 use Rattle.mesh_base_values.specs.declared.values.Name.{Name}
+use Rattle.mesh_base_values.proofs.Equals.{name_is as object_is}
 use Rattle.mesh_base.specs.declared.forgets.Forget.{Forget}
 use Rattle.mesh_base.specs.declared.forgets.Forget.TheVariants.{Marks}
 use Rattle.mesh_base.specs.declared.snapshots.Snapshot.{Snapshot}
@@ -55,9 +57,6 @@ well_with_versions b vs well up =
 
 pub same_object : (n : Name) → is_eq (name_cmp n n) ≡ true
 same_object n = (Equal-is (name_cmp n n)).1 (tied_itself names_total n)
-
-pub object_is : (m n : Name) → is_eq (name_cmp m n) ≡ true → m ≡ n
-object_is m n h = names_exact m n ((Equal-is (name_cmp m n)).0 h)
 
 pub other_object : (m n : Name) → (m ≡ n → ⊥) → is_eq (name_cmp m n) ≡ false
 other_object m n other = go (is_eq (name_cmp m n)) refl

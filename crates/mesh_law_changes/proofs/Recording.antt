@@ -7,8 +7,8 @@ use Rattle.std.proofs.lemmas.Cmp.{tied_itself, int_cmp_total}
 use Rattle.std.specs.Cmp.{Equal-is}
 use Rattle.std.specs.List.{AllZip, Contains, filter}
 use Rattle.std.specs.Ordering.{int_cmp, is_eq}
+use Rattle.std.proofs.lemmas.Bool.{and_from as and_both}
 use Rattle.mesh_list.specs.Keyed.{found}
-use Rattle.mesh_list.proofs.Ascends.{and_both}
 use Rattle.mesh_base_values.specs.Bag.{IsSameBag}
 use Rattle.mesh_base_values.specs.NameOrder.{names_exact}
 use Rattle.mesh_base_values.specs.Names.{name_cmp}
@@ -16,12 +16,12 @@ use Rattle.mesh_base_values.specs.declared.kinds.Kind.{Kind}
 use Rattle.mesh_base_values.specs.declared.kinds.Kind.TheVariants.{Full, View, Seed, Incremental}
 use Rattle.mesh_base_values.specs.declared.times.Bounds.{Bounds}
 use Rattle.mesh_base_values.specs.declared.values.Name.{Name}
+use Rattle.mesh_base_values.proofs.Tests.{lt_true}
 use Rattle.mesh_base.specs.declared.forgets.Forget.{Forget}
 use Rattle.mesh_base.specs.declared.forgets.Forget.TheVariants.{Marks, Range}
 use Rattle.mesh_base.specs.declared.snapshots.Snapshot.{Snapshot}
 use Rattle.mesh_time.specs.Ranges.{Has, IsWithin, is_apart, is_held}
 use Rattle.mesh_time.proofs.Added.{has_added, is_apart-added}
-use Rattle.mesh_time.proofs.Apart.{lt_true}
 use Rattle.mesh_time.proofs.Held.{has_if_held, held_if_has}
 use Rattle.mesh_house_book.specs.declared.versions.Version.{Version}
 use Rattle.mesh_house_book.specs.Changes.{version_object, at_version, with_marks, with_range}

@@ -7,8 +7,9 @@ use Rattle.std.specs.List.{All, Contains, list_all}
 use Rattle.std.specs.Option.{is_some, option_to_list}
 use Rattle.std.specs.Ordering.{is_eq}
 use Rattle.std.proofs.lemmas.Cmp.{tied_itself}
+use Rattle.std.proofs.lemmas.Bool.{and_from as and_both}
 use Rattle.mesh_list.specs.Keyed.{ascends}
-use Rattle.mesh_list.proofs.Ascends.{and_left, and_right, and_both}
+use Rattle.mesh_list.proofs.Ascends.{and_left, and_right}
 use Rattle.mesh_base_values.specs.Crons.{is_cron}
 use Rattle.mesh_base_values.specs.Names.{has_two_underscores, name_cmp, text_cmp}
 use Rattle.mesh_base_values.specs.declared.kinds.Kind.{Kind}

@@ -9,6 +9,7 @@ use Rattle.mesh_base_values.specs.NameOrder.{names_exact, names_total}
 use Rattle.mesh_base_values.specs.declared.kinds.Kind.{Kind}
 use Rattle.mesh_base_values.specs.declared.kinds.Kind.TheVariants.{Full, View, Seed, Incremental}
 use Rattle.mesh_base_values.specs.declared.values.Name.{Name}
+use Rattle.mesh_base_values.proofs.Equals.{name_is as object_is}
 use Rattle.mesh_base.specs.declared.snapshots.Snapshot.{Snapshot}
 use Rattle.mesh_time.specs.Ranges.{is_apart}
 use Rattle.mesh_house_book.specs.Changes.{new_version, version_object}
@@ -20,7 +21,7 @@ use Rattle.mesh_spec_changes.specs.listed.Closing.{closing}
 use Rattle.mesh_spec_changes.specs.due.Marks.{marks}
 use Rattle.mesh_spec_changes.specs.due.Parts.{Parts}
 use Rattle.mesh_spec_promise.specs.Sound.{Sound, Uses, IsMade, IsObjectMade, IsTyped, IsBookSound, IsTableSound, AreObjectsSound, AreViewsSound}
-use Rattle.mesh_law_changes.proofs.Recorded.{object_is, versions_rise, well_with_versions}
+use Rattle.mesh_law_changes.proofs.Recorded.{versions_rise, well_with_versions}
 
 module _ (x : Parts) (w : World) (sound : Sound x w) (object : Name) (unknown : version_of w.book object ≡ None) (used : Uses w.book object) where
   abbrev fresh : Version

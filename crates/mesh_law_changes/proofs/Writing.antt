@@ -17,6 +17,7 @@ use Rattle.mesh_base_values.specs.declared.times.Bounds.{Bounds}
 use Rattle.mesh_base_values.specs.declared.values.Cell.{Cell}
 use Rattle.mesh_base_values.specs.declared.values.Column.{Column}
 use Rattle.mesh_base_values.specs.declared.values.Name.{Name}
+use Rattle.mesh_base_values.proofs.Equals.{name_is as object_is}
 use Rattle.mesh_base.specs.Outputs.{columns_of}
 use Rattle.mesh_base.specs.declared.snapshots.Snapshot.{Snapshot}
 use Rattle.mesh_time.specs.Ranges.{Has, IsWithin, is_held}
@@ -48,7 +49,7 @@ use Rattle.mesh_spec_promise.proofs.Views.{tabular}
 use Rattle.mesh_law_changes.proofs.Making.{used_physical}
 use Rattle.mesh_law_changes.proofs.ObjectGone.{table_unmade}
 use Rattle.mesh_law_changes.proofs.ObjectPut.{object_put}
-use Rattle.mesh_law_changes.proofs.Recorded.{object_is, same_object}
+use Rattle.mesh_law_changes.proofs.Recorded.{same_object}
 
 -- an object that is found has its name
 named_found : (w : World) (name : Name) (o : Object) → object_at w name ≡ Some o → (o.name ≡ name) × (found name_cmp object_name name w.objects ≡ Some o)

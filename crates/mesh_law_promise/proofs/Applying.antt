@@ -1,9 +1,10 @@
 -- An apply keeps a world sound at each exit, and leaves its environment final.
-use Rattle.std.proofs.Common.{◌≡◌, ℕ, ℤ, ◌≤◌, Bool, true, false, cond, not, ◌||◌, List, [], ◌∷◌, ◌++◌, length, None, refl, sym, ap, ◌∙◌, subst}
+use Rattle.std.proofs.Common.{◌≡◌, ℕ, ℤ, ◌≤◌, Bool, true, false, cond, ◌||◌, List, [], ◌∷◌, ◌++◌, length, None, refl, sym, ap, ◌∙◌, subst}
 use Rattle.std.specs.Int.Signed.{lt_z}
 use Rattle.std.specs.List.{AllByRecursion, Contains}
 use Rattle.std.specs.declared.option.Option.{Option}
 use Rattle.std.proofs.lemmas.List.{append-nil, append_assoc}
+use Rattle.std.proofs.lemmas.Bool.{not-true as not_false}
 use Rattle.mesh_list.specs.Keyed.{found}
 use Rattle.mesh_base_values.specs.Names.{text_cmp}
 use Rattle.mesh_base.specs.Keys.{env_name}
@@ -50,10 +51,6 @@ use Rattle.mesh_law_promise.proofs.Promoting.{IsModelMade, done_made, promoted_f
 -- a moment that is raised is this one, where it isn't behind
 pub raised_is : (w : World) (t : ℤ) → lt_z t w.book.moment ≡ false → (step w (Moment t)).book.moment ≡ t
 raised_is w t h = ap (λ (b : Bool). cond b w.book.moment t) h
-
-pub not_false : (b : Bool) → not b ≡ true → b ≡ false
-not_false true h = absurd (let clash : false ≡ true = h in cc)
-not_false false h = refl
 
 -- what is in doubt, and more
 pub first_of : (x y : Parts) (q : Forget) → either x y q ≡ false → x q ≡ false

@@ -9,6 +9,7 @@ use Rattle.std.specs.declared.cmp.Ordering.{Ordering}
 use Rattle.std.specs.declared.cmp.Ordering.TheVariants.{Less, Equal, Greater}
 use Rattle.mesh_list.specs.Keyed.{ascends, placed, put_by}
 use Rattle.std.specs.Ordering.{is_eq}
+use Rattle.std.proofs.lemmas.Bool.{not-true as not_is}
 use Rattle.mesh_list.proofs.Ascends.{and_left, and_right, ascends-placed}
 use Rattle.mesh_base_values.specs.Names.{name_cmp}
 use Rattle.mesh_base_values.specs.NameOrder.{names_exact, names_total}
@@ -135,10 +136,6 @@ ordered_from ns n h =
 
 ordered_to : (ns : List Name) (n : Name) → Has n ns → Has n (names_by_order ns)
 ordered_to ns n h = subst (Has n) (names_are ns) (to_name name_itself name_itself name_itself (λ k. refl) ns (λ p q i j e. e) n h)
-
-not_is : (b : Bool) → not b ≡ true → b ≡ false
-not_is true h = absurd (let clash : false ≡ true = h in cc)
-not_is false h = refl
 
 -- what is gone of an environment are the models of its list before that aren't planned
 pub gone_from : (b : Book) (env : List ℕ) (all : List Planned) (n : Name) → Has n (gone b env all) → (r : Ref) × Has r (previous_of (env_at b env)) × (r.name ≡ n) × (is_listed all n ≡ false)

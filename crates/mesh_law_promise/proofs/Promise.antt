@@ -3,6 +3,7 @@
 use Rattle.std.proofs.Common.{◌≡◌, Bool, true, false, cond, List, [], ◌∷◌, ◌++◌, refl, sym, ap, ◌∙◌, subst}
 use Rattle.std.specs.declared.option.Option.{Option}
 use Rattle.std.specs.declared.option.Option.TheVariants.{None, Some}
+use Rattle.std.proofs.lemmas.Bool.{not-true as not_false}
 use Rattle.mesh_list.proofs.Ascends.{and_left, and_right}
 use Rattle.mesh_base.specs.declared.snapshots.Env.{Env}
 use Rattle.mesh_spec_model.specs.Horizons.{Clock, Shows}
@@ -25,7 +26,7 @@ use Rattle.mesh_law_changes.specs.along.Along.{StaysAlong}
 use Rattle.mesh_law_changes.proofs.along.Along.{along_front, along_kept, left_none}
 use Rattle.mesh_law_upkeep.proofs.sweep.Loading.{load_along}
 use Rattle.mesh_law_upkeep.proofs.sweep.Sweeping.{sweep_along}
-use Rattle.mesh_law_promise.proofs.Applying.{apply_along, apply_final, first_of, not_false, run_along, run_final}
+use Rattle.mesh_law_promise.proofs.Applying.{apply_along, apply_final, first_of, run_along, run_final}
 use Rattle.mesh_law_promise.proofs.Lists.{env_named, list_is, run_names}
 
 -- a list that is empty has an empty front

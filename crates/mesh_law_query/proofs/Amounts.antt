@@ -14,6 +14,7 @@ use Rattle.mesh_base.specs.declared.expressions.AggKind.{AggKind}
 use Rattle.mesh_base.specs.declared.expressions.AggKind.TheVariants.{Count, Countd, Sum, Min, Max}
 use Rattle.mesh_base_values.specs.Order.{cell_order, row_order}
 use Rattle.mesh_base_values.proofs.Total.{cell_total, cell_exact, row_total, row_exact}
+use Rattle.mesh_base_values.proofs.Equals.{equal_of}
 use Rattle.mesh_spec_query.specs.Cells.{is_null, number}
 use Rattle.mesh_spec_query.specs.Aggregates.{distinct, same_cell, is_number, addend, smaller, larger, count_of, agg_value}
 use Rattle.mesh_spec_query.specs.Sel.{same_row}
@@ -58,11 +59,6 @@ module _ {A : Type 0} (alike : A → A → Bool) (exact : (x y : A) → alike x 
 
   pub distinct_same : {xs ys : List A} → Perm xs ys → Perm (distinct alike xs) (distinct alike ys)
   distinct_same p = folds Perm same (λ a b c p q. trans p q) step kept (λ z x y. exchange z x y _ _ _ _ refl refl refl refl) p [] [] nil
-
-pub equal_of : (o : Ordering) → is_eq o ≡ true → o ≡ Equal
-equal_of Less e = cc
-equal_of Equal e = refl
-equal_of Greater e = cc
 
 pub rows_same : {xs ys : List (List Cell)} → Perm xs ys → Perm (distinct same_row xs) (distinct same_row ys)
 rows_same p = distinct_same same_row (λ x y e. sym (row_exact y x (equal_of (row_order y x) e))) (λ x. ap is_eq (tied_itself row_total x)) p

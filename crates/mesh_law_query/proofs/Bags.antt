@@ -24,6 +24,7 @@ use Rattle.mesh_base.specs.declared.queries.Query.{Query}
 use Rattle.mesh_base.specs.declared.queries.Join.{Join}
 use Rattle.mesh_base.specs.declared.queries.Join.TheVariants.{First, Inner, Left, Cross}
 use Rattle.mesh_base_values.proofs.Total.{row_total, row_exact}
+use Rattle.mesh_base_values.proofs.Equals.{equal_of}
 use Rattle.mesh_base.specs.rules.Proper.{rel_names, from_names, select_names, selects_names, names_of_all}
 use Rattle.mesh_spec_query.specs.Cells.{is_true}
 use Rattle.mesh_spec_query.specs.Aggregates.{distinct}
@@ -33,7 +34,7 @@ use Rattle.mesh_spec_query.specs.Sel.{Joined, same_row, holds, row_holds, partne
 use Rattle.mesh_law_query.specs.Alike.{names, named, IsSameTable, HaveSameBags}
 use Rattle.mesh_law_query.proofs.Lists.{Each, each, Each_left, Each_right, Each_imp}
 use Rattle.mesh_law_query.proofs.Perm.{Perm, nil, skip, swap, trans, same, flip, is, mapped, filtered, appended, flat, flat_each, fold_same}
-use Rattle.mesh_law_query.proofs.Amounts.{equal_of, rows_same}
+use Rattle.mesh_law_query.proofs.Amounts.{rows_same}
 use Rattle.mesh_law_query.proofs.Members.{Ev_same}
 
 abbrev Row : Type 0

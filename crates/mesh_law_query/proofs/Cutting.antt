@@ -3,6 +3,7 @@ use Rattle.std.proofs.Common.{◌≡◌, Bool, true, false, cond, ◌||◌, List
 use Rattle.std.specs.List.{All}
 use Rattle.std.specs.Ordering.{is_eq}
 use Rattle.std.specs.declared.option.Option.TheVariants.{Some}
+use Rattle.std.proofs.lemmas.Bool.{or_right as later}
 use Rattle.mesh_base_values.specs.NameOrder.{names_exact}
 use Rattle.mesh_base_values.specs.Names.{name_cmp}
 use Rattle.mesh_base_values.specs.declared.values.ColType.{ColType}
@@ -11,6 +12,7 @@ use Rattle.mesh_base_values.specs.declared.times.Bounds.{Bounds}
 use Rattle.mesh_base_values.specs.declared.values.Cell.TheVariants.{Null}
 use Rattle.mesh_base_values.specs.declared.values.Column.{Column}
 use Rattle.mesh_base_values.specs.declared.values.Name.{Name}
+use Rattle.mesh_base_values.proofs.Equals.{equal_of}
 use Rattle.mesh_base.specs.declared.definitions.Defn.{Defn}
 use Rattle.mesh_base.specs.declared.jobs.Input.{Input}
 use Rattle.mesh_base.specs.rules.Proper.{defn_names}
@@ -19,13 +21,8 @@ use Rattle.mesh_law_query.specs.Alike.{named}
 use Rattle.mesh_law_query.specs.Reads.{defn_reads}
 use Rattle.mesh_law_query.specs.Cuts.{cut, cut_input, cut_inputs}
 use Rattle.mesh_law_query.proofs.Lists.{Each}
-use Rattle.mesh_law_query.proofs.Amounts.{equal_of}
 use Rattle.mesh_law_query.proofs.ReadColumns.{Str, among, text_is, text_self}
 use Rattle.mesh_law_query.proofs.Reading.{Row, rows_read}
-
-pub later : (b m : Bool) → m ≡ true → (b || m) ≡ true
-later true m k = refl
-later false m k = k
 
 -- columns of these names, with types
 abbrev pub under : (Str → ColType) → List Str → List Column

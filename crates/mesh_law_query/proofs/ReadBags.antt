@@ -6,6 +6,7 @@ use Rattle.std.specs.declared.option.Option.{Option}
 use Rattle.std.specs.declared.option.Option.TheVariants.{Some}
 use Rattle.std.proofs.lemmas.Cmp.{tied_itself}
 use Rattle.std.proofs.lemmas.List.Elements.{All-nil, All-cons, All-head, All-tail}
+use Rattle.std.proofs.lemmas.Bool.{or_right as later}
 use Rattle.mesh_base_values.specs.Bag.{IsSameBag}
 use Rattle.mesh_base_values.specs.NameOrder.{names_total, names_exact}
 use Rattle.mesh_base_values.specs.Kinds.{is_incremental}
@@ -13,6 +14,7 @@ use Rattle.mesh_base_values.specs.Names.{name_cmp}
 use Rattle.mesh_base_values.specs.declared.times.Bounds.{Bounds}
 use Rattle.mesh_base_values.specs.declared.values.ColType.TheVariants.{Text}
 use Rattle.mesh_base_values.specs.declared.values.Name.{Name}
+use Rattle.mesh_base_values.proofs.Equals.{equal_of}
 use Rattle.mesh_base.specs.declared.jobs.Input.{Input}
 use Rattle.mesh_base.specs.declared.definitions.Defn.{Defn}
 use Rattle.mesh_base.specs.declared.definitions.Defn.TheVariants.{Seed, Sql}
@@ -24,9 +26,8 @@ use Rattle.mesh_spec_model.specs.Scratch.{defn_rows, is_of_unit, no_bounds, piec
 use Rattle.mesh_law_query.specs.Alike.{names, named, IsSameTable}
 use Rattle.mesh_law_query.specs.Reads.{defn_reads}
 use Rattle.mesh_law_query.specs.Cuts.{cut, AgreeAsBags}
-use Rattle.mesh_law_query.proofs.Amounts.{equal_of}
 use Rattle.mesh_law_query.proofs.Reading.{sel_reads}
-use Rattle.mesh_law_query.proofs.Cutting.{under, twice, later}
+use Rattle.mesh_law_query.proofs.Cutting.{under, twice}
 use Rattle.mesh_law_query.proofs.Perm.{Perm, filtered, flat_each}
 use Rattle.mesh_law_query.proofs.Bags.{bag_is_perm, counts_same, sel_bag}
 

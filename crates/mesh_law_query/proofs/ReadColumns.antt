@@ -15,6 +15,7 @@ use Rattle.mesh_base_values.specs.NameOrder.{names_exact, names_total, texts_tot
 use Rattle.mesh_base_values.specs.Names.{name_cmp, text_cmp}
 use Rattle.mesh_base_values.specs.Picked.{same_text}
 use Rattle.mesh_base_values.specs.declared.values.Name.{Name}
+use Rattle.mesh_base_values.proofs.Equals.{equal_of}
 use Rattle.mesh_base.specs.declared.definitions.Defn.{Defn}
 use Rattle.mesh_base.specs.declared.definitions.Defn.TheVariants.{Seed, Sql}
 use Rattle.mesh_base.specs.declared.definitions.Own.{Own}
@@ -28,7 +29,6 @@ use Rattle.mesh_base.specs.declared.queries.Select.{Select}
 use Rattle.mesh_base.specs.declared.queries.Query.{Query}
 use Rattle.mesh_spec_query.specs.Named.{columns}
 use Rattle.mesh_law_query.specs.Reads.{on_of, expressions, rel_reading, item_reading, reading_at, select_readings, selects_readings, query_readings, reading_cmp, reading_itself, in_order, defn_readings, readings, is_of, defn_reads, reads, StandsIn, NamesColumn, IsSelectOf, IsRead}
-use Rattle.mesh_law_query.proofs.Amounts.{equal_of}
 use Rattle.mesh_law_query.proofs.Has.{Has, Has_from, Has_to, Has_left, Has_right, Has_cases, Has_flat, Has_flat_from, Has_map, Has_map_from, Has_filter, Has_filter_from, Has_some, Has_some_from}
 use Rattle.mesh_law_query.proofs.Lists.{Each}
 

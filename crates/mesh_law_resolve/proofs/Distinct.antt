@@ -1,13 +1,11 @@
 -- No name stands twice among the output columns of a resolved SELECT.
 use Rattle.std.proofs.Common.{◌≡◌, ℕ, Bool, true, false, not, cond, ◌||◌, List, [], ◌∷◌, map, Ok, refl, sym, ap, ◌∙◌}
 use Rattle.std.specs.List.{AllByRecursion}
-use Rattle.std.specs.Cmp.{Equal-is}
-use Rattle.std.proofs.lemmas.Map.Lookups.{exact_bytes}
-use Rattle.mesh_base_values.specs.Names.{text_cmp}
+use Rattle.std.proofs.lemmas.Bool.{not-true as free, and_from as and_both}
 use Rattle.mesh_base_values.specs.Picked.{same_text}
+use Rattle.mesh_base_values.proofs.Equals.{text_is}
 use Rattle.mesh_base.specs.Outputs.{item_columns}
 use Rattle.mesh_base.specs.rules.Seen.{are_distinct, has_column}
-use Rattle.mesh_list.proofs.Ascends.{and_both}
 use Rattle.mesh_query_grammar.specs.declared.surface.queries.Surface.{Surface}
 use Rattle.mesh_query_grammar.specs.declared.surface.queries.SurfaceSelect.{SurfaceSelect}
 use Rattle.mesh_query_tokens.specs.Gives.{◌>>=◌}
@@ -27,9 +25,6 @@ use Rattle.mesh_resolve.specs.Queries.{resolved}
 use Rattle.mesh_law_resolve.specs.Each.{EachSelect, HasDistinctNames}
 use Rattle.mesh_law_resolve.proofs.Good.{Good, given, then_good, provided_good, each_weaker}
 use Rattle.mesh_law_resolve.proofs.Queries.{each_select, queries_keep}
-
-pub text_is : (a b : List ℕ) → same_text a b ≡ true → a ≡ b
-text_is a b e = exact_bytes a b ((Equal-is (text_cmp a b)).0 e)
 
 turned : (a b : List ℕ) → same_text a b ≡ false → same_text b a ≡ false
 turned a b apart = by_other (same_text b a) refl
@@ -57,10 +52,6 @@ lacks (o ∷ os) name all = neither (same_text o.name name) (has_column (item_co
     neither false false e f = refl
     neither false true e f = f
     neither true t e f = e
-
-free : (b : Bool) → not b ≡ true → b ≡ false
-free true e = absurd (cc)
-free false e = refl
 
 apart : (os : List Output) (taken : Taken) → Good (λ (end : Taken). Apart taken os) (along new_output taken os)
 unfolding along

@@ -2,9 +2,10 @@
 use Rattle.std.proofs.Common.{◌≡◌, ℕ, ℤ, pos, negsuc, zero, suc, Bool, true, false, cond, List, [], ◌∷◌, ◌++◌, map, length, Option, Some, None, Ok, nat_le, refl, ap, ◌∙◌, subst}
 use Rattle.std.specs.List.{AllByRecursion, list_all, slice_get}
 use Rattle.std.specs.Option.{ForSome, option_map}
-use Rattle.mesh_list.proofs.Ascends.{and_both}
+use Rattle.std.proofs.lemmas.Bool.{and_from as and_both}
 use Rattle.mesh_base_values.specs.Picked.{same_text}
 use Rattle.mesh_base_values.specs.declared.values.Column.{Column}
+use Rattle.mesh_base_values.proofs.Equals.{text_itself as text_self}
 use Rattle.mesh_base.specs.declared.expressions.Expr.{Expr, out-Expr}
 use Rattle.mesh_base.specs.declared.queries.Query.{Query}
 use Rattle.mesh_base.specs.declared.queries.Select.{Select}
@@ -41,7 +42,7 @@ use Rattle.mesh_law_resolve.specs.Sight.{known_relations}
 use Rattle.mesh_law_resolve.proofs.Froms.{IsDrawn, condition_seen, conditions_seen, from_drawn, tables}
 use Rattle.mesh_law_resolve.proofs.Good.{AllByRecursion-push, Good, along_good, any, given, none_good, provided_good, some_good, then_good}
 use Rattle.mesh_law_resolve.proofs.Queries.{CtesKeep, QueryKeeps, queries_keep}
-use Rattle.mesh_law_resolve.proofs.Sees.{Standing, Stands, each_append, each_flat, in_columns, sees_columns, text_self, there, typed_seen}
+use Rattle.mesh_law_resolve.proofs.Sees.{Standing, Stands, each_append, each_flat, in_columns, sees_columns, there, typed_seen}
 
 each_at : {X : Type 0} (P : X → Type 0) (xs : List X) (n : ℕ) (x : X) → AllByRecursion P xs → slice_get xs n ≡ Some x → P x
 each_at P [] n x all e = absurd (cc)

@@ -1,17 +1,17 @@
 -- What a definition reads, its sources and its parents, is what is known of the names in its query.
 use Rattle.std.proofs.Common.{◌≡◌, Bool, true, false, ◌&&◌, ◌||◌, not, cond, List, [], ◌∷◌, ◌++◌, map, Option, Some, None, refl, sym, ap, ◌∙◌}
-use Rattle.std.specs.Cmp.{Equal-is}
 use Rattle.std.specs.List.{AllByRecursion, filter, list_all}
 use Rattle.std.specs.Option.{is_some, option_map}
 use Rattle.std.specs.Ordering.{is_eq}
 use Rattle.std.proofs.lemmas.Cmp.{tied_itself}
+use Rattle.std.proofs.lemmas.Bool.{or_right as or_true, or_left as true_or, and_from as and_both}
 use Rattle.mesh_list.specs.Keyed.{found}
-use Rattle.mesh_list.proofs.Ascends.{and_both}
 use Rattle.mesh_list.proofs.Found.{found-placed}
 use Rattle.mesh_base_values.specs.NameOrder.{names_exact, names_total}
 use Rattle.mesh_base_values.specs.Names.{name_cmp}
 use Rattle.mesh_base_values.specs.declared.values.Column.{Column}
 use Rattle.mesh_base_values.specs.declared.values.Name.{Name}
+use Rattle.mesh_base_values.proofs.Equals.{name_is}
 use Rattle.mesh_base.specs.Keys.{input_name}
 use Rattle.mesh_base.specs.declared.definitions.Decl.{Decl}
 use Rattle.mesh_base.specs.declared.definitions.Defn.TheVariants.{Sql}
@@ -30,16 +30,13 @@ use Rattle.mesh_law_resolve.proofs.Agree.{names_there, query_same}
 use Rattle.mesh_law_resolve.proofs.Froms.{columns_of_models, columns_of_sources, columns_of_two}
 use Rattle.mesh_law_resolve.proofs.Good.{each_weaker}
 use Rattle.mesh_law_resolve.proofs.Insight.{all_pass}
-use Rattle.mesh_law_resolve.proofs.Sees.{each_member, or_true, true_or}
+use Rattle.mesh_law_resolve.proofs.Sees.{each_member}
 
 abbrev decl_columns : Decl → List Column
 decl_columns d = d.columns
 
 abbrev input_columns : Input → List Column
 input_columns m = m.columns
-
-name_is : (a b : Name) → is_eq (name_cmp a b) ≡ true → a ≡ b
-name_is a b e = names_exact a b ((Equal-is (name_cmp a b)).0 e)
 
 -- a name among some
 among_all : (before after : List Name) (name : Name) → is_among (before ++ name ∷ after) name ≡ true

@@ -1,10 +1,7 @@
 -- An expression that the walk gives names columns that are there.
-use Rattle.std.proofs.Common.{◌≡◌, ℕ, Bool, true, false, ◌||◌, cond, List, [], ◌∷◌, ◌++◌, map, Option, Some, Ok, refl, sym, ap, ◌∙◌, append_assoc}
+use Rattle.std.proofs.Common.{◌≡◌, ℕ, Bool, true, false, cond, List, [], ◌∷◌, ◌++◌, map, Option, Some, Ok, refl, sym, ap, ◌∙◌, append_assoc}
 use Rattle.std.specs.List.{AllByRecursion, flat_map, list_all, slice_get}
-use Rattle.std.specs.Ordering.{is_eq}
-use Rattle.std.proofs.lemmas.Cmp.{tied_itself}
-use Rattle.mesh_list.proofs.Ascends.{and_both}
-use Rattle.mesh_base_values.specs.NameOrder.{texts_total}
+use Rattle.std.proofs.lemmas.Bool.{or_right as or_true, or_left as true_or, and_from as and_both}
 use Rattle.mesh_base_values.specs.Picked.{same_text}
 use Rattle.mesh_base_values.specs.declared.values.Column.{Column}
 use Rattle.mesh_base.specs.declared.expressions.Expr.{Expr, fold-roll-Expr}
@@ -25,9 +22,6 @@ use Rattle.mesh_law_resolve.proofs.Good.{Good, given, refused, then_good}
 use Rattle.mesh_law_resolve.proofs.Kept.{Closed, kept}
 use Rattle.mesh_law_resolve.proofs.Walks.{walk_keeps}
 
-pub text_self : (a : List ℕ) → same_text a a ≡ true
-text_self a = ap is_eq (tied_itself texts_total a)
-
 -- each of a list made of parts, and of two lists
 pub each_append : {X : Type 0} (P : X → Type 0) (xs ys : List X) → AllByRecursion P xs → AllByRecursion P ys → AllByRecursion P (xs ++ ys)
 each_append P [] ys p q = q
@@ -38,13 +32,6 @@ each_flat P R f h [] all = tt
 each_flat P R f h (x ∷ xs) all = each_append R (f x) (flat_map f xs) (h x all.0) (each_flat P R f h xs all.1)
 
 -- columns of a list have their own names
-pub or_true : (a b : Bool) → b ≡ true → (a || b) ≡ true
-or_true true b e = refl
-or_true false b e = e
-
-pub true_or : (a b : Bool) → a ≡ true → (a || b) ≡ true
-true_or true b e = refl
-true_or false b e = absurd (cc)
 
 -- the columns of a FROM item stand at its place
 abbrev pub Stands : List (List Column) → Seen → Type 0

@@ -2,11 +2,9 @@
 use Rattle.std.proofs.Common.{◌≡◌, ℕ, Bool, true, false, not, cond, Option, Some, None, Ok, List, [], ◌∷◌, ◌++◌, map, length, nat_le, slice_index_or, refl, ap, sym, subst, ◌∙◌}
 use Rattle.std.specs.List.{AllByRecursion as Each}
 use Rattle.std.proofs.lemmas.List.Elements.{recursion_from_All}
-use Rattle.std.specs.Ordering.{is_eq}
-use Rattle.std.specs.Cmp.{tied_itself}
 use Rattle.mesh_base_values.specs.declared.values.Column.{Column}
-use Rattle.mesh_base_values.specs.NameOrder.{texts_total}
 use Rattle.mesh_base_values.specs.Picked.{kind_of, same_text}
+use Rattle.mesh_base_values.proofs.Equals.{text_itself as same_itself}
 use Rattle.mesh_base.specs.declared.expressions.Expr as expr
 use Rattle.mesh_base.specs.declared.queries.Item.{Item}
 use Rattle.mesh_query_grammar.specs.declared.surface.queries.SurfaceItem.{SurfaceItem}
@@ -29,9 +27,6 @@ use Rattle.mesh_law_resolve.proofs.TypingMeets.{Holds, Meets, typed_holds}
 use Rattle.mesh_law_resolve.proofs.TypingOperands.{of_column}
 use Rattle.mesh_law_resolve.proofs.TypingLists.{each_map, each_append}
 use Rattle.mesh_law_resolve.proofs.TypingSight.{column_here}
-
-same_itself : (t : List ℕ) → same_text t t ≡ true
-same_itself t = ap is_eq (tied_itself texts_total t)
 
 each_both : {X : Type 0} (P R S : X → Type 0) → ((x : X) → P x → R x → S x) → (xs : List X) → Each P xs → Each R xs → Each S xs
 each_both P R S h [] p r = tt

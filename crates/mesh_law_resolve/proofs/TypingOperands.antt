@@ -1,7 +1,7 @@
 -- When the operands of an expression fit, by its form.
 use Rattle.std.proofs.Common.{◌≡◌, ℕ, Bool, true, false, cond, ◌&&◌, ◌||◌, Option, Some, None, List, [], ◌∷◌, ◌++◌, map, refl, ap, sym, ◌∙◌}
 use Rattle.std.specs.List.{AllByRecursion as Each, list_all, list_any}
-use Rattle.std.proofs.lemmas.Bool.{and_parts, and_from}
+use Rattle.std.proofs.lemmas.Bool.{and_parts, and_from, or_left as or_first, or_right as or_second}
 use Rattle.mesh_base_values.specs.declared.values.Cell.{Cell}
 use Rattle.mesh_base_values.specs.declared.values.Cell.TheVariants as cell
 use Rattle.mesh_base_values.specs.declared.values.ColType.{ColType}
@@ -146,13 +146,6 @@ of_case ws otherwise s t v a o =
     (and_from (list_all (λ (w : ArmPart). w.1 s) (arm_parts ws)) (operands_fit otherwise s) (arm_answers s ws ∙ a) o)
 
 -- cells of one type
-or_first : (a b : Bool) → a ≡ true → (a || b) ≡ true
-or_first true b h = refl
-or_first false b h = absurd (cc)
-
-or_second : (a b : Bool) → b ≡ true → (a || b) ≡ true
-or_second true b h = refl
-or_second false b h = h
 
 any_of : List Cell → List ColType → Bool
 any_of cells kinds = list_any (λ kind. list_all (is_of kind) cells) kinds

@@ -2,7 +2,8 @@
 use Rattle.std.proofs.Common.{◌≡◌, ℕ, ℤ, Bool, true, false, ◌&&◌, ◌||◌, not, List, [], ◌∷◌, Option, Some, None, Ok, refl, sym, ap, ◌∙◌}
 use Rattle.std.specs.List.{AllByRecursion, list_all, list_any}
 use Rattle.std.specs.Option.{is_some}
-use Rattle.mesh_list.proofs.Ascends.{and_both, and_left}
+use Rattle.std.proofs.lemmas.Bool.{or_right as or_true, or_left as true_or, and_from as and_both}
+use Rattle.mesh_list.proofs.Ascends.{and_left}
 use Rattle.mesh_base_values.specs.Kinds.{is_incremental, time_column}
 use Rattle.mesh_base_values.specs.Picked.{same_text}
 use Rattle.mesh_base_values.specs.Types.{same_type}
@@ -32,7 +33,6 @@ use Rattle.mesh_law_resolve.proofs.Distinct.{distinct_names}
 use Rattle.mesh_law_resolve.proofs.Good.{Good, given, provided_good, refused, then_good}
 use Rattle.mesh_law_resolve.proofs.Insight.{resolved_seen}
 use Rattle.mesh_law_resolve.proofs.Origins.{names_known, parents_named, seen_of_read}
-use Rattle.mesh_law_resolve.proofs.Sees.{or_true, true_or}
 
 -- a column that keeps time is a column of its name
 time_there : (time : List ℕ) (columns : List Column) → list_any (keeps_time time) columns ≡ true → has_column columns time ≡ true

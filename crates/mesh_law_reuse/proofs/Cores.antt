@@ -7,6 +7,7 @@ use Rattle.mesh_base_values.specs.NameOrder.{names_exact}
 use Rattle.mesh_base_values.specs.Names.{name_cmp}
 use Rattle.mesh_base_values.specs.declared.times.Bounds.{Bounds}
 use Rattle.mesh_base_values.specs.declared.values.Name.{Name}
+use Rattle.mesh_base_values.proofs.Equals.{equal_of}
 use Rattle.mesh_base.specs.declared.definitions.Own.{Own}
 use Rattle.mesh_base.specs.declared.jobs.Input.{Input}
 use Rattle.mesh_spec_model.specs.Closures.{Closure, Closures, Model, Alone, With, own_of}
@@ -16,7 +17,6 @@ use Rattle.mesh_spec_model.specs.Sources.{declared, inputs}
 use Rattle.mesh_law_query.specs.Alike.{named}
 use Rattle.mesh_law_query.specs.Reads.{reads}
 use Rattle.mesh_law_query.specs.Cuts.{cut, AgreeOnReads}
-use Rattle.mesh_law_query.proofs.Amounts.{equal_of}
 use Rattle.mesh_law_query.proofs.ReadColumns.{Str}
 use Rattle.mesh_law_query.proofs.Reading.{over_read, piece_read}
 use Rattle.mesh_spec_changes.specs.reuse.Cores.{pruned_own, pruned, pruned_for, core}

@@ -1,6 +1,6 @@
 -- A plan, worked out by hand: a model gains a column, and what reads another column of it is given the table that it
 -- had.
-use Rattle.std.proofs.Common.{◌≡◌, ℕ, pos, true, ◌⊎◌, inl, inr, List, [], ◌∷◌, map, length, refl, ap, sym, ◌∙◌, subst, arith}
+use Rattle.std.proofs.Common.{◌≡◌, ℕ, pos, true, ◌⊎◌, inl, inr, List, [], ◌∷◌, map, length, refl, ap, ◌∙◌, subst, arith}
 use Rattle.std.specs.Prelude.{codes}
 use Rattle.std.specs.List.{All, AllByRecursion, Contains, fold}
 use Rattle.std.specs.declared.option.Option.TheVariants.{None, Some}

@@ -7,7 +7,7 @@ use Rattle.std.specs.declared.option.Option.TheVariants.{None, Some}
 use Rattle.std.proofs.lemmas.Bool.{and_parts, eqb-true}
 use Rattle.std.proofs.lemmas.List.{map-append}
 use Rattle.std.proofs.lemmas.List.Elements.{All-nil, All-cons, All-append}
-use Rattle.std.proofs.lemmas.Option.{slice_get_within}
+use Rattle.std.proofs.lemmas.Option.{slice_get_within, slice_get-get_or as get_there}
 use Rattle.mesh_list.specs.Keyed.{ascends}
 use Rattle.mesh_base.specs.Outputs.{columns_of}
 use Rattle.mesh_base.specs.declared.definitions.Own.{Own}
@@ -113,11 +113,6 @@ module _ (nodes : List Node) (h : is_proper nodes ≡ true) where
 
 pub project_well_at : (nodes : List Node) → is_proper nodes ≡ true → (i : ℕ) (c : Closure) → slice_get (closures nodes) i ≡ Some c → AreWell c
 project_well_at nodes h i c e = below nodes h (suc i) i (omega arith) c e
-
-get_there : {X : Type 0} (xs : List X) (k : ℕ) (d : X) → k < length xs → slice_get xs k ≡ Some (get_or xs k d)
-get_there [] k d l = absurd (omega (arith, l))
-get_there (x ∷ xs) zero d l = refl
-get_there (x ∷ xs) (suc k) d l = get_there xs k d (omega (arith, l))
 
 pub projects_well : (nodes : List Node) → is_proper nodes ≡ true → All AreWell (closures nodes)
 projects_well nodes h k d l = below nodes h (suc k) k (omega arith) (get_or (closures nodes) k d) (get_there (closures nodes) k d l)

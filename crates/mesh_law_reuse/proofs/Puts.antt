@@ -10,6 +10,7 @@ use Rattle.std.proofs.lemmas.Cmp.{tied_itself}
 use Rattle.std.proofs.lemmas.Map.Lookups.{CmpEqualImpliesEq}
 use Rattle.mesh_list.specs.Keyed.{exchanged, found}
 use Rattle.mesh_list.proofs.Found.{found-placed}
+use Rattle.mesh_base_values.proofs.Equals.{equal_of}
 use Rattle.mesh_base.specs.Keys.{ref_cmp, refs_exact, refs_total, snapshot_ref}
 use Rattle.mesh_base.specs.declared.forgets.Restate.{Restate}
 use Rattle.mesh_base.specs.declared.snapshots.Node.{Node}
@@ -20,7 +21,6 @@ use Rattle.mesh_house_book.specs.Changes.{put, put_for, put_snapshot}
 use Rattle.mesh_house_book.specs.declared.book.Book.{Book}
 use Rattle.mesh_house_book.specs.WellFormed.{is_well_formed_book, snapshot_at}
 use Rattle.mesh_spec_model.specs.Horizons.{Clock}
-use Rattle.mesh_law_query.proofs.Amounts.{equal_of}
 use Rattle.mesh_law_query.proofs.Has.{Has, Has_from, Has_to}
 use Rattle.mesh_spec_changes.specs.listed.Closing.{IsAlike, IsSnapshot}
 use Rattle.mesh_spec_changes.proofs.listed.Books.{is_its_own, its_ref}

@@ -4,6 +4,7 @@ use Rattle.std.specs.List.{filter, flat_map}
 use Rattle.std.specs.declared.option.Option.{Option}
 use Rattle.std.specs.declared.option.Option.TheVariants.{None, Some}
 use Rattle.std.proofs.lemmas.List.{map-append}
+use Rattle.std.proofs.lemmas.Bool.{or_right as later}
 use Rattle.mesh_base_values.specs.Kinds.{is_incremental, time_column}
 use Rattle.mesh_base_values.specs.Picked.{same_text, cell_of, picked_row}
 use Rattle.mesh_base_values.specs.declared.times.Bounds.{Bounds}
@@ -23,7 +24,6 @@ use Rattle.mesh_spec_query.specs.Sel.{Joined, Group, holds, row_scope, row_holds
 use Rattle.mesh_spec_model.specs.Scratch.{no_bounds, defn_rows, lies_by, is_of_unit, piece_over, rows_over, table_of}
 use Rattle.mesh_law_query.specs.Cuts.{cut}
 use Rattle.mesh_law_query.proofs.ReadColumns.{Str, among, text_is, text_self}
-use Rattle.mesh_law_query.proofs.Cutting.{later}
 use Rattle.mesh_law_query.proofs.Lists.{Each}
 use Rattle.mesh_law_query.proofs.Reading.{Row}
 use Rattle.mesh_spec_changes.specs.reuse.Cores.{is_time, is_wanted, pruned_selects, pruned_defn, pruned_own}

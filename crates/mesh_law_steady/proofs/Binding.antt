@@ -1,9 +1,10 @@
 -- Where a condition that binds a column to a unit is true, the column's time lies in the unit, or on its day before it.
-use Rattle.std.proofs.Common.{◌≡◌, ℕ, Bool, true, false, ◌||◌, List, refl, sym, ap, ◌∙◌, subst}
+use Rattle.std.proofs.Common.{◌≡◌, ℕ, Bool, true, ◌||◌, List, refl, sym, ap, ◌∙◌, subst}
 use Rattle.std.specs.Prelude.{nat_eq}
 use Rattle.std.proofs.lemmas.Bool.{and_parts, eqb-true}
 use Rattle.mesh_base_values.specs.Picked.{same_text}
 use Rattle.mesh_base_values.specs.declared.times.Bounds.{Bounds}
+use Rattle.mesh_base_values.proofs.Tests.{or_cases as either}
 use Rattle.mesh_base.specs.declared.expressions.Expr.{Expr, roll-Expr, out-Expr, out-roll-Expr, map-Expr, ind-Expr, para-roll-Expr}
 use Rattle.mesh_base.specs.declared.expressions.Expr.TheOpen.{Expr-F, Literal, Col, Macro, Binary, Neg, Not, IsNull, Between, OneOf, Cast, Call, Case, CountAll, Agg}
 use Rattle.mesh_base.specs.declared.expressions.Op.{Op}
@@ -106,10 +107,6 @@ is_the_and op.Mul h = absurd (cc)
 is_the_and op.Div h = absurd (cc)
 is_the_and op.Rem h = absurd (cc)
 is_the_and op.Cat h = absurd (cc)
-
-either : {P : Type 0} (a b : Bool) → (a || b) ≡ true → (a ≡ true → P) → (b ≡ true → P) → P
-either true b h f g = f refl
-either false b h f g = g h
 
 module _ (item : ℕ) (name : List ℕ) (u : Bounds) (of : IsOfDay u) (row : Seen) where
   abbrev P : Expr → Type 0

@@ -1,8 +1,7 @@
 -- Each day of the calendar has a text, which names it.
-use Rattle.std.proofs.Common.{◌≡◌, ℕ, zero, suc, ◌+◌, ◌<◌, ◌≤◌, ℤ, pos, negsuc, ◌+ℤ◌, ◌<ℤ◌, ◌≤ℤ◌, ◌⊎◌, inl, inr, Some, true, false, refl, ap, sym, ◌∙◌, subst, arith, rules, unsigned_abs}
-use Rattle.std.proofs.Math.Dec.{leb}
-use Rattle.std.proofs.lemmas.Bool.Decides.{leb_tells}
+use Rattle.std.proofs.Common.{◌≡◌, ℕ, zero, suc, ◌+◌, ◌<◌, ◌≤◌, ℤ, pos, negsuc, ◌+ℤ◌, ◌<ℤ◌, ◌≤ℤ◌, Some, refl, ap, sym, ◌∙◌, subst, arith, rules, unsigned_abs}
 use Rattle.std.proofs.lemmas.Int.{by_lt_z}
+use Rattle.mesh_base_values.proofs.Tests.{by_lt}
 use Rattle.jiff_core.specs.declared.civil.date.Date.{Date}
 use Rattle.jiff_core.specs.Calendar.{days_in_month, days_from_civil, day_count, days_of_years, days_of_months}
 use Rattle.jiff_core.specs.Date.{epoch_day}
@@ -53,13 +52,6 @@ next_year n d last l below =
       late = let y = d.late in omega (arith, signed_arith);
       day = days_from_civil-next_year t.year (t.year +ℤ pos 1) (omega (arith, signed_arith, t.year_in.0)) refl ∙ ap (λ z. z +ℤ pos 1) (sym is ∙ d.day);
     }
-
-pub by_lt : {P : Type 0} (a b : ℕ) → (a < b → P) → (b ≤ a → P) → P
-by_lt {P} a b f g = go (leb_tells b a)
-  where
-    go : ((leb b a ≡ true) × (b ≤ a)) ⊎ ((leb b a ≡ false) × (a < b)) → P
-    go (inl h) = g h.1
-    go (inr h) = f h.1
 
 tomorrow : (n : ℤ) → Dated n → n <ℤ pos 2_932_896 → Dated (n +ℤ pos 1)
 tomorrow n d below =

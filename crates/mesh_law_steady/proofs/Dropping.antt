@@ -1,5 +1,5 @@
 -- The rows of a FROM over tables without the rows that no condition lets through.
-use Rattle.std.proofs.Common.{◌≡◌, ℕ, suc, Bool, true, false, cond, ◌||◌, List, [], ◌∷◌, ◌++◌, length, refl, sym, ap, ◌∙◌, subst}
+use Rattle.std.proofs.Common.{◌≡◌, ℕ, suc, Bool, true, false, cond, List, [], ◌∷◌, ◌++◌, length, refl, sym, ap, ◌∙◌, subst}
 use Rattle.std.specs.Prelude.{slice_index_or}
 use Rattle.std.specs.List.{filter, flat_map, fold}
 use Rattle.std.specs.declared.option.Option.{Option}
@@ -9,6 +9,7 @@ use Rattle.mesh_base_values.specs.declared.times.Bounds.{Bounds}
 use Rattle.mesh_base_values.specs.declared.values.Cell.{Cell}
 use Rattle.mesh_base_values.specs.declared.values.Column.{Column}
 use Rattle.mesh_base_values.specs.Picked.{cell_of}
+use Rattle.mesh_base_values.proofs.Tests.{or_cases as either}
 use Rattle.mesh_base.specs.declared.expressions.Expr.{Expr}
 use Rattle.mesh_base.specs.declared.jobs.Input.{Input}
 use Rattle.mesh_base.specs.declared.queries.FromItem.{FromItem}
@@ -31,10 +32,6 @@ Row = List Cell
 not_both : {P : Type 0} (b : Bool) → b ≡ true → b ≡ false → P
 not_both true e f = absurd (cc)
 not_both false e f = absurd (cc)
-
-either : {P : Type 0} (a b : Bool) → (a || b) ≡ true → (a ≡ true → P) → (b ≡ true → P) → P
-either true b h f g = f refl
-either false b h f g = g h
 
 -- a table's rows whose time lies in the unit, or on its day before it
 abbrev pub near_rows : Bounds → List Column → List ℕ → List Row → List Row

@@ -9,7 +9,7 @@ use Rattle.std.specs.declared.cmp.Ordering.{Ordering}
 use Rattle.std.specs.declared.cmp.Ordering.TheVariants.{Less, Equal, Greater}
 use Rattle.std.specs.declared.option.Option.{Option}
 use Rattle.std.specs.declared.option.Option.TheVariants.{Some}
-use Rattle.std.proofs.lemmas.Bool.{and_parts}
+use Rattle.std.proofs.lemmas.Bool.{and_parts, and_from as and_true}
 use Rattle.std.proofs.lemmas.Cmp.{int_ranked}
 use Rattle.std.proofs.lemmas.Int.{ints}
 use Rattle.std.proofs.lemmas.Map.Lookups.{exact_bytes}
@@ -17,10 +17,10 @@ use Rattle.jiff_core.proofs.SignedLemmas.{signed_arith, int_div_euclid-parts}
 use Rattle.mesh_base_values.specs.declared.times.Bounds.{Bounds}
 use Rattle.mesh_base_values.specs.declared.values.Cell.{Cell}
 use Rattle.mesh_base_values.specs.declared.values.Cell.TheVariants.{Null, Int, Text, Date, Bool as Truth}
+use Rattle.mesh_base_values.proofs.Tests.{lt_true, le_true, le_says}
 use Rattle.mesh_base.specs.declared.expressions.Var.{Var}
 use Rattle.mesh_base.specs.declared.expressions.Var.TheVariants.{StartDate, EndDate, StartDs, EndDs, StartEpoch, EndEpoch}
 use Rattle.mesh_time_days.specs.Moments.{IsDayNumber}
-use Rattle.mesh_time.proofs.Apart.{and_true, le_says, le_true, lt_true}
 use Rattle.mesh_time_days.specs.seconds.Times.{first_second, is_within, time_of}
 use Rattle.mesh_time_days.specs.casts.Casts.{cast_to_text}
 use Rattle.mesh_time_days.specs.casts.Dates.{day_named, day_text, is_day_number}

@@ -1,6 +1,7 @@
 -- What stands below an even model is even; so laws of models may ask it of the model alone.
 use Rattle.std.proofs.Common.{◌≡◌, Bool, true, false, not, ◌&&◌, ◌||◌, List, [], ◌∷◌, refl, sym, ap, ◌∙◌}
 use Rattle.std.specs.List.{Contains, list_any}
+use Rattle.std.proofs.lemmas.Bool.{not-true as not_true}
 use Rattle.mesh_base_values.specs.Bag.{IsSameBag}
 use Rattle.mesh_base_values.specs.Kinds.{is_incremental}
 use Rattle.mesh_base_values.specs.declared.kinds.Kind.TheVariants.{Full}
@@ -35,10 +36,6 @@ module _ (P : Closure → Type 0) where
 any_none : {X : Type 0} (p : X → Bool) (xs : List X) → Each (λ x. p x ≡ false) xs → list_any p xs ≡ false
 any_none p [] h = refl
 any_none p (x ∷ xs) h = λ i. h.0 i || any_none p xs h.1 i
-
-not_true : (b : Bool) → not b ≡ true → b ≡ false
-not_true true h = absurd (cc)
-not_true false h = refl
 
 all_fine : (before after : List Input) (clock later : Clock) (cs : List Closure) → Each (IsKept before after clock later) cs → Each (λ d. Each (λ s. is_uneven s ≡ false) (standing d)) cs → Each (Fine before after clock later) cs
 all_fine before after clock later [] h e = tt

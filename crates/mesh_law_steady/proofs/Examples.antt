@@ -16,6 +16,7 @@ use Rattle.mesh_base_values.specs.declared.values.Cell.{Cell}
 use Rattle.mesh_base_values.specs.declared.values.Cell.TheVariants as cell
 use Rattle.mesh_base_values.specs.declared.values.ColType.TheVariants as type
 use Rattle.mesh_base_values.specs.declared.values.Name.{Name}
+use Rattle.mesh_base_values.proofs.Tests.{le_says}
 use Rattle.mesh_base.specs.declared.definitions.Decl.{Decl}
 use Rattle.mesh_base.specs.declared.definitions.Defn.TheVariants as defn
 use Rattle.mesh_base.specs.declared.definitions.Own.{Own}
@@ -28,7 +29,6 @@ use Rattle.mesh_base.specs.declared.jobs.Input.{Input}
 use Rattle.mesh_base.specs.declared.queries.Item.{Item}
 use Rattle.mesh_base.specs.declared.queries.Join.TheVariants as join
 use Rattle.mesh_base.specs.declared.queries.Rel.TheVariants as rel
-use Rattle.mesh_time.proofs.Apart.{le_says}
 use Rattle.mesh_spec_query.specs.Cells.{between}
 use Rattle.mesh_spec_query.specs.Ev.{Ev, Seen, at_row, node_value, valued}
 use Rattle.mesh_spec_query.specs.Macros.{macro_value}

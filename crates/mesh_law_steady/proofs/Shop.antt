@@ -17,6 +17,7 @@ use Rattle.mesh_base_values.specs.declared.kinds.Kind.TheVariants as kind
 use Rattle.mesh_base_values.specs.declared.times.Bounds.{Bounds}
 use Rattle.mesh_base_values.specs.declared.values.Column.{Column}
 use Rattle.mesh_base_values.specs.declared.values.Name.{Name}
+use Rattle.mesh_base_values.proofs.Tests.{le_says}
 use Rattle.mesh_base.specs.Keys.{ref_cmp, snapshot_ref}
 use Rattle.mesh_base.specs.Outputs.{columns_of}
 use Rattle.mesh_base.specs.declared.definitions.Own.{Own}
@@ -30,7 +31,6 @@ use Rattle.mesh_base.specs.declared.snapshots.Ref.{Ref}
 use Rattle.mesh_base.specs.declared.snapshots.Snapshot.{Snapshot}
 use Rattle.mesh_base.specs.rules.Seen.{column_at, is_select_seen, select_sees, sees, sees_here, when_sees}
 use Rattle.mesh_time.specs.Ranges.{Has, IsWithin, is_apart, is_held}
-use Rattle.mesh_time.proofs.Apart.{le_says}
 use Rattle.mesh_house_book.specs.Changes.{version_object}
 use Rattle.mesh_house_book.specs.declared.book.Book.{Book}
 use Rattle.mesh_house_book.specs.declared.versions.Version.{Version}

@@ -5,7 +5,7 @@ use Rattle.std.specs.Int.Signed.{le_z, lt_z}
 use Rattle.std.specs.Option.{is_some}
 use Rattle.std.specs.declared.option.Option.{Option}
 use Rattle.std.specs.declared.option.Option.TheVariants.{None, Some}
-use Rattle.std.proofs.lemmas.Bool.{and_parts}
+use Rattle.std.proofs.lemmas.Bool.{and_parts, not-true as not_true, or_parts as neither}
 use Rattle.std.proofs.lemmas.Int.{ints}
 use Rattle.std.proofs.lemmas.List.Elements.{filter-append}
 use Rattle.mesh_base_values.specs.Bag.{IsSameBag, times}
@@ -26,10 +26,11 @@ use Rattle.mesh_base.specs.declared.definitions.Own.{Own}
 use Rattle.mesh_base.specs.declared.jobs.Input.{Input}
 use Rattle.mesh_base.specs.rules.Proper.{defn_names, is_body_of}
 use Rattle.mesh_time.specs.Ranges.{unit_at, unit_count, units}
-use Rattle.mesh_time.proofs.Apart.{le_says, lt_false}
+use Rattle.mesh_time.proofs.Apart.{lt_false}
 use Rattle.mesh_time.proofs.Units.{unit_listed}
 use Rattle.mesh_time_days.specs.seconds.Times.{is_within, lies_in, time_of}
 use Rattle.mesh_base_values.specs.Picked.{cell_of}
+use Rattle.mesh_base_values.proofs.Tests.{by_lt, le_says}
 use Rattle.mesh_spec_model.specs.Closures.{Closure, Closures, Model, Alone, With, ancestors, each_of, own_of, standing}
 use Rattle.mesh_spec_model.specs.Horizons.{Clock, horizon, schedule, units_from}
 use Rattle.mesh_spec_model.specs.Scratch.{defn_rows, from_scratch, inputs_of, lies_by, no_bounds, piece, piece_over, rows_over, table_of, tables}
@@ -47,10 +48,9 @@ use Rattle.mesh_law_steady.specs.Days.{IsOfDay}
 use Rattle.mesh_law_steady.specs.Kept.{IsKept}
 use Rattle.mesh_law_steady.specs.Near.{inputs_with, near, near_model, near_source}
 use Rattle.mesh_law_steady.proofs.Both.{all_of}
-use Rattle.mesh_law_steady.proofs.Dates.{by_lt}
 use Rattle.mesh_law_steady.proofs.Finding.{finds, found_with, near_piece, tables_are}
 use Rattle.mesh_law_steady.proofs.Names.{MayName, may_find, may_read, names_read}
-use Rattle.mesh_law_steady.proofs.Units.{FitUnits, IsUnitOf, behind, fit_units, neither, no_further, of_day, unit_of_schedule}
+use Rattle.mesh_law_steady.proofs.Units.{FitUnits, IsUnitOf, behind, fit_units, no_further, of_day, unit_of_schedule}
 
 abbrev Row : Type 0
 Row = List Cell
@@ -124,10 +124,6 @@ has_each P (y ∷ ys) x h (inr i) = has_each P ys x h.1 i
 
 pub same_list : {xs ys : List Row} → xs ≡ ys → IsSameBag xs ys
 same_list {xs} {ys} e = let P : List Row → Type 0 = λ l. IsSameBag xs l in subst P e (λ row. refl)
-
-not_true : (b : Bool) → not b ≡ true → b ≡ false
-not_true true h = absurd (cc)
-not_true false h = refl
 
 pub untimed : (d : Decl) → is_timed_source d ≡ false → d.time ≡ None
 untimed d h = go d.time h

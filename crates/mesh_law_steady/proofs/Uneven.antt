@@ -33,7 +33,7 @@ use Rattle.mesh_base.specs.declared.queries.Join.TheVariants as join
 use Rattle.mesh_base.specs.declared.queries.Rel.TheVariants as rel
 use Rattle.mesh_base.specs.declared.queries.Select.{Select}
 use Rattle.mesh_base_values.specs.Kinds.{is_incremental}
-use Rattle.mesh_time.proofs.Apart.{le_says}
+use Rattle.mesh_base_values.proofs.Tests.{le_says}
 use Rattle.mesh_spec_query.specs.Cells.{between, is_true}
 use Rattle.mesh_spec_query.specs.Ev.{Ev, Seen, at_row, node_value, seen, valued}
 use Rattle.mesh_spec_query.specs.Macros.{macro_value}

@@ -8,6 +8,7 @@ use Rattle.std.specs.Ordering.{is_eq}
 use Rattle.std.specs.declared.option.Option.{Option}
 use Rattle.std.specs.declared.option.Option.TheVariants.{None, Some}
 use Rattle.std.proofs.lemmas.List.Elements.{All-nil}
+use Rattle.std.proofs.lemmas.Bool.{not-false as is_so}
 use Rattle.mesh_list.specs.Keyed.{found}
 use Rattle.mesh_base_values.specs.Crons.{count_below, has, has_date, has_day, is_cron, is_set, some_below}
 use Rattle.mesh_base_values.specs.Names.{name_cmp}
@@ -15,6 +16,7 @@ use Rattle.mesh_base_values.specs.NameOrder.{names_exact}
 use Rattle.mesh_base_values.specs.declared.times.Bounds.{Bounds}
 use Rattle.mesh_base_values.specs.declared.values.Column.{Column}
 use Rattle.mesh_base_values.specs.declared.values.Name.{Name}
+use Rattle.mesh_base_values.proofs.Tests.{le_says}
 use Rattle.mesh_base.specs.Keys.{ref_cmp, snapshot_ref}
 use Rattle.mesh_base.specs.Outputs.{columns_of}
 use Rattle.mesh_base.specs.declared.definitions.Own.{Own}
@@ -30,7 +32,6 @@ use Rattle.mesh_base.specs.declared.snapshots.Ref.{Ref}
 use Rattle.mesh_base.specs.declared.snapshots.Snapshot.{Snapshot}
 use Rattle.mesh_base.specs.rules.Seen.{column_at, is_select_seen, select_sees, sees, sees_here, when_sees}
 use Rattle.mesh_time.specs.Ranges.{Has, IsWithin, is_apart, is_held}
-use Rattle.mesh_time.proofs.Apart.{le_says}
 use Rattle.mesh_house_book.specs.Changes.{version_object}
 use Rattle.mesh_house_book.specs.declared.book.Book.{Book}
 use Rattle.mesh_house_book.specs.declared.versions.Version.{Version}
@@ -237,10 +238,6 @@ steady = each_snapshot (λ s. is_steady (closing all s) ≡ true) refl (bound_by
 not_both : (p q : Bool) → p ≡ true → (p && q) ≡ false → q ≡ false
 not_both true q e h = h
 not_both false q e h = absurd (cc)
-
-is_so : (q : Bool) → not q ≡ false → q ≡ true
-is_so true h = refl
-is_so false h = absurd (cc)
 
 -- what stays is one bag
 stays : (clock later : Clock) → Shows clock (pos 86_400) → moved w clock later [] (Range c.object hour.start hour.end) ≡ false → same_bag (piece [] clock hours_again hour) (piece [] later hours_again hour) ≡ true

@@ -6,6 +6,7 @@ use Rattle.std.specs.List.{Contains, list_any, range_with_len}
 use Rattle.std.specs.declared.option.Option.{Option}
 use Rattle.std.specs.declared.option.Option.TheVariants.{None, Some}
 use Rattle.std.proofs.lemmas.Int.{by_lt_z, ints}
+use Rattle.std.proofs.lemmas.Bool.{or_parts as neither}
 use Rattle.jiff_core.proofs.SignedLemmas.{signed_arith, int_div_euclid-parts}
 use Rattle.mesh_base_values.specs.Kinds.{is_incremental}
 use Rattle.mesh_base_values.specs.declared.times.Bounds.{Bounds}
@@ -24,9 +25,6 @@ use Rattle.mesh_law_steady.specs.Days.{IsOfDay}
 use Rattle.mesh_spec_changes.proofs.due.Later.{Each_both}
 
 -- neither is true
-pub neither : (a b : Bool) → (a || b) ≡ false → (a ≡ false) × (b ≡ false)
-neither false b h = (refl, h)
-neither true b h = absurd (cc)
 
 -- a unit of a schedule: so many others stand before it
 pub record IsUnitOf (start : Option ℤ) (unit : TimeUnit) (last : ℤ) (u : Bounds) : Type 0 where

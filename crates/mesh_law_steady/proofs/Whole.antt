@@ -3,6 +3,7 @@ use Rattle.std.proofs.Common.{◌≡◌, Bool, true, false, not, ◌&&◌, ◌||
 use Rattle.std.specs.List.{flat_map, list_any}
 use Rattle.std.specs.Ordering.{is_eq}
 use Rattle.std.specs.declared.option.Option.TheVariants.{Some}
+use Rattle.std.proofs.lemmas.Bool.{or_parts as neither}
 use Rattle.mesh_base_values.specs.Bag.{IsSameBag, times}
 use Rattle.mesh_base_values.specs.Kinds.{is_incremental}
 use Rattle.mesh_base_values.specs.Names.{name_cmp}
@@ -23,7 +24,6 @@ use Rattle.mesh_law_query.proofs.Perm.{Perm, appended, is, nil, trans}
 use Rattle.mesh_spec_changes.specs.steady.Arrives.{StaysStatic}
 use Rattle.mesh_spec_changes.specs.steady.Steady.{has_timed_source, is_timed_source, parents_reach_timed, reaches_timed}
 use Rattle.mesh_law_steady.proofs.Both.{all_of}
-use Rattle.mesh_law_steady.proofs.Units.{neither}
 use Rattle.mesh_law_steady.proofs.Staying.{Fine, at_once, by_units, pieces_stay, same_list, source_same, untimed}
 
 flat_there : {X Y : Type 0} (f g : X → List Y) (xs : List X) → ((x : X) → Has x xs → Perm (f x) (g x)) → Perm (flat_map f xs) (flat_map g xs)

@@ -4,10 +4,10 @@ use Rattle.std.specs.List.{All, AllByRecursion, list_all, list_any}
 use Rattle.std.specs.Option.{option_map}
 use Rattle.std.specs.declared.option.Option.{Option}
 use Rattle.std.specs.declared.option.Option.TheVariants.{None, Some}
-use Rattle.std.proofs.lemmas.Bool.{and_parts}
+use Rattle.std.proofs.lemmas.Bool.{and_parts, and_from as and_both}
 use Rattle.std.proofs.lemmas.Bool.Decides.{nat_tests}
 use Rattle.mesh_list.specs.Keyed.{ascends, below_first}
-use Rattle.mesh_list.proofs.Ascends.{and_left, and_right, and_both}
+use Rattle.mesh_list.proofs.Ascends.{and_left, and_right}
 use Rattle.mesh_list.proofs.Each.{each_found}
 use Rattle.mesh_base_values.specs.Bag.{IsSameBag, times}
 use Rattle.mesh_base_values.specs.Kinds.{is_incremental}

@@ -11,13 +11,15 @@ use Rattle.std.specs.Cmp.{IsTotalOrder}
 use Rattle.std.proofs.lemmas.Cmp.{on_total, then_total, tied_itself}
 use Rattle.std.proofs.lemmas.Map.Keys.{sorted_head, sorted_tail}
 use Rattle.std.proofs.lemmas.Map.Lookups.{exact_bytes, exact_pairs, CmpEqualImpliesEq}
+use Rattle.std.proofs.lemmas.Bool.{and_from as and_both}
 use Rattle.mesh_list.specs.Keyed.{ascends, below_first, found, placed, put_by}
-use Rattle.mesh_list.proofs.Ascends.{and_both, and_left, and_right, ascends-placed}
+use Rattle.mesh_list.proofs.Ascends.{and_left, and_right, ascends-placed}
 use Rattle.mesh_list.proofs.Each.{found-above, found-behind, found-itself, lt_is}
 use Rattle.mesh_list.proofs.Found.{found-placed}
 use Rattle.mesh_base_values.specs.declared.values.Name.{Name}
 use Rattle.mesh_base_values.specs.Names.{name_cmp, text_cmp}
 use Rattle.mesh_base_values.specs.NameOrder.{names_exact, names_total, texts_total, then_equal}
+use Rattle.mesh_base_values.proofs.Equals.{equal_of as equal_is}
 use Rattle.mesh_base.specs.declared.definitions.Reading.{Reading}
 use Rattle.mesh_law_query.specs.Reads.{in_order, reading_cmp, reading_itself}
 use Rattle.mesh_law_query.proofs.Has.{Has}
@@ -48,11 +50,6 @@ in_order_ascends (r ∷ rs) = ascends-placed reading_cmp readings_total reading_
 found_in_order : (k : Reading) (rs : List Reading) → at k (in_order rs) ≡ at k rs
 found_in_order k [] = refl
 found_in_order k (x ∷ rs) = found-placed reading_cmp readings_exact reading_itself x k (in_order rs) ∙ ap (cond (is_eq (reading_cmp x k)) (Some x)) (found_in_order k rs)
-
-equal_is : (o : Ordering) → is_eq o ≡ true → o ≡ Equal
-equal_is Less h = cc
-equal_is Equal h = refl
-equal_is Greater h = cc
 
 -- what stands in a list is found by itself, and what is found stands there
 found_there : (k : Reading) (rs : List Reading) → Has k rs → at k rs ≡ Some k

@@ -7,8 +7,9 @@ use Rattle.std.specs.declared.cmp.Ordering.{Ordering}
 use Rattle.std.specs.declared.cmp.Ordering.TheVariants.{Less, Equal, Greater}
 use Rattle.std.specs.Ordering.{is_lt, is_eq, ordering_reverse}
 use Rattle.std.specs.Cmp.{IsTotalOrder, Equal-is}
+use Rattle.std.proofs.lemmas.Bool.{and_from as and_both}
 use Rattle.mesh_list.specs.Keyed.{found, put_by, placed, without, exchanged, below_first, ascends, place_of, first_at}
-use Rattle.mesh_list.proofs.Ascends.{and_left, and_right, and_both, below_same}
+use Rattle.mesh_list.proofs.Ascends.{and_left, and_right, below_same}
 use Rattle.mesh_list.proofs.Each.{lt_is, below_later}
 
 lt_not_eq : (o : Ordering) → is_lt o ≡ true → is_eq o ≡ false

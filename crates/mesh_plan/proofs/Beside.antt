@@ -1,15 +1,14 @@
 -- What a project is compared with, as the promise sees it.
 use Rattle.std.proofs.Common.{◌≡◌, ℕ, zero, suc, Bool, true, false, cond, inl, inr, List, [], ◌∷◌, map, Some, None, refl, sym, ◌∙◌, ap}
-use Rattle.std.specs.Cmp.{Equal-is}
 use Rattle.std.specs.Option.{option_and_then, option_map}
 use Rattle.std.specs.Ordering.{is_eq}
 use Rattle.std.specs.declared.option.Option.{Option}
-use Rattle.std.proofs.lemmas.Cmp.{tied_itself}
 use Rattle.mesh_list.specs.Keyed.{found}
 use Rattle.mesh_list.proofs.Ascends.{and_left}
 use Rattle.mesh_base_values.specs.Names.{name_cmp, text_cmp}
-use Rattle.mesh_base_values.specs.NameOrder.{names_exact, names_total}
+use Rattle.mesh_base_values.specs.NameOrder.{names_exact}
 use Rattle.mesh_base_values.specs.declared.values.Name.{Name}
+use Rattle.mesh_base_values.proofs.Equals.{name_is as same_names, one_name}
 use Rattle.mesh_base.specs.Keys.{env_name, ref_name, snapshot_ref}
 use Rattle.mesh_base.specs.declared.snapshots.Env.{Env}
 use Rattle.mesh_base.specs.declared.snapshots.Ref.{Ref}
@@ -31,12 +30,6 @@ use Rattle.mesh_spec_changes.specs.Environments.{env_at}
 use Rattle.mesh_spec_changes.specs.Planning.{stated}
 use Rattle.mesh_category.specs.versions.Clashes.{compared_in}
 use Rattle.mesh_category.proofs.versions.Without.{all_at}
-
-same_names : (a b : Name) → is_eq (name_cmp a b) ≡ true → a ≡ b
-same_names a b e = names_exact a b ((Equal-is (name_cmp a b)).0 e)
-
-one_name : (a b : Name) → a ≡ b → is_eq (name_cmp a b) ≡ true
-one_name a b e = ap (λ (x : Name). is_eq (name_cmp x b)) e ∙ ap is_eq (tied_itself names_total b)
 
 -- what is found stands in the list
 pub found_there : {A K : Type 0} (R : K → K → _) (key : A → K) (k : K) (xs : List A) (x : A) → found R key k xs ≡ Some x → Has x xs

@@ -5,6 +5,7 @@ use Rattle.std.specs.declared.option.Option.{Option}
 use Rattle.std.proofs.lemmas.Bool.Decides.{nat_tests}
 use Rattle.std.proofs.lemmas.List.{drop_more, reverse-append}
 use Rattle.mesh_base_values.specs.declared.times.Bounds.{Bounds}
+use Rattle.mesh_base_values.proofs.Tests.{below_false as not_below}
 use Rattle.mesh_base.specs.declared.forgets.Restate.{Restate}
 use Rattle.mesh_time.specs.Ranges.{is_held}
 use Rattle.mesh_spec_changes.specs.due.Dues.{touches_days}
@@ -14,9 +15,6 @@ use Rattle.mesh_plan_due.specs.Stands.{again_in, clear_before, clear_of, is_agai
 
 kept_near : (x n m : ℕ) → suc m ≤ n → nat_lt (min (x + 1) n) (suc m) ≡ nat_lt x m
 kept_near x n m h = grind (arith, nat_tests)
-
-not_below : (n m : ℕ) → m ≤ n → nat_lt n m ≡ false
-not_below n m h = grind (arith, nat_tests)
 
 -- there is an open unit among so many where fewer are clear
 pub near_is : (n m : ℕ) → m ≤ n → (ss : List Stand) → nat_lt (clear_of n ss) m ≡ list_any is_open (take m ss)

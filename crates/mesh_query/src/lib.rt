@@ -15,6 +15,5 @@ mod reader;
 mod relations;
 
 pub use laws::{one_refusal, what_is_counted_is_in_the_tree};
-pub use mesh_query_tokens::tokens_of as tokens;
-pub use mesh_query_tokens::{FaultKind, ReadFault, Token, TokenKind, Tokens};
+pub use mesh_query_tokens::{FaultKind, ReadFault, Token, TokenKind, Tokens, tokens_of as tokens};
 pub use reader::parse;

@@ -1,6 +1,8 @@
 -- A run is the only one on what it reads and the token after it. A run that fails is begun by some phrase, and no run
 -- goes on from what it read and the token at fault.
 use Rattle.std.proofs.Common.{◌≡◌, ℕ, ℤ, ◌+◌, List, [], ◌∷◌, ◌++◌, codes, Bool, true, false, ◌&&◌, Some, ◌⊎◌, inl, inr, refl, ap, sym, ◌∙◌, subst, arith}
+use Rattle.std.proofs.lemmas.Bool.{false_from_ne_true as not_star}
+use Rattle.mesh_list.proofs.Ascends.{and_left, and_right}
 use Rattle.mesh_query_tokens.specs.declared.tokens.Token.{Token}
 use Rattle.mesh_query_tokens.specs.declared.tokens.TokenKind.TheVariants.{Text}
 use Rattle.mesh_time_days.specs.Moments.{IsDayText}
@@ -212,14 +214,6 @@ abbrev pub Named : {r : Rule} → Plan r → Type 0
 Named {r = r} q = (n : ℕ) (k c : Token) → is_name k ≡ true → is_sign (codes ".") c ≡ true →
     ((t : Tree r) × Runs n r q t (k ∷ []) []) × ((t : Tree r) × Runs n r q t (k ∷ c ∷ k ∷ []) [])
 
-and_left : (a b : Bool) → (a && b) ≡ true → a ≡ true
-and_left true b h = refl
-and_left false b h = absurd cc
-
-and_right : (a b : Bool) → (a && b) ≡ true → b ≡ true
-and_right true b h = h
-and_right false b h = absurd cc
-
 -- whatever stands before it, the plan can be brought to an end
 abbrev pub Ending : {r : Rule} → Plan r → Type 0
 Ending {r = r} p = (n : ℕ) → (t : Tree r) × (u : Front) × Says (n + 1) r p t u
@@ -267,10 +261,6 @@ star_seen N I nothing h f (k ∷ c ∷ []) g i = absurd cc
 star_seen N I (token k nothing) h f [] g i = absurd cc
 star_seen N I (token k nothing) h f (c ∷ []) g i = absurd cc
 star_seen N I (token k (token c nothing)) h f [] g i = absurd cc
-
-not_star : (b : Bool) → (b ≡ true → ⊥) → b ≡ false
-not_star true h = absurd (h refl)
-not_star false h = refl
 
 pub settled : (all : All) {n : ℕ} {r : Rule} {p : Plan r} {t : Tree r} {s e : List Token} → Runs n r p t s e → Goes p → Settled n r p t s e
 settled all ends G = record { taken = λ x. x; whole = refl; says = says_done; only = λ x h m b f d. parts d }

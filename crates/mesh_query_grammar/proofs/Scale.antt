@@ -2,6 +2,7 @@
 use Rattle.std.proofs.Common.{◌≡◌, ◌≢◌, ℕ, ◌+◌, ◌-◌, ◌<◌, List, [], ◌∷◌, codes, Bool, true, false, ◌||◌, Option, Some, None, ◌⊎◌, inl, inr, refl, ap, ◌∙◌, arith, if◌then◌else◌}
 use Rattle.std.specs.Str.{bytes_eq}
 use Rattle.std.proofs.lemmas.Slice.Eq.{bytes_eq-Decides}
+use Rattle.std.proofs.lemmas.Bool.{false_from_ne_true as untrue, or_from as neither}
 use Rattle.mesh_query_tokens.specs.declared.tokens.Token.{Token}
 use Rattle.mesh_query_tokens.specs.declared.tokens.TokenKind.{TokenKind}
 use Rattle.mesh_query_tokens.specs.declared.tokens.TokenKind.TheVariants.{Ident, Text, Sign}
@@ -122,10 +123,6 @@ opens_next h = ap (λ (z : List Token). opens_of (next z)) h.1 ∙ ap kind_opens
 pub seen : (test : TokenKind → Bool) {c : TokenKind} {s m : List Token} → Next c s m → begins (λ k. test k.kind) s ≡ test c
 seen test h = ap (λ (z : List Token). begins (λ k. test k.kind) z) h.1 ∙ ap test h.2
 
-pub untrue : (b : Bool) → (b ≡ true → ⊥) → b ≡ false
-untrue true h = absurd (h refl)
-untrue false h = refl
-
 pub word_seen : (w : List ℕ) (s : List Token) → begins (is_word w) s ≡ true → (m : List Token) × IsWord w s m
 word_seen w [] h = absurd cc
 word_seen w (k ∷ s) h = (s, word_at w k h s)
@@ -217,13 +214,7 @@ pub no_cmp : (s : List Token) → scale s < 19 → begins is_cmp s ≡ false
 no_cmp [] h = refl
 no_cmp (k ∷ s) h = untrue (is_cmp k) (λ g. let i = cmp_next (cmp_said (said k)) (cmp_at k g s) in omega (arith, h, i))
 
-split_or : (a b : Bool) → (a || b) ≡ true → (a ≡ true) ⊎ (b ≡ true)
-split_or true b h = inl refl
-split_or false b h = inr h
-
 -- neither of two
-neither : (a b : Bool) → a ≡ false → b ≡ false → (a || b) ≡ false
-neither a b h g = rw (h, g) refl
 
 pub no_range : (s : List Token) → scale s < 19 → begins begins_range s ≡ false
 unfolding kind_scale is_reserved

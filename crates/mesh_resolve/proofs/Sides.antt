@@ -1,22 +1,18 @@
 -- Columns that are the same, by name and by type.
-use Rattle.std.proofs.Common.{◌≡◌, ℕ, Bool, IsTrue, true, false, ◌&&◌, ◌↔◌, List, [], ◌∷◌, refl, sym, ap, ◌∙◌}
-use Rattle.std.specs.Cmp.{Equal-is}
+use Rattle.std.proofs.Common.{◌≡◌, Bool, IsTrue, true, ◌&&◌, ◌↔◌, List, [], ◌∷◌, refl, sym, ap, ◌∙◌}
 use Rattle.std.specs.Ordering.{is_eq}
 use Rattle.std.proofs.lemmas.Bool.{and_from}
 use Rattle.std.proofs.lemmas.Cmp.{tied_itself}
-use Rattle.std.proofs.lemmas.Map.Lookups.{exact_bytes}
 use Rattle.mesh_list.proofs.Ascends.{and_left, and_right}
 use Rattle.mesh_base_values.specs.NameOrder.{texts_total}
-use Rattle.mesh_base_values.specs.Names.{text_cmp}
 use Rattle.mesh_base_values.specs.Picked.{same_text}
 use Rattle.mesh_base_values.specs.Types.{same_type}
 use Rattle.mesh_base_values.specs.declared.values.ColType.{ColType}
 use Rattle.mesh_base_values.specs.declared.values.ColType.TheVariants as types
 use Rattle.mesh_base_values.specs.declared.values.Column.{Column}
+use Rattle.mesh_base_values.proofs.Equals.{text_is}
+use Rattle.mesh_base_values.proofs.Tests.{same_truth as by_truth}
 use Rattle.mesh_resolve.specs.Owns.{are_same_columns}
-
-text_is : (a b : List ℕ) → same_text a b ≡ true → a ≡ b
-text_is a b e = exact_bytes a b ((Equal-is (text_cmp a b)).0 e)
 
 type_itself : (k : ColType) → same_type k k ≡ true
 type_itself types.Int = refl
@@ -58,11 +54,6 @@ columns_are (x ∷ xs) (y ∷ ys) e =
     let kinds = type_is x.kind y.kind (and_left (same_type x.kind y.kind) (are_same_columns xs ys) rest) in
     let more = columns_are xs ys (and_right (same_type x.kind y.kind) (are_same_columns xs ys) rest) in
     λ i. record { name = names i; kind = kinds i } ∷ more i
-
-by_truth : (b c : Bool) → (b ≡ true → c ≡ true) → (c ≡ true → b ≡ true) → b ≡ c
-by_truth true c f g = sym (f refl)
-by_truth false true f g = g refl
-by_truth false false f g = refl
 
 -- a test that says whether they are one
 pub same_exactly : (b : Bool) (xs ys : List Column) → IsTrue b ↔ (xs ≡ ys) → b ≡ are_same_columns xs ys

@@ -1,5 +1,5 @@
 -- What is found in a list whose items get other keys, no two of them the same.
-use Rattle.std.proofs.Common.{◌≡◌, refl, sym, ◌∙◌, ap, Bool, true, false, cond, ◌||◌, ℕ, ◌<◌, ◌≤◌, ◌+◌, List, [], ◌∷◌, map, Some, None, arith, nat_lt}
+use Rattle.std.proofs.Common.{◌≡◌, refl, sym, ◌∙◌, ap, Bool, true, false, cond, ◌||◌, ℕ, ◌≤◌, ◌+◌, List, [], ◌∷◌, map, Some, None, arith, nat_lt}
 use Rattle.std.specs.declared.option.Option.{Option}
 use Rattle.std.specs.declared.cmp.Ordering.{Ordering}
 use Rattle.std.specs.declared.cmp.Ordering.TheVariants.{Equal}
@@ -11,6 +11,7 @@ use Rattle.std.proofs.lemmas.List.Sums.{sum_by-cons}
 use Rattle.std.proofs.lemmas.Map.Lookups.{CmpEqualImpliesEq}
 use Rattle.mesh_list.specs.Keyed.{found}
 use Rattle.mesh_list.proofs.Found.{found-placed}
+use Rattle.mesh_base_values.proofs.Tests.{below_false}
 use Rattle.mesh_house_book.proofs.moves.Sorting.{times, twins, ordered}
 
 left_none : (a b : Bool) → (a || b) ≡ false → a ≡ false
@@ -24,12 +25,6 @@ right_none false b h = h
 none_less : {A : Type 0} (p q : A → Bool) (xs : List A) → ((x : A) → q x ≡ false → p x ≡ false) → list_any q xs ≡ false → list_any p xs ≡ false
 none_less p q [] f h = refl
 none_less p q (x ∷ xs) f h = ap (λ (t : Bool). t || list_any p xs) (f x (left_none (q x) (list_any q xs) h)) ∙ none_less p q xs f (right_none (q x) (list_any q xs) h)
-
-below_true : (m n : ℕ) → m < n → nat_lt m n ≡ true
-below_true m n h = grind arith
-
-below_false : (m n : ℕ) → n ≤ m → nat_lt m n ≡ false
-below_false m n h = grind arith
 
 not_below : (m n : ℕ) → nat_lt m n ≡ false → n ≤ m
 not_below m n h = grind arith

@@ -1,7 +1,5 @@
 -- Each cron has a last tick at each moment, and so each moment has a clock that shows it.
 use Rattle.std.proofs.Common.{◌≡◌, ℕ, zero, suc, ◌+◌, ◌*◌, ◌/◌, ◌%◌, ◌-◌, ◌<◌, ◌≤◌, ℤ, pos, neg_ℤ, ◌+ℤ◌, ◌<ℤ◌, ◌⊎◌, inl, inr, Bool, true, false, refl, ap, sym, ◌∙◌, subst, arith, IsTrue, unsigned_abs, rules}
-use Rattle.std.proofs.Math.Dec.{leb}
-use Rattle.std.proofs.lemmas.Bool.Decides.{leb_tells}
 use Rattle.std.proofs.lemmas.Int.{by_lt_z}
 use Rattle.jiff_core.specs.declared.civil.date.Date.{Date}
 use Rattle.jiff_core.specs.Calendar.{days_in_month, days_from_civil}
@@ -10,6 +8,7 @@ use Rattle.jiff_core.proofs.SignedLemmas.{signed_arith, unsigned_abs-parts, one_
 use Rattle.jiff_core.proofs.CalendarLemmas.{days_in_month_bounds}
 use Rattle.jiff_core.proofs.DateLemmas.{days_from_civil-day, days_from_civil-next_month, days_from_civil-next_year, days_from_civil-min, days_from_civil-max}
 use Rattle.mesh_base_values.specs.Crons.{CronSets, is_cron}
+use Rattle.mesh_base_values.proofs.Tests.{by_lt}
 use Rattle.mesh_time_days.specs.Moments.{moment, day_number, IsMoment}
 use Rattle.mesh_time.specs.Ticks.{date_matches, minute_matches, IsFloor, IsQuiet}
 use Rattle.mesh_time.proofs.TickLaws.{tick_day, is_day_number, quiet_day, quiet_minutes, floor_on, quiet_over, floor_over, next_day, quiet_nowhere, moment_far, moment_le}
@@ -44,13 +43,6 @@ next_year d last l below =
       record { year = d.year +ℤ pos 1; month = 1; day = 1; year_in = (omega (arith, signed_arith, d.year_in.0), omega (arith, signed_arith)); month_in = (omega arith, omega arith); day_in = (omega arith, omega arith) },
       days_from_civil-next_year d.year (d.year +ℤ pos 1) (omega (arith, signed_arith, d.year_in.0)) refl ∙ ap (λ t. t +ℤ pos 1) (sym is),
     )
-
-by_lt : {P : Type 0} (a b : ℕ) → (a < b → P) → (b ≤ a → P) → P
-by_lt {P} a b f g = go (leb_tells b a)
-  where
-    go : ((leb b a ≡ true) × (b ≤ a)) ⊎ ((leb b a ≡ false) × (a < b)) → P
-    go (inl h) = g h.1
-    go (inr h) = f h.1
 
 tomorrow : (d : Date) → epoch_day d <ℤ pos 2_932_896 → Dated (epoch_day d +ℤ pos 1)
 tomorrow d below = by_lt (d.day) (days_in_month d.year d.month) (in_month d)

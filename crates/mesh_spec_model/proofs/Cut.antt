@@ -4,7 +4,7 @@ use Rattle.std.specs.List.{All, Contains, find, list_all}
 use Rattle.std.specs.Int.Signed.{le_z, lt_z}
 use Rattle.std.specs.declared.option.Option.{Option}
 use Rattle.std.specs.declared.option.Option.TheVariants.{None, Some}
-use Rattle.std.proofs.lemmas.Bool.{and_parts}
+use Rattle.std.proofs.lemmas.Bool.{and_parts, and_from as and_true}
 use Rattle.std.proofs.lemmas.List.{length-map}
 use Rattle.std.proofs.lemmas.List.Elements.{All-nil, All-cons}
 use Rattle.std.proofs.Math.Nat.{mul-le-mul_right}
@@ -20,9 +20,9 @@ use Rattle.mesh_base_values.specs.declared.times.Unit.TheVariants.{Hour, Day}
 use Rattle.mesh_base_values.specs.declared.times.Schedule.{Schedule}
 use Rattle.std.proofs.lemmas.Int.{ints, by_lt_z}
 use Rattle.mesh_time.specs.Ranges.{IsWithin, unit_size, unit_at}
-use Rattle.mesh_time.proofs.Apart.{lt_true, lt_says, le_true, le_says, and_true}
 use Rattle.mesh_time_days.specs.seconds.Times.{time_of, is_within, lies_in}
 use Rattle.mesh_base_values.specs.Types.{same_type}
+use Rattle.mesh_base_values.proofs.Tests.{lt_true, lt_says, le_true, le_says}
 use Rattle.mesh_spec_model.specs.Sources.{is_of_type, has_shape, declared_rows}
 
 type_is : (a b : ColType) → same_type a b ≡ true → a ≡ b

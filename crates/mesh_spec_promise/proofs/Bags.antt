@@ -4,7 +4,8 @@ use Rattle.std.specs.Cmp.{Equal-is}
 use Rattle.std.specs.List.{list_all}
 use Rattle.std.specs.Ordering.{is_eq}
 use Rattle.std.proofs.lemmas.List.Sums.{sum_by-cons}
-use Rattle.mesh_list.proofs.Ascends.{and_left, and_right, and_both}
+use Rattle.std.proofs.lemmas.Bool.{and_from as and_both}
+use Rattle.mesh_list.proofs.Ascends.{and_left, and_right}
 use Rattle.mesh_base_values.specs.Bag.{IsSameBag, times}
 use Rattle.mesh_base_values.specs.Order.{row_order}
 use Rattle.mesh_base_values.specs.declared.values.Cell.{Cell}

@@ -1,8 +1,9 @@
 -- An environment that is finalized, and all of whose models are up to date, is final.
-use Rattle.std.proofs.Common.{◌≡◌, ⊎_elim, Bool, true, false, ◌||◌, List, [], ◌∷◌, Some, refl, sym, ◌∙◌, ap, subst, arith, IsTrue}
+use Rattle.std.proofs.Common.{◌≡◌, ⊎_elim, true, false, List, [], ◌∷◌, Some, sym, ◌∙◌, ap, subst, arith, IsTrue}
 use Rattle.std.specs.Cmp.{Equal-is}
 use Rattle.std.specs.List.{AllByRecursion, Contains}
 use Rattle.std.proofs.lemmas.Cmp.{tied_itself}
+use Rattle.std.proofs.lemmas.Bool.{or_left as or_first, or_right as or_second}
 use Rattle.mesh_base.specs.Keys.{ref_name}
 use Rattle.mesh_base_values.specs.Names.{name_cmp}
 use Rattle.mesh_base_values.specs.NameOrder.{names_total}
@@ -28,14 +29,6 @@ use Rattle.mesh_spec_promise.proofs.ViewNames.{view_names}
 
 itself : (n : Name) → same_name n n ≡ true
 itself n = (Equal-is (name_cmp n n)).1 (tied_itself names_total n)
-
-or_first : (a b : Bool) → a ≡ true → (a || b) ≡ true
-or_first true b h = refl
-or_first false b h = cc
-
-or_second : (a b : Bool) → b ≡ true → (a || b) ≡ true
-or_second true b h = refl
-or_second false b h = h
 
 refs_listed : (models : List Planned) → Each (λ (r : Ref). is_listed models r.name ≡ true) (refs_by_name models)
 refs_listed [] = tt

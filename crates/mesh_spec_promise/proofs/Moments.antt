@@ -9,8 +9,9 @@ use Rattle.std.specs.Ordering.{int_cmp}
 use Rattle.std.specs.declared.option.Option.{Option}
 use Rattle.std.specs.declared.cmp.Ordering.{Ordering}
 use Rattle.std.specs.declared.cmp.Ordering.TheVariants.{Less, Equal, Greater}
+use Rattle.std.proofs.lemmas.Bool.{and_from as and_both}
 use Rattle.mesh_list.specs.Keyed.{ascends, placed, put_by}
-use Rattle.mesh_list.proofs.Ascends.{and_left, and_right, and_both, ascends-placed}
+use Rattle.mesh_list.proofs.Ascends.{and_left, and_right, ascends-placed}
 use Rattle.mesh_base_values.specs.Bag.{IsSameBag}
 use Rattle.mesh_base.specs.Keys.{input_name, ref_cmp, snapshot_ref}
 use Rattle.mesh_base.specs.declared.jobs.Input.{Input}

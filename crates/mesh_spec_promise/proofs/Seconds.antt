@@ -4,6 +4,7 @@ use Rattle.std.proofs.lemmas.Int.{ints}
 use Rattle.std.specs.List.{Contains, list_any, range_with_len}
 use Rattle.std.specs.declared.option.Option.{Option}
 use Rattle.std.specs.declared.option.Option.TheVariants.{None}
+use Rattle.std.proofs.lemmas.Bool.{and_from as and_true}
 use Rattle.mesh_base_values.specs.declared.times.Bounds.{Bounds}
 use Rattle.mesh_base_values.specs.declared.times.Schedule.{Schedule}
 use Rattle.mesh_base_values.specs.declared.times.Unit.{Unit as TimeUnit}
@@ -11,8 +12,8 @@ use Rattle.mesh_base_values.specs.declared.times.Unit.TheVariants.{Hour, Day}
 use Rattle.mesh_base_values.specs.declared.values.Cell.TheVariants as cell
 use Rattle.mesh_base_values.specs.declared.values.ColType.TheVariants as type
 use Rattle.mesh_base_values.specs.declared.values.Column.{Column}
+use Rattle.mesh_base_values.proofs.Tests.{lt_true, le_true}
 use Rattle.mesh_time.specs.Ranges.{IsWithin, unit_at, unit_count, unit_size, units}
-use Rattle.mesh_time.proofs.Apart.{le_true, lt_true, and_true}
 use Rattle.mesh_spec_model.specs.Closures.{Closure, own_of}
 use Rattle.mesh_spec_model.specs.Horizons.{Clock, horizon, schedule, units_from}
 use Rattle.mesh_time_days.specs.seconds.Times.{lies_in}

@@ -1,13 +1,13 @@
 -- A view's name tells its environment and its model.
-use Rattle.std.proofs.Common.{◌≡◌, ℕ, suc, ◌-◌, Bool, true, false, cond, not, ◌&&◌, ◌||◌, ◌==◌, nat_eq, List, [], ◌∷◌, ◌++◌, length, drop, refl, sym, ◌∙◌, ap, subst, arith}
-use Rattle.std.specs.Cmp.{Equal-is}
+use Rattle.std.proofs.Common.{◌≡◌, ℕ, suc, ◌-◌, Bool, true, false, cond, not, ◌&&◌, ◌==◌, nat_eq, List, [], ◌∷◌, ◌++◌, length, drop, refl, sym, ◌∙◌, ap, subst, arith}
 use Rattle.std.specs.List.{ends_with}
 use Rattle.std.specs.Cmp.Lexicographic.{pointwise}
-use Rattle.std.proofs.lemmas.Map.Lookups.{exact_bytes}
+use Rattle.std.proofs.lemmas.Bool.{not-true as not_true, or_parts as or_none}
 use Rattle.mesh_list.proofs.Ascends.{and_left, and_right}
-use Rattle.mesh_base_values.specs.Names.{text_cmp, begins_with, has_two_underscores}
+use Rattle.mesh_base_values.specs.Names.{begins_with, has_two_underscores}
 use Rattle.mesh_base_values.specs.Picked.{same_text}
 use Rattle.mesh_base_values.specs.declared.values.Name.{Name}
+use Rattle.mesh_base_values.proofs.Equals.{text_is as same_is}
 use Rattle.mesh_base.specs.rules.Proper.{is_plain_schema}
 use Rattle.mesh_spec_changes.specs.Environments.{prod, view_in}
 
@@ -37,14 +37,6 @@ split (x ∷ xs) (y ∷ ys) e f p q h =
     let both = split xs ys e f (plain_tail x xs p) (plain_tail y ys q) rest in
     (λ i. first i ∷ both.0 i, both.1)
 
-not_true : (b : Bool) → not b ≡ true → b ≡ false
-not_true true h = absurd (let f : false ≡ true = h in cc)
-not_true false h = refl
-
-or_none : (a b : Bool) → (a || b) ≡ false → (a ≡ false) × (b ≡ false)
-or_none true b h = absurd (let f : true ≡ false = h in cc)
-or_none false b h = (refl, h)
-
 -- the test tells so
 plain_says : (s : List ℕ) → has_two_underscores s ≡ false → ends_with nat_eq s (95 ∷ []) ≡ false → Plain s
 plain_says [] h e = tt
@@ -61,9 +53,6 @@ plain_says (x ∷ y ∷ ys) h e = (
 
 plain_of : (m : Name) → is_plain_schema m.schema ≡ true → Plain m.schema
 plain_of m h = plain_says m.schema (not_true _ (and_left (not (has_two_underscores m.schema)) _ h)) (not_true _ (and_right (not (has_two_underscores m.schema)) _ h))
-
-same_is : (a b : List ℕ) → same_text a b ≡ true → a ≡ b
-same_is a b h = exact_bytes a b ((Equal-is (text_cmp a b)).0 h)
 
 pub view_names : (e f : List ℕ) (m n : Name) → is_plain_schema m.schema ≡ true → is_plain_schema n.schema ≡ true → view_in e m ≡ view_in f n → (e ≡ f) × (m ≡ n)
 view_names e f m n pm pn h = go (same_text e prod) (same_text f prod) refl refl h

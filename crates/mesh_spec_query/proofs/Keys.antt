@@ -1,25 +1,18 @@
 -- In a group a part that equals a key has the value that it has for each of the group's rows.
 use Rattle.std.proofs.Common.{◌≡◌, true, List, [], ◌∷◌, map, refl, ap, sym, ◌∙◌}
 use Rattle.std.specs.List.{All, Contains, filter}
-use Rattle.std.specs.Ordering.{is_eq}
-use Rattle.std.specs.declared.cmp.Ordering.{Ordering}
-use Rattle.std.specs.declared.cmp.Ordering.TheVariants.{Less, Equal, Greater}
 use Rattle.std.proofs.lemmas.List.Elements.{All-nil, All-cons, All-map, All-weaker, filter_passes}
 use Rattle.mesh_base_values.specs.Order.{row_order}
 use Rattle.mesh_base_values.specs.declared.times.Bounds.{Bounds}
 use Rattle.mesh_base_values.specs.declared.values.Cell.{Cell}
 use Rattle.mesh_base_values.specs.declared.values.Column.{Column}
 use Rattle.mesh_base_values.proofs.Total.{row_exact}
+use Rattle.mesh_base_values.proofs.Equals.{equal_of}
 use Rattle.mesh_base.specs.declared.expressions.Expr.{Expr}
 use Rattle.mesh_spec_query.specs.Aggregates.{distinct}
 use Rattle.mesh_spec_query.specs.Ev.{Ev}
 use Rattle.mesh_spec_query.specs.Sel.{Group, Joined, group_of, group_scope, groups, key_list, row_scope, same_row}
 use Rattle.mesh_spec_query.proofs.Nodes.{of_key}
-
-equal_of : (o : Ordering) → is_eq o ≡ true → o ≡ Equal
-equal_of Less e = cc
-equal_of Equal e = refl
-equal_of Greater e = cc
 
 module _ (u : Bounds) (columns : List (List Column)) where
   -- each row of a group has its key values

@@ -2,9 +2,10 @@
 use Rattle.std.proofs.Common.{◌≡◌, true, List, [], ◌∷◌, ◌⊎◌, inl, inr, ◌↔◌, ℤ, ◌≤ℤ◌, ◌<ℤ◌, Some, arith}
 use Rattle.std.proofs.lemmas.Int.{ints, clamps, by_lt_z}
 use Rattle.mesh_base_values.specs.declared.times.Bounds.{Bounds}
+use Rattle.mesh_base_values.proofs.Tests.{lt_true}
 use Rattle.mesh_time.specs.Ranges.{IsWithin, Has, is_apart}
 use Rattle.mesh_time.specs.Edits.{hull, added}
-use Rattle.mesh_time.proofs.Apart.{lt_true, lt_false, ApartAfter, Apart, apart_says, is_apart_true, apart_after_lower, apart_from_after}
+use Rattle.mesh_time.proofs.Apart.{lt_false, ApartAfter, Apart, apart_says, is_apart_true, apart_after_lower, apart_from_after}
 
 pub hull_proper : (a b : Bounds) → a.start <ℤ a.end → (hull a b).start <ℤ (hull a b).end
 hull_proper a b p = omega (arith, ints, clamps)

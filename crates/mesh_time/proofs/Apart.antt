@@ -1,40 +1,23 @@
 -- Tests on signed numbers as facts, and spans that stay apart.
-use Rattle.std.proofs.Common.{◌≡◌, refl, Bool, true, false, ◌&&◌, List, [], ◌∷◌, inl, inr, ℤ, ◌≤ℤ◌, ◌<ℤ◌, arith}
+use Rattle.std.proofs.Common.{◌≡◌, refl, true, false, List, [], ◌∷◌, inl, inr, ℤ, ◌≤ℤ◌, ◌<ℤ◌, arith}
 use Rattle.std.specs.Int.Signed.{lt_z, le_z}
 use Rattle.std.proofs.lemmas.Int.{ints}
+use Rattle.std.proofs.lemmas.Bool.{and_from as and_true}
 use Rattle.mesh_base_values.specs.declared.times.Bounds.{Bounds}
+use Rattle.mesh_base_values.proofs.Tests.{lt_true, lt_says, both_parts as and_says}
 use Rattle.mesh_time.specs.Ranges.{Has, is_apart, is_apart_after}
-
-pub lt_true : (a b : ℤ) → a <ℤ b → lt_z a b ≡ true
-lt_true a b h = grind (arith, ints)
 
 pub lt_false : (a b : ℤ) → b ≤ℤ a → lt_z a b ≡ false
 lt_false a b h = grind (arith, ints)
 
-pub lt_says : (a b : ℤ) → lt_z a b ≡ true → a <ℤ b
-lt_says a b h = grind (arith, ints)
-
 pub lt_not : (a b : ℤ) → lt_z a b ≡ false → b ≤ℤ a
 lt_not a b h = grind (arith, ints)
-
-pub le_true : (a b : ℤ) → a ≤ℤ b → le_z a b ≡ true
-le_true a b h = grind (arith, ints)
 
 pub le_false : (a b : ℤ) → b <ℤ a → le_z a b ≡ false
 le_false a b h = grind (arith, ints)
 
-pub le_says : (a b : ℤ) → le_z a b ≡ true → a ≤ℤ b
-le_says a b h = grind (arith, ints)
-
 pub le_not : (a b : ℤ) → le_z a b ≡ false → b <ℤ a
 le_not a b h = grind (arith, ints)
-
-pub and_says : (a b : Bool) → (a && b) ≡ true → (a ≡ true) × (b ≡ true)
-and_says true b h = (refl, h)
-and_says false b h = cc
-
-pub and_true : (a b : Bool) → a ≡ true → b ≡ true → (a && b) ≡ true
-and_true a b p q = rw (p, q) refl
 
 -- the tests as facts
 abbrev pub ApartAfter : ℤ → List Bounds → Type 0

@@ -4,9 +4,10 @@ use Rattle.std.specs.List.{flat_map}
 use Rattle.std.specs.Int.{int_min, int_max}
 use Rattle.std.proofs.lemmas.Int.{ints, clamps, by_lt_z}
 use Rattle.mesh_base_values.specs.declared.times.Bounds.{Bounds}
+use Rattle.mesh_base_values.proofs.Tests.{lt_true}
 use Rattle.mesh_time.specs.Ranges.{IsWithin, Has, is_apart}
 use Rattle.mesh_time.specs.Edits.{filled, pieces}
-use Rattle.mesh_time.proofs.Apart.{lt_true, lt_false, ApartAfter, Apart, apart_says, is_apart_true, apart_after_lower, apart_from_after}
+use Rattle.mesh_time.proofs.Apart.{lt_false, ApartAfter, Apart, apart_says, is_apart_true, apart_after_lower, apart_from_after}
 
 apart_after_filled : (t start last : ℤ) (rest : List Bounds) → t <ℤ start → (start <ℤ last → ApartAfter last rest) → (last ≤ℤ start → ApartAfter t rest) → ApartAfter t (filled start last ++ rest)
 apart_after_filled t start last rest h some none =

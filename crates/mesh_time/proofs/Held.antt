@@ -1,28 +1,19 @@
 -- The test for an interval says that each of its seconds is there.
-use Rattle.std.proofs.Common.{◌≡◌, refl, IsTrue, ◌↔◌, Bool, true, false, ◌||◌, List, [], ◌∷◌, ◌⊎◌, inl, inr, ℤ, ◌≤ℤ◌, ◌<ℤ◌, arith, rules}
+use Rattle.std.proofs.Common.{◌≡◌, IsTrue, ◌↔◌, Bool, true, List, [], ◌∷◌, inl, inr, ℤ, ◌≤ℤ◌, ◌<ℤ◌, arith, rules}
 use Rattle.std.specs.List.{list_any}
 use Rattle.std.specs.Int.Signed.{le_z}
 use Rattle.std.proofs.lemmas.Int.{ints, by_lt_z}
+use Rattle.std.proofs.lemmas.Bool.{and_from as and_true, or_left, or_right}
 use Rattle.mesh_base_values.specs.declared.times.Bounds.{Bounds}
+use Rattle.mesh_base_values.proofs.Tests.{le_true, le_says, both_parts as and_says, either_part as or_says}
 use Rattle.mesh_time.specs.Ranges.{IsWithin, Has, is_apart, covers, is_held}
-use Rattle.mesh_time.proofs.Apart.{le_says, le_true, and_says, and_true, Apart, apart_says, apart_from_after, has_above}
+use Rattle.mesh_time.proofs.Apart.{Apart, apart_says, apart_from_after, has_above}
 
 is_true : {r : Bool} → IsTrue r → r ≡ true
 is_true h = search rules
 
 true_is : {r : Bool} → r ≡ true → IsTrue r
 true_is h = search rules
-
-or_says : (a b : Bool) → (a || b) ≡ true → (a ≡ true) ⊎ (b ≡ true)
-or_says true b h = inl refl
-or_says false b h = inr h
-
-or_left : (a b : Bool) → a ≡ true → (a || b) ≡ true
-or_left a b h = rw h refl
-
-or_right : (a b : Bool) → b ≡ true → (a || b) ≡ true
-or_right true b h = refl
-or_right false b h = h
 
 covers_says : (start last : ℤ) (b : Bounds) → covers start last b ≡ true → (b.start ≤ℤ start) × (last ≤ℤ b.end)
 covers_says start last b h = let p = and_says (le_z b.start start) _ h in (le_says _ _ p.0, le_says _ _ p.1)

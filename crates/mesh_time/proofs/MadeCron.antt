@@ -1,7 +1,7 @@
 use Rattle.std.proofs.Common.{◌≡◌, ℕ, zero, suc, ◌+◌, ◌*◌, ◌/◌, ◌%◌, ◌-◌, ◌^◌, ◌<◌, ◌≤◌, Bool, true, false, not, ◌&&◌, ◌||◌, ◌==◌, nat_le, nat_lt, refl, sym, ap, ◌∙◌, subst, arith, cond, inl, inr, List, [], ◌∷◌, IsTrue, Ok, Err}
 use native.Mathlib.Nat.{mod-eq_of_lt}
 use Rattle.std.specs.List.{before_first, list_all, list_any}
-use Rattle.std.proofs.lemmas.Bool.{and_from, and_parts, cases_Bool, cases_eq, eq-eqb, eqb-true, eqb-false, le-leb, leb-true, lt-leb, lt-ltb, ltb-false, or_cases}
+use Rattle.std.proofs.lemmas.Bool.{and_from, and_parts, cases_Bool, cases_eq, eq-eqb, eqb-true, eqb-false, le-leb, leb-true, lt-leb, lt-ltb, ltb-false, or_cases, and_right as and_never, or_right}
 use Rattle.std.proofs.lemmas.Nat.{div-mul-add}
 use Rattle.std.proofs.Math.Nat.{pow-le-pow_right}
 use Rattle.std.proofs.lemmas.Nat.{pow-add, div-add-mod', mod_below}
@@ -10,7 +10,7 @@ use Rattle.mesh_base_values.specs.Crons.{CronSets, count_below, has, has_date, i
 use Rattle.mesh_time.specs.CronText.{checked, field_has, front, high_end, is_field, is_item, is_number, is_range, is_star, is_stepped, item_first, item_has, item_last, item_step, items, low_end, number, set_of, sets_of, stands_in, week_has}
 use Rattle.mesh_time.proofs.FieldLaws.{items_head, step_positive}
 use Rattle.mesh_time.proofs.CronFacts.{some_is}
-use Rattle.mesh_time.proofs.SetLaws.{or_right, set_bound, some_from}
+use Rattle.mesh_time.proofs.SetLaws.{set_bound, some_from}
 
 abbrev pub made_of : ℕ → ℕ → ℕ → ℕ → ℕ → Bool → Bool → CronSets
 made_of a b d m w dom_star dow_star = record { minute = a; hour = b; dom = d; month = m; dow = w; dom_star = dom_star; dow_star = dow_star }
@@ -81,10 +81,6 @@ field_some low high n text h le lt =
 any_never : (p : List ℕ → Bool) (xs : List (List ℕ)) → ((x : List ℕ) → p x ≡ false) → list_any p xs ≡ false
 any_never p [] h = refl
 any_never p (x ∷ xs) h = ap (λ t. t || list_any p xs) (h x) ∙ any_never p xs h
-
-and_never : (a b : Bool) → b ≡ false → (a && b) ≡ false
-and_never true b h = h
-and_never false b h = refl
 
 item_not_zero : (high : ℕ) → 1 ≤ high → (item : List ℕ) → item_has 1 high 0 item ≡ false
 unfolding item_has

@@ -1,17 +1,19 @@
 -- Only the first span that ends after a second can hold an interval that begins there.
-use Rattle.std.proofs.Common.{IsTrue, ◌↔◌, subst, ℕ, ◌+◌, ◌<◌, ◌≡◌, refl, sym, ◌∙◌, ap, map, filter, not, append-nil, ◌++◌, Bool, true, false, ◌||◌, ◌&&◌, List, [], ◌∷◌, ℤ, ◌≤ℤ◌, ◌<ℤ◌, arith}
+use Rattle.std.proofs.Common.{IsTrue, ◌↔◌, subst, ℕ, ◌+◌, ◌<◌, ◌≡◌, refl, sym, ◌∙◌, ap, map, filter, not, append-nil, ◌++◌, Bool, true, false, ◌||◌, List, [], ◌∷◌, ℤ, ◌≤ℤ◌, ◌<ℤ◌, arith}
 use Rattle.std.specs.List.{list_any, range_with_len}
 use Rattle.std.proofs.lemmas.List.FromFn.{filter_of_map_range_with_len_more}
 use Rattle.std.specs.Int.Signed.{le_z}
 use Rattle.std.proofs.lemmas.Int.{ints, by_lt_z}
+use Rattle.std.proofs.lemmas.Bool.{and_right as and_false}
 use Rattle.mesh_base_values.specs.declared.times.Bounds.{Bounds}
 use Rattle.mesh_base_values.specs.declared.times.Schedule.{Schedule}
 use Rattle.mesh_base_values.specs.declared.times.Unit.{Unit as TimeUnit}
 use Rattle.mesh_base_values.specs.declared.times.Unit.TheVariants.{Hour, Day}
+use Rattle.mesh_base_values.proofs.Tests.{le_true}
 use Rattle.mesh_time.specs.Ranges.{Has, is_apart, covers, is_held, unit_size, unit_at}
 use Rattle.mesh_time.specs.Edits.{open_after, front_covers}
 use Rattle.mesh_time.proofs.Held.{held_tells}
-use Rattle.mesh_time.proofs.Apart.{le_true, le_false, le_not, ApartAfter, Apart, apart_says, apart_from_after}
+use Rattle.mesh_time.proofs.Apart.{le_false, le_not, ApartAfter, Apart, apart_says, apart_from_after}
 
 pub open_after-open_after : (t u : ℤ) (xs : List Bounds) → u ≤ℤ t → open_after t (open_after u xs) ≡ open_after t xs
 open_after-open_after t u [] h = refl
@@ -29,10 +31,6 @@ none_later (b ∷ bs) t start last a h =
 or_false : (a b : Bool) → b ≡ false → (a || b) ≡ a
 or_false true b h = refl
 or_false false b h = h
-
-and_false : (a b : Bool) → b ≡ false → (a && b) ≡ false
-and_false true b h = h
-and_false false b h = refl
 
 not_first : (b : Bounds) (start last : ℤ) → b.end ≤ℤ start → start <ℤ last → covers start last b ≡ false
 not_first b start last p q = and_false (le_z b.start start) _ (le_false last b.end (omega (arith, ints)))

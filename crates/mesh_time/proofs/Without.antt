@@ -14,10 +14,12 @@ use Rattle.std.proofs.lemmas.List.{append-nil, drop_all, drop_more}
 use Rattle.std.proofs.lemmas.List.Concat.{flat_map-append}
 use Rattle.std.proofs.lemmas.List.Elements.{All-nil, All-cons, All-head, All-tail}
 use Rattle.std.proofs.lemmas.List.Sorted.{All-permutation, IsPermutation-sym}
+use Rattle.std.proofs.lemmas.Bool.{and_from as and_true}
 use Rattle.mesh_base_values.specs.declared.times.Bounds.{Bounds}
+use Rattle.mesh_base_values.proofs.Tests.{lt_true, lt_says, le_true, le_says, both_parts as and_says}
 use Rattle.mesh_time.specs.Ranges.{IsWithin, Has, is_apart, is_apart_after}
 use Rattle.mesh_time.specs.Edits.{filled, pieces, spans_without_each, rises, rises_from}
-use Rattle.mesh_time.proofs.Apart.{lt_true, lt_false, lt_says, le_says, le_true, and_says, and_true, ApartAfter, apart_says, apart_after_says, is_apart_true}
+use Rattle.mesh_time.proofs.Apart.{lt_false, ApartAfter, apart_says, apart_after_says, is_apart_true}
 use Rattle.mesh_time.proofs.Forgotten.{apart_forgotten, has_forgotten}
 use Rattle.mesh_time.proofs.Same.{same_ranges}
 

@@ -11,10 +11,10 @@ mod ranges;
 mod ticks;
 
 pub use crontab::read_cron;
-pub use mesh_time_days::{day_of, day_text, moment_of, moment_text, time_value};
 pub use laws::{
     adding_is_exact, forgetting_each_is_exact, forgetting_is_exact, held_is_every_second,
     same_seconds_same_ranges, units_end_by_the_end, units_follow_one_another,
 };
+pub use mesh_time_days::{day_of, day_text, moment_of, moment_text, time_value};
 pub use ranges::{END_OF_SECONDS, FIRST_SECOND, Ranges};
 pub use ticks::{floor, ticks_at, unit_of};

@@ -16,7 +16,8 @@ use Rattle.std.proofs.lemmas.List.Sorted.{sorted_far, ranks_by}
 use Rattle.mesh_base_values.specs.declared.values.Name.{Name}
 use Rattle.mesh_base_values.specs.contracts.values.NameOrd.TheImpl.{cmp-value}
 use Rattle.mesh_base_values.specs.Names.{name_cmp}
-use Rattle.mesh_base_values.specs.NameOrder.{names_exact, names_total}
+use Rattle.mesh_base_values.specs.NameOrder.{names_total}
+use Rattle.mesh_base_values.proofs.Equals.{name_is as same_names}
 use Rattle.mesh_base.specs.declared.snapshots.Node.{Node}
 use Rattle.mesh_base.specs.rules.Proper.{has_node}
 use Rattle.mesh_spec_changes.specs.reuse.Categories.{is_among, removed}
@@ -24,9 +25,6 @@ use Rattle.mesh_category.specs.category.Gone.{IsAscending, IsPlaceOf, name_of, n
 
 order_is : (a b : Name) → cmp-value.it a b ≡ name_cmp a b
 order_is a b = refl
-
-pub same_names : (a b : Name) → is_eq (name_cmp a b) ≡ true → a ≡ b
-same_names a b e = names_exact a b ((Equal-is (name_cmp a b)).0 e)
 
 pub get_left : {X : Type 0} (xs ys : List X) (k : ℕ) (x : X) → slice_get xs k ≡ Some x → slice_get (xs ++ ys) k ≡ Some x
 get_left [] ys k x e = absurd (cc)

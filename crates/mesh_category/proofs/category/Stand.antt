@@ -13,6 +13,7 @@ use Rattle.std.proofs.lemmas.Option.{slice_get_within, slice_get_read, slice_get
 use Rattle.mesh_list.specs.Keyed.{ascends, found}
 use Rattle.mesh_base_values.specs.declared.values.Name.{Name}
 use Rattle.mesh_base_values.specs.Names.{name_cmp}
+use Rattle.mesh_base_values.proofs.Equals.{name_is as same_names}
 use Rattle.mesh_base.specs.declared.definitions.Own.{Own}
 use Rattle.mesh_base.specs.declared.plans.Category.{Category}
 use Rattle.mesh_base.specs.declared.plans.Category.TheVariants.{Unchanged, Added, Breaking, NonBreaking, IndirectBreaking, IndirectNonBreaking}
@@ -27,7 +28,7 @@ use Rattle.mesh_spec_changes.specs.reuse.Compatible.{AreCompatible, IsCompatible
 use Rattle.mesh_category.specs.category.Alike.{are_alike, have_one_name, is_alike}
 use Rattle.mesh_category.specs.category.Gone.{IsPlaceOf}
 use Rattle.mesh_category.specs.category.Stated.{AddsAmong, AddsTo, IsCategory, IsCategoryAmong, counterpart, stated, stated_after, stated_name, stated_with}
-use Rattle.mesh_category.proofs.category.Places.{equal_itself, get_left, get_last, has_at, same_names}
+use Rattle.mesh_category.proofs.category.Places.{equal_itself, get_left, get_last, has_at}
 
 -- closures, one by one
 closures_more : (before : List Node) (n : Node) → closures (before ++ n ∷ []) ≡ closures before ++ Model n.own (parents_at (closures before) n.parents) ∷ []

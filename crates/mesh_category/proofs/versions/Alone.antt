@@ -1,6 +1,5 @@
 -- Whether a model's fingerprint stands for it alone, by how often it stands in the book and in the project.
 use Rattle.std.proofs.Common.{◌≡◌, ℕ, Bool, true, false, not, ◌&&◌, ◌||◌, inl, inr, List, [], ◌∷◌, map, Some, None, refl, sym, ◌∙◌, ap, subst}
-use Rattle.std.specs.Cmp.{Equal-is}
 use Rattle.std.specs.List.{Contains}
 use Rattle.std.specs.Ordering.{is_eq}
 use Rattle.std.specs.declared.cmp.Ordering.TheVariants.{Less, Equal}
@@ -8,8 +7,8 @@ use Rattle.std.proofs.lemmas.Cmp.{tied_itself}
 use Rattle.mesh_list.specs.Keyed.{ascends, below_first}
 use Rattle.mesh_list.proofs.Ascends.{and_left, and_right}
 use Rattle.mesh_base_values.specs.Names.{name_cmp}
-use Rattle.mesh_base_values.specs.NameOrder.{names_exact, names_total}
 use Rattle.mesh_base_values.specs.declared.values.Name.{Name}
+use Rattle.mesh_base_values.proofs.Equals.{name_is as same_names, one_name}
 use Rattle.mesh_base.specs.Keys.{ref_cmp, refs_total, snapshot_ref}
 use Rattle.mesh_base.specs.declared.snapshots.Node.{Node}
 use Rattle.mesh_base.specs.declared.snapshots.Ref.{Ref}
@@ -25,12 +24,6 @@ use Rattle.mesh_category.specs.versions.Clashes.{AreOne, ClashesWithBook, Clashe
 use Rattle.mesh_category.specs.versions.Index.{again, node_print, snapshot_print}
 use Rattle.mesh_category.proofs.versions.Books.{is_there, its_own, snapshots_ascend}
 use Rattle.mesh_category.proofs.versions.Prints.{Two, none_has_it, one_alone, two_have_it}
-
-same_names : (a b : Name) → is_eq (name_cmp a b) ≡ true → a ≡ b
-same_names a b e = names_exact a b ((Equal-is (name_cmp a b)).0 e)
-
-one_name : (a b : Name) → a ≡ b → is_eq (name_cmp a b) ≡ true
-one_name a b e = ap (λ (x : Name). is_eq (name_cmp x b)) e ∙ ap is_eq (tied_itself names_total b)
 
 -- a model and the snapshots of a book
 module _ (b : Book) (well : is_well_formed_book b ≡ true) (nodes : List Node) (n : Node) where

@@ -3,9 +3,10 @@ use Rattle.std.proofs.Common.{◌≡◌, ℕ, ℤ, pos, true, List, length, Some
 use Rattle.std.specs.Int.Signed.{le_z}
 use Rattle.std.specs.List.{list_all}
 use Rattle.std.specs.declared.option.Option.{Option}
+use Rattle.std.proofs.lemmas.Bool.{and_from as both_true}
 use Rattle.mesh_list.specs.Keyed.{ascends}
+use Rattle.mesh_base_values.proofs.Tests.{le_true}
 use Rattle.mesh_time_days.specs.Moments.{IsMoment}
-use Rattle.mesh_time.proofs.Apart.{le_true}
 use Rattle.mesh_base.specs.declared.forgets.Restate.{Restate}
 use Rattle.mesh_base.specs.declared.snapshots.Env.{Env}
 use Rattle.mesh_base.specs.declared.snapshots.Node.{Node}
@@ -27,7 +28,7 @@ use Rattle.mesh_plan.specs.Plans.{IsPlanOf}
 use Rattle.mesh_plan.specs.Running.{IsRunIn}
 use Rattle.mesh_plan.proofs.Models.{as_many}
 use Rattle.mesh_plan.proofs.Runs.{zipped_long}
-use Rattle.mesh_exec.proofs.plans.InOrder.{both_true, dues_fit}
+use Rattle.mesh_exec.proofs.plans.InOrder.{dues_fit}
 
 pub moment_is : (t : ℤ) → IsMoment t → is_moment t ≡ true
 moment_is t h = both_true (le_z (pos 0) t) (le_z t (pos 253_402_300_799)) (le_true (pos 0) t h.0) (le_true t (pos 253_402_300_799) h.1)

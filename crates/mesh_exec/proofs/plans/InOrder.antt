@@ -11,6 +11,7 @@ use Rattle.std.specs.declared.option.Option.{Option}
 use Rattle.std.proofs.lemmas.Cmp.{int_ranked, ranked}
 use Rattle.std.proofs.lemmas.Int.{ints}
 use Rattle.std.proofs.lemmas.List.Elements.{All-head, All-tail}
+use Rattle.std.proofs.lemmas.Bool.{and_from as both_true}
 use Rattle.mesh_list.specs.Keyed.{ascends, below_first}
 use Rattle.mesh_base_values.specs.Kinds.{is_incremental}
 use Rattle.mesh_base_values.specs.declared.kinds.Kind.{Kind}
@@ -19,9 +20,9 @@ use Rattle.mesh_base_values.specs.declared.times.Bounds.{Bounds}
 use Rattle.mesh_base_values.specs.declared.times.Schedule.{Schedule}
 use Rattle.mesh_base_values.specs.declared.times.Unit.{Unit as TimeUnit}
 use Rattle.mesh_base_values.specs.declared.times.Unit.TheVariants.{Hour, Day}
+use Rattle.mesh_base_values.proofs.Tests.{lt_true, le_true}
 use Rattle.mesh_time_days.specs.Moments.{IsMoment}
 use Rattle.mesh_time.specs.Ranges.{unit_size, unit_at, unit_count}
-use Rattle.mesh_time.proofs.Apart.{le_true, lt_true}
 use Rattle.mesh_base.specs.declared.forgets.Forget.{Forget}
 use Rattle.mesh_base.specs.declared.forgets.Forget.TheVariants.{Marks}
 use Rattle.mesh_base.specs.declared.plans.Due.{Due}
@@ -61,9 +62,6 @@ then_lower x s e h = at (nat_cmp x x) (ranked x x (nat_cmp x x) refl)
     at Less m = refl
     at Equal m = of (int_cmp s e) (int_ranked s e (int_cmp s e) refl)
     at Greater m = absurd (omega (arith, m))
-
-pub both_true : (a b : Bool) → a ≡ true → b ≡ true → (a && b) ≡ true
-both_true a b p q = (λ i. p i && b) ∙ q
 
 -- each unit ends before those behind it begin
 abbrev Rising : List Bounds → Type 0

@@ -2,6 +2,7 @@
 use Rattle.std.proofs.Common.{◌≡◌, ◌<◌, ◌≤◌, ◌≢◌, ℕ, zero, suc, ◌%◌, ◌^◌, Bool, true, false, List, [], ◌∷◌, length, refl, sym, ap, ◌∙◌, arith, ⊎_elim}
 use Rattle.std.specs.Prelude.{nat_eq, if◌then◌else◌}
 use Rattle.std.proofs.lemmas.Bool.Decides.{eqb_tells}
+use Rattle.mesh_base_values.proofs.Tests.{by_lt}
 use Rattle.mesh_exec_wave.specs.claims.Claims.{AreAll, below, one_if, times, weigh}
 
 -- how many numbers there are
@@ -54,11 +55,6 @@ one_below i (suc k) few down = ⊎_elim
 
 size : (word : ℕ) (drawn : List ℕ) (all : AreAll word drawn) → length drawn ≡ all.0
 size word drawn all = sym (counted drawn) ∙ all.2 (λ x. 1) ∙ as_many all.0
-
-by_lt : {A : Type 0} (i k : ℕ) → (i < k → A) → (k ≤ i → A) → A
-by_lt i zero down up = up (omega arith)
-by_lt zero (suc k) down up = down (omega arith)
-by_lt (suc i) (suc k) down up = by_lt i k (λ h. down (omega arith)) (λ h. up (omega arith))
 
 pub once : (word : ℕ) (drawn : List ℕ) (n last : ℕ) → AreAll word drawn → length drawn < 2 ^ 64 → 0 < times last drawn → n ≤ last → (i : ℕ) → i < n → times i drawn ≡ 1
 once word drawn n last all few some le i lt = by_lt last all.0 found lost

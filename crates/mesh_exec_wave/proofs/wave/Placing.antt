@@ -14,6 +14,7 @@ use Rattle.std.specs.declared.result.Result.TheVariants.{Ok, Err}
 use Rattle.std.specs.Result.{IfOk}
 use Rattle.mesh_list.specs.declared.memory.Memory.{Memory}
 use Rattle.mesh_base_values.specs.declared.values.Cell.{Cell}
+use Rattle.mesh_base_values.proofs.Tests.{by_lt}
 use Rattle.mesh_exec_wave.specs.claims.Claims.{AreAll, below, one_if, times, weigh}
 use Rattle.mesh_exec_wave.proofs.claims.Once.{once}
 use Rattle.mesh_exec_wave.specs.wave.Workers.{IsPast, part, parts_of, placed, reach}
@@ -64,11 +65,6 @@ some_below n (suc k) few lt = ⊎_elim
 
 size : (word : ℕ) (drawn : List ℕ) (all : AreAll word drawn) → length drawn ≡ all.0
 size word drawn all = sym (counted drawn) ∙ all.2 (λ x. 1) ∙ as_many all.0
-
-by_lt : {A : Type 0} (i k : ℕ) → (i < k → A) → (k ≤ i → A) → A
-by_lt i zero down up = up (omega arith)
-by_lt zero (suc k) down up = down (omega arith)
-by_lt (suc i) (suc k) down up = by_lt i k (λ h. down (omega arith)) (λ h. up (omega arith))
 
 reached : (word : ℕ) (drawn : List ℕ) (n : ℕ) → AreAll word drawn → length drawn < 2 ^ 64 → IsPast n drawn → 0 < times n drawn
 reached word drawn n all few past =

@@ -1,5 +1,5 @@
 -- A list that is sorted ascends where no two of its items have one key, and is then the one list in order.
-use Rattle.std.proofs.Common.{◌≡◌, refl, sym, ◌∙◌, ap, subst, Bool, true, false, cond, ◌&&◌, ◌||◌, ℕ, ◌<◌, ◌≤◌, ◌+◌, ◌-◌, suc, List, [], ◌∷◌, length, drop, Some, None, arith, nat_lt}
+use Rattle.std.proofs.Common.{◌≡◌, refl, sym, ◌∙◌, ap, subst, Bool, true, false, cond, ◌&&◌, ◌||◌, ℕ, ◌≤◌, ◌+◌, ◌-◌, suc, List, [], ◌∷◌, length, drop, Some, None, arith, nat_lt}
 use Rattle.std.specs.declared.option.Option.{Option}
 use Rattle.std.specs.Option.{is_some}
 use Rattle.std.specs.declared.cmp.Ordering.{Ordering}
@@ -10,7 +10,7 @@ use Rattle.std.specs.List.{All, AllByRecursion, count_by, list_any}
 use Rattle.std.specs.List.Sorted.{IsPermutation, IsSortedBy}
 use native.Mathlib.Numerals.{unary_clauses}
 use Rattle.std.proofs.lemmas.Cmp.{tied_itself}
-use Rattle.std.proofs.lemmas.Bool.{ltb-true}
+use Rattle.std.proofs.lemmas.Bool.{ltb-true, or_right}
 use Rattle.std.proofs.lemmas.List.{length-drop}
 use Rattle.std.proofs.lemmas.List.Elements.{All-from_recursion, All-head, All-tail}
 use Rattle.std.proofs.lemmas.List.Sorted.{All-permutation, IsPermutation-sym, list_any-IsPermutation, sum_by-IsPermutation}
@@ -20,20 +20,11 @@ use Rattle.mesh_list.specs.Keyed.{ascends, below_first, found, placed}
 use Rattle.mesh_list.proofs.Ascends.{and_left, and_right, ascends-placed}
 use Rattle.mesh_list.proofs.Each.{below_later, each_found, found-above, found-behind, found-itself, lt_is}
 use Rattle.mesh_list.proofs.Found.{found-placed}
-
-or_right : (a b : Bool) → b ≡ true → (a || b) ≡ true
-or_right true b h = refl
-or_right false b h = h
+use Rattle.mesh_base_values.proofs.Tests.{below_true}
 
 or_says : (a b c d : Bool) → (a ≡ true → c ≡ true) → (b ≡ true → d ≡ true) → (a || b) ≡ true → (c || d) ≡ true
 or_says true b c d f g h = ap (λ (t : Bool). t || d) (f refl)
 or_says false b c d f g h = or_right c d (g h)
-
-below_true : (m n : ℕ) → m < n → nat_lt m n ≡ true
-below_true m n h = grind arith
-
-below_false : (m n : ℕ) → n ≤ m → nat_lt m n ≡ false
-below_false m n h = grind arith
 
 -- where no item of ys passes, none of them does
 any_none : {A : Type 0} (p : A → Bool) (ys : List A) → AllByRecursion (λ (y : A). p y ≡ false) ys → list_any p ys ≡ false

@@ -1,12 +1,12 @@
 -- What goes, and what stays, in the words of the janitor's definitions.
-use Rattle.std.proofs.Common.{◌≡◌, ℕ, ℤ, zero, suc, ◌<◌, Bool, true, false, not, nat_eq, ◌⊎◌, inl, inr, List, [], ◌∷◌, refl, sym, ap, ◌∙◌, subst, arith}
+use Rattle.std.proofs.Common.{◌≡◌, ℕ, ℤ, zero, suc, ◌<◌, Bool, true, false, not, nat_eq, ◌⊎◌, inl, inr, List, [], ◌∷◌, sym, ap, ◌∙◌, subst, arith}
 use Rattle.std.specs.Prelude.{◌↔◌, ◌&&◌, ◌||◌}
 use Rattle.std.specs.List.{Contains, filter, list_any}
 use Rattle.std.specs.Ordering.{is_eq}
 use Rattle.std.proofs.Math.Bool.{or-true}
-use Rattle.std.proofs.lemmas.Bool.{eq-eqb}
+use Rattle.std.proofs.lemmas.Bool.{eq-eqb, not-true as not_true, and_from as and_both}
 use Rattle.std.proofs.lemmas.Cmp.{tied_itself}
-use Rattle.mesh_list.proofs.Ascends.{and_both, and_right}
+use Rattle.mesh_list.proofs.Ascends.{and_right}
 use Rattle.mesh_base_values.specs.NameOrder.{names_total}
 use Rattle.mesh_base.specs.declared.snapshots.Snapshot.{Snapshot}
 use Rattle.mesh_house_book.specs.declared.book.Book.{Book}
@@ -38,10 +38,6 @@ module _ (p : Snapshot → Bool) (ss : List Snapshot) where
       go : (x.rank < n) ⊎ (x.rank ≡ n) → (x.rank < n → Has x (by_layers p n ss)) → Has x (by_layers p (suc n) ss)
       go (inl m) more = Has_right x (gone_layer p n ss) (by_layers p n ss) (more m)
       go (inr e) more = Has_left x (gone_layer p n ss) (by_layers p n ss) (Has_filter (at n) ss x h (and_both (nat_eq x.rank n) (p x) (eq-eqb x.rank n e) passes))
-
-not_true : (b : Bool) → not b ≡ true → b ≡ false
-not_true true h = cc
-not_true false h = refl
 
 pub gone_exactly : (b : Book) (t : ℤ) → is_well_formed_book b ≡ true → (s : Snapshot) → Contains (gone_snapshots b t) s ↔ (Contains b.snapshots s × (is_kept b t s ≡ false))
 gone_exactly b t well s = (there, back)

@@ -7,10 +7,11 @@ use Rattle.std.specs.List.{All, filter, flat_map, list_any}
 use Rattle.std.specs.Option.{is_some, option_to_list}
 use Rattle.std.specs.Ordering.{is_eq}
 use Rattle.std.specs.declared.option.Option.{Option}
-use Rattle.std.proofs.lemmas.Bool.{eq-eqb}
+use Rattle.std.proofs.lemmas.Bool.{eq-eqb, or_right, or_left}
 use Rattle.std.proofs.lemmas.Cmp.{tied_itself}
 use Rattle.mesh_list.specs.Keyed.{ascends, found, placed}
 use Rattle.mesh_list.proofs.Found.{found-placed}
+use Rattle.mesh_base_values.proofs.Tests.{or_cases, same_truth}
 use Rattle.mesh_base.specs.Keys.{ref_cmp, ref_itself, refs_exact, refs_total, snapshot_ref}
 use Rattle.mesh_base.specs.declared.snapshots.Env.{Env}
 use Rattle.mesh_base.specs.declared.snapshots.Ref.{Ref}
@@ -29,22 +30,7 @@ use Rattle.mesh_janitor.specs.migrate.Walk.{limit_from}
 use Rattle.mesh_janitor.proofs.janitor.Books.{all_from, below_limit, is_there, its_own, snapshots_ascend}
 use Rattle.mesh_janitor.proofs.janitor.Down.{below_or}
 
-or_right : (a b : Bool) → b ≡ true → (a || b) ≡ true
-or_right true b h = refl
-or_right false b h = h
-
-or_left : (a b : Bool) → a ≡ true → (a || b) ≡ true
-or_left a b h = ap (λ (x : Bool). x || b) h
-
-or_cases : {P : Type 0} (a b : Bool) → (a || b) ≡ true → (a ≡ true → P) → (b ≡ true → P) → P
-or_cases true b h f g = f refl
-or_cases false b h f g = g h
-
 -- both or neither
-same_truth : (a b : Bool) → (a ≡ true → b ≡ true) → (b ≡ true → a ≡ true) → a ≡ b
-same_truth true b f g = sym (f refl)
-same_truth false true f g = g refl
-same_truth false false f g = refl
 
 -- a reference is wanted where it is put, or was wanted before
 some_or : (b : Bool) (r : Ref) (o : Option Ref) → is_some (cond b (Some r) o) ≡ (b || is_some o)

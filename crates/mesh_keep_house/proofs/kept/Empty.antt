@@ -5,6 +5,7 @@ use Rattle.std.specs.declared.option.Option.{Option}
 use Rattle.std.specs.Cmp.{tied_itself}
 use Rattle.std.specs.Fmt.{digits}
 use Rattle.std.specs.Ordering.{is_eq}
+use Rattle.mesh_base_values.proofs.Equals.{text_itself as same_itself}
 use Rattle.mesh_house.specs.declared.world.World.{World}
 use Rattle.mesh_house.specs.World.{empty_world}
 use Rattle.mesh_canon_text.specs.Text.{list_of, members, spaced, text_of}
@@ -19,7 +20,6 @@ use Rattle.mesh_keep.specs.declared.kept.Kept.{Kept}
 use Rattle.mesh_keep.specs.Holds.{all_known}
 use Rattle.mesh_keep.specs.Places.{body_at, body_of, kept_place, places_total}
 use Rattle.mesh_keep.specs.Said.{head_said, known_world, world_of}
-use Rattle.mesh_keep.proofs.Things.{same_itself}
 use Rattle.mesh_keep_house.specs.stored.Begun.{begun, first_head, first_write}
 
 -- the only record

@@ -1,15 +1,9 @@
 -- What a text says exactly, by a reader that undoes its writer.
 use Rattle.std.proofs.Common.{◌≡◌, ℕ, Bool, true, false, ◌&&◌, if◌then◌else◌, List, Option, Some, None, inl, inr, refl, sym, ap, ◌∙◌}
 use Rattle.std.specs.Prelude.{◌↔◌, ◌⊎◌}
-use Rattle.std.specs.Ordering.{is_eq}
-use Rattle.std.specs.declared.cmp.Ordering.{Ordering}
-use Rattle.std.specs.declared.cmp.Ordering.TheVariants.{Less, Equal, Greater}
 use Rattle.std.proofs.lemmas.Bool.{and_parts}
-use Rattle.std.proofs.lemmas.Cmp.{tied_itself}
-use Rattle.std.proofs.lemmas.Map.Lookups.{exact_bytes}
-use Rattle.mesh_base_values.specs.NameOrder.{texts_total}
-use Rattle.mesh_base_values.specs.Names.{text_cmp}
 use Rattle.mesh_base_values.specs.Picked.{same_text}
+use Rattle.mesh_base_values.proofs.Equals.{text_is as same_is, text_itself as same_itself}
 use Rattle.mesh_canon_text.specs.declared.form.Form.{Form}
 use Rattle.mesh_canon_text.specs.declared.form.Form.TheVariants.{Current, Former}
 use Rattle.mesh_canon_words.specs.Words.{◌>>=◌}
@@ -21,17 +15,6 @@ use Rattle.mesh_keep_records.specs.reading.Reading.{exactly, or_else}
 -- the text of a value that fits is read as that value
 abbrev pub Reads : {A : Type 0} → (A → List ℕ) → (A → Bool) → (List ℕ → Option A) → Type 0
 Reads {A = A} text fits read = (x : A) → fits x ≡ true → text_fits (text x) ≡ true → read (text x) ≡ Some x
-
-tied : (o : Ordering) → is_eq o ≡ true → o ≡ Equal
-tied Less e = absurd cc
-tied Equal e = refl
-tied Greater e = absurd cc
-
-same_is : (a b : List ℕ) → same_text a b ≡ true → a ≡ b
-same_is a b e = exact_bytes a b (tied (text_cmp a b) e)
-
-same_itself : (a : List ℕ) → same_text a a ≡ true
-same_itself a = ap is_eq (tied_itself texts_total a)
 
 -- what passed a test
 passed : {A : Type 0} (test : Bool) (o : Option A) (x : A) → (if test then o else None) ≡ Some x → (test ≡ true) × (o ≡ Some x)

@@ -9,8 +9,8 @@ use Rattle.mesh_base_values.specs.declared.values.Cell.{Cell}
 use Rattle.mesh_base_values.specs.declared.values.Column.{Column}
 use Rattle.mesh_base_values.specs.declared.values.Name.{Name}
 use Rattle.mesh_base_values.specs.declared.values.Pair.{Pair}
+use Rattle.mesh_base_values.proofs.Tests.{lt_true}
 use Rattle.mesh_base.specs.declared.definitions.Own.{Own}
-use Rattle.mesh_time.proofs.Apart.{lt_true}
 use Rattle.mesh_time_days.specs.seconds.Rows.{rewritten}
 use Rattle.mesh_house_book.specs.Changes.{as_table, as_view, at_version, make_table as table_made, make_view as view_made, version_object, with_marks, with_range}
 use Rattle.mesh_house_book.specs.declared.book.Book.{Book}

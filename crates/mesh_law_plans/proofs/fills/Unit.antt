@@ -6,7 +6,7 @@ use Rattle.std.proofs.lemmas.List.Elements.{filter-append}
 use Rattle.std.specs.Cmp.{Equal-is}
 use Rattle.std.specs.List.{Contains, filter}
 use Rattle.std.specs.Ordering.{int_cmp, is_eq}
-use Rattle.mesh_list.proofs.Ascends.{and_both}
+use Rattle.std.proofs.lemmas.Bool.{and_from as and_both}
 use Rattle.mesh_base_values.specs.Bag.{IsSameBag}
 use Rattle.mesh_base_values.specs.Kinds.{time_column}
 use Rattle.mesh_base_values.specs.declared.kinds.Kind.{Kind}

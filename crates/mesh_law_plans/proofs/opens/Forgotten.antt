@@ -9,9 +9,11 @@ use Rattle.mesh_base_values.specs.NameOrder.{names_exact}
 use Rattle.mesh_base_values.specs.Names.{name_cmp}
 use Rattle.mesh_base_values.specs.declared.times.Bounds.{Bounds}
 use Rattle.mesh_base_values.specs.declared.values.Name.{Name}
+use Rattle.mesh_base_values.proofs.Equals.{name_is as object_is}
+use Rattle.mesh_base_values.proofs.Tests.{lt_says}
 use Rattle.mesh_time.specs.Ranges.{IsWithin, is_apart}
 use Rattle.mesh_time.specs.Ranges as ranges
-use Rattle.mesh_time.proofs.Apart.{lt_says, lt_not}
+use Rattle.mesh_time.proofs.Apart.{lt_not}
 use Rattle.mesh_time.proofs.Forgotten.{has_forgotten, is_apart-forgotten}
 use Rattle.mesh_base.specs.declared.forgets.Forget.{Forget}
 use Rattle.mesh_base.specs.declared.forgets.Forget.TheVariants.{Marks, Range}
@@ -24,7 +26,7 @@ use Rattle.mesh_law_query.proofs.Has.{Has}
 use Rattle.mesh_house.specs.World.{version_of}
 use Rattle.mesh_spec_changes.specs.due.Parts.{is_among}
 use Rattle.mesh_spec_promise.proofs.Found.{found-exchanged}
-use Rattle.mesh_law_changes.proofs.Recorded.{object_is, same_object}
+use Rattle.mesh_law_changes.proofs.Recorded.{same_object}
 use Rattle.mesh_law_plans.proofs.opens.Parts.{among_has, not_among}
 
 -- a second lies in none of the ranges of the object in the list

@@ -4,15 +4,17 @@ use Rattle.std.specs.Cmp.{Equal-is}
 use Rattle.std.specs.Ordering.{int_cmp, is_eq}
 use Rattle.std.proofs.lemmas.Cmp.{int_cmp_total, tied_itself}
 use Rattle.std.proofs.lemmas.Map.Lookups.{exact_signed}
-use Rattle.mesh_list.proofs.Ascends.{and_left, and_right, and_both}
+use Rattle.std.proofs.lemmas.Bool.{and_from as and_both}
+use Rattle.mesh_list.proofs.Ascends.{and_left, and_right}
 use Rattle.mesh_base_values.specs.Names.{name_cmp}
+use Rattle.mesh_base_values.proofs.Equals.{name_is as object_is}
 use Rattle.mesh_base.specs.declared.forgets.Forget.{Forget}
 use Rattle.mesh_base.specs.declared.forgets.Forget.TheVariants.{Marks, Range}
 use Rattle.mesh_law_query.proofs.Has.{Has, Has_to}
 use Rattle.mesh_spec_changes.specs.due.Parts.{is_among, same_part, same_second}
 use Rattle.mesh_spec_changes.specs.due.Plans.{Planned}
 use Rattle.mesh_spec_promise.proofs.Seconds.{any_of}
-use Rattle.mesh_law_changes.proofs.Recorded.{object_is, same_object}
+use Rattle.mesh_law_changes.proofs.Recorded.{same_object}
 use Rattle.mesh_law_changes.specs.along.Ready.{AreApart}
 use Rattle.mesh_law_plans.proofs.opens.Lists.{of_all, some_passes}
 

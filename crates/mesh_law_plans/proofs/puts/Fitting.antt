@@ -3,8 +3,7 @@ use Rattle.std.proofs.Common.{◌≡◌, ℕ, ℤ, zero, suc, ◌<◌, ◌≤◌
 use Rattle.std.specs.List.{slice_get}
 use Rattle.std.specs.Option.{is_some, option_map}
 use Rattle.std.specs.declared.option.Option.TheVariants.{None, Some}
-use Rattle.std.proofs.lemmas.Bool.{le-leb}
-use Rattle.mesh_list.proofs.Ascends.{and_both}
+use Rattle.std.proofs.lemmas.Bool.{le-leb, and_from as and_both}
 use Rattle.mesh_base_values.specs.Names.{has_two_underscores}
 use Rattle.mesh_base.specs.declared.snapshots.Node.{Node}
 use Rattle.mesh_base.specs.declared.snapshots.Snapshot.{Snapshot}

@@ -6,6 +6,7 @@ use Rattle.mesh_list.proofs.Found.{found-placed}
 use Rattle.mesh_base_values.specs.Names.{name_cmp}
 use Rattle.mesh_base_values.specs.NameOrder.{names_exact}
 use Rattle.mesh_base_values.specs.declared.values.Name.{Name}
+use Rattle.mesh_base_values.proofs.Equals.{name_is as object_is}
 use Rattle.mesh_base.specs.Keys.{ref_cmp, refs_exact, snapshot_ref}
 use Rattle.mesh_base.specs.declared.snapshots.Ref.{Ref}
 use Rattle.mesh_base.specs.declared.snapshots.Snapshot.{Snapshot}
@@ -15,7 +16,6 @@ use Rattle.mesh_house_book.specs.declared.book.Book.{Book}
 use Rattle.mesh_house_book.specs.declared.versions.Version.{Version}
 use Rattle.mesh_house.specs.World.{version_of}
 use Rattle.mesh_spec_promise.proofs.Found.{found-exchanged}
-use Rattle.mesh_law_changes.proofs.Recorded.{object_is}
 use Rattle.mesh_law_changes.specs.along.Ready.{put_version}
 
 pub snapshot_after : (b : Book) (s : Snapshot) (r : Ref) → snapshot_at (put_snapshot b s).snapshots r ≡ cond (is_eq (ref_cmp (snapshot_ref s) r)) (Some s) (snapshot_at b.snapshots r)

@@ -6,6 +6,7 @@ use Rattle.std.specs.List.{AllByRecursion}
 use Rattle.std.specs.declared.option.Option.{Option}
 use Rattle.std.specs.declared.option.Option.TheVariants.{None}
 use Rattle.std.proofs.lemmas.List.{append_assoc}
+use Rattle.std.proofs.lemmas.Bool.{not-true as not_false}
 use Rattle.mesh_base.specs.declared.forgets.Forget.{Forget}
 use Rattle.mesh_base.specs.declared.forgets.Restate.{Restate}
 use Rattle.mesh_base.specs.declared.snapshots.Snapshot.{Snapshot}
@@ -37,7 +38,7 @@ use Rattle.mesh_law_plans.proofs.puts.Puts.{plans_put}
 use Rattle.mesh_law_plans.proofs.opens.Plans.{plan_apart_and_ranked}
 use Rattle.mesh_law_plans.proofs.opens.Ready.{along, each_opened, environments_left, moment_left, snapshots_left}
 use Rattle.mesh_law_plans.proofs.opens.Runs.{run_placed}
-use Rattle.mesh_law_promise.proofs.Applying.{first_of, not_false, raised_is}
+use Rattle.mesh_law_promise.proofs.Applying.{first_of, raised_is}
 use Rattle.mesh_law_promise.proofs.InTurn.{each_of}
 use Rattle.mesh_law_promise.proofs.Names.{HaveNames, proper_few, proper_names}
 use Rattle.mesh_law_promise.proofs.Promoting.{IsModelMade, promoting_along}

@@ -4,6 +4,7 @@ use Rattle.std.proofs.lemmas.Int.{ints}
 use Rattle.std.specs.List.{Contains, filter}
 use Rattle.std.specs.Option.{ForSome, is_some}
 use Rattle.std.specs.declared.option.Option.{Option}
+use Rattle.std.proofs.lemmas.Bool.{not-true as not_false}
 use Rattle.mesh_base_values.specs.Bag.{IsSameBag}
 use Rattle.mesh_base_values.specs.declared.kinds.Kind.{Kind}
 use Rattle.mesh_base_values.specs.declared.kinds.Kind.TheVariants.{Full, View, Seed, Incremental}
@@ -34,7 +35,6 @@ use Rattle.mesh_spec_promise.specs.Histories.{IsMet}
 use Rattle.mesh_spec_promise.specs.Sound.{IsMade, Sound, table_rows}
 use Rattle.mesh_spec_promise.proofs.Crons.{closed_crons}
 use Rattle.mesh_spec_promise.proofs.Seconds.{scheduled_proper}
-use Rattle.mesh_law_promise.proofs.Applying.{not_false}
 use Rattle.mesh_law_promise.specs.isolation.Isolation.{DropsNone, HasStill, KeepsRows}
 use Rattle.mesh_law_promise.proofs.isolation.Elsewhere.{IsElsewhere, object_other}
 use Rattle.mesh_law_promise.proofs.isolation.Holds.{HoldsAlong, holds_front}

@@ -6,6 +6,7 @@ use Rattle.std.specs.declared.option.Option.{Option}
 use Rattle.std.proofs.lemmas.List.{append_assoc}
 use Rattle.mesh_base_values.specs.Names.{name_cmp}
 use Rattle.mesh_base_values.specs.declared.values.Name.{Name}
+use Rattle.mesh_base_values.proofs.Equals.{name_is as object_is}
 use Rattle.mesh_base.specs.declared.forgets.Forget.{Forget}
 use Rattle.mesh_base.specs.declared.jobs.Input.{Input}
 use Rattle.mesh_house_book.specs.declared.book.Book.{Book}
@@ -24,7 +25,7 @@ use Rattle.mesh_spec_changes.specs.Changes.{executes, fills, followed, parents_i
 use Rattle.mesh_spec_promise.specs.Current.{IsReadable}
 use Rattle.mesh_spec_promise.specs.Histories.{left}
 use Rattle.mesh_spec_promise.specs.Sound.{Sound}
-use Rattle.mesh_law_changes.proofs.Recorded.{object_is, same_object}
+use Rattle.mesh_law_changes.proofs.Recorded.{same_object}
 use Rattle.mesh_law_changes.specs.along.Filled.{IsOneFilled, making_of}
 use Rattle.mesh_law_changes.specs.along.Ready.{IsOpened, IsPlaced, IsReady}
 use Rattle.mesh_law_promise.proofs.InTurn.{IsMidway, each_of, next, one, readable}

@@ -10,6 +10,7 @@ use Rattle.std.specs.Cmp.{Equal-is}
 use Rattle.std.specs.List.{Contains, filter, flat_map}
 use Rattle.std.specs.Ordering.{int_cmp, is_eq}
 use Rattle.std.specs.declared.option.Option.{Option}
+use Rattle.std.proofs.lemmas.Bool.{not-true as not_true}
 use Rattle.mesh_base_values.specs.Bag.{IsSameBag}
 use Rattle.mesh_base_values.specs.Kinds.{time_column}
 use Rattle.mesh_base_values.specs.declared.kinds.Kind.{Kind}
@@ -50,10 +51,6 @@ all_stay test (row ∷ rows) h =
 none_stay : (test : List Cell → Bool) (rows : List (List Cell)) → ((row : List Cell) → Has row rows → test row ≡ false) → filter test rows ≡ []
 none_stay test [] h = refl
 none_stay test (row ∷ rows) h = ap (λ (c : Bool). cond c (row ∷ filter test rows) (filter test rows)) (h row (inl refl)) ∙ none_stay test rows (λ r k. h r (inr k))
-
-not_true : (b : Bool) → not b ≡ true → b ≡ false
-not_true true h = absurd (let f : false ≡ true = h in cc)
-not_true false h = refl
 
 -- lists in another order have the same items
 perm_has : {X : Type 0} {xs ys : List X} → Perm xs ys → (x : X) → Has x ys → Has x xs

@@ -5,6 +5,7 @@ use Rattle.std.specs.Cmp.{Equal-is}
 use Rattle.std.specs.List.{flat_map}
 use Rattle.std.specs.Ordering.{is_eq}
 use Rattle.std.specs.declared.option.Option.{Option}
+use Rattle.std.proofs.lemmas.Bool.{false_from_ne_true as not_true}
 use Rattle.mesh_list.specs.Keyed.{ascends, found}
 use Rattle.mesh_list.proofs.Ascends.{and_left, and_right}
 use Rattle.mesh_list.proofs.Each.{each_found}
@@ -40,7 +41,6 @@ use Rattle.mesh_law_changes.proofs.Envs.{envs_rise}
 use Rattle.mesh_law_changes.proofs.Rising.{found-without}
 use Rattle.mesh_law_changes.proofs.SnapshotGone.{by_recursion}
 use Rattle.mesh_law_upkeep.proofs.again.Names.{from_order}
-use Rattle.mesh_law_upkeep.proofs.sweep.Lists.{not_true}
 use Rattle.mesh_law_upkeep.proofs.sweep.Walks.{its_names}
 
 -- another key is none of these

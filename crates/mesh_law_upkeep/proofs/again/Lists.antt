@@ -17,10 +17,6 @@ use Rattle.mesh_law_query.proofs.Has.{Has}
 use Rattle.mesh_spec_changes.proofs.listed.Lists.{below_each}
 
 -- both or neither
-pub same_truth : (a b : Bool) → (a ≡ true → b ≡ true) → (b ≡ true → a ≡ true) → a ≡ b
-same_truth true b f g = sym (f refl)
-same_truth false true f g = g refl
-same_truth false false f g = refl
 
 pub filter_all : {A : Type 0} (p : A → Bool) (xs : List A) → ((x : A) → Has x xs → p x ≡ true) → filter p xs ≡ xs
 filter_all p [] h = refl

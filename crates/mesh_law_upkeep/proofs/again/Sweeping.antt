@@ -2,17 +2,18 @@
 use Rattle.std.proofs.Common.{◌≡◌, ℕ, ℤ, Bool, true, false, not, List, [], ◌∷◌, ◌++◌, map, refl, sym, ap, ◌∙◌}
 use Rattle.std.specs.Prelude.{◌||◌, ◌&&◌}
 use Rattle.std.specs.List.{filter, flat_map, list_any}
-use Rattle.std.specs.Ordering.{is_eq, ordering_reverse}
+use Rattle.std.specs.Ordering.{is_eq}
 use Rattle.std.specs.declared.cmp.Ordering.{Ordering}
-use Rattle.std.specs.declared.cmp.Ordering.TheVariants.{Less, Equal, Greater}
 use Rattle.std.specs.declared.option.Option.{Option}
 use Rattle.std.specs.declared.option.Option.TheVariants.{None, Some}
 use Rattle.std.proofs.lemmas.Map.Lookups.{exact_bytes}
+use Rattle.std.proofs.lemmas.Bool.{not-false as not_not, not-true as not_is, and_from as and_both}
 use Rattle.mesh_list.specs.Keyed.{ascends, below_first, without}
-use Rattle.mesh_list.proofs.Ascends.{and_both, and_left, and_right}
+use Rattle.mesh_list.proofs.Ascends.{and_left, and_right}
 use Rattle.mesh_base_values.specs.Names.{name_cmp, text_cmp}
 use Rattle.mesh_base_values.specs.NameOrder.{names_exact, names_total, texts_total}
 use Rattle.mesh_base_values.specs.declared.values.Name.{Name}
+use Rattle.mesh_base_values.proofs.Equals.{eq_turned as flip_eq}
 use Rattle.mesh_base.specs.Keys.{env_name, ref_cmp, ref_name, refs_exact, refs_total, snapshot_ref}
 use Rattle.mesh_base.specs.declared.snapshots.Env.{Env}
 use Rattle.mesh_base.specs.declared.snapshots.Snapshot.{Snapshot}
@@ -103,22 +104,9 @@ rising R key rule above before (x ∷ y ∷ ys) ok =
     let fit = and_left (rule (Some x) y) (all_fit rule (Some y) ys) rest in
     and_both (below_first R key (key x) (y ∷ ys)) (ascends R key (y ∷ ys)) (above (Some x) y fit) (rising R key rule above (Some x) (y ∷ ys) rest)
 
-flip_eq : (o : Ordering) → is_eq (ordering_reverse o) ≡ is_eq o
-flip_eq Less = refl
-flip_eq Equal = refl
-flip_eq Greater = refl
-
 turned : (ns : List Name) (n : Name) → list_any (λ k. is_eq (name_cmp n k)) ns ≡ is_among ns n
 turned [] n = refl
 turned (k ∷ ks) n = λ i. (ap is_eq (names_total.antisymm n k) ∙ flip_eq (name_cmp k n)) i || turned ks n i
-
-not_not : (b : Bool) → not b ≡ false → b ≡ true
-not_not true h = refl
-not_not false h = absurd (let clash : true ≡ false = h in cc)
-
-not_is : (b : Bool) → not b ≡ true → b ≡ false
-not_is true h = absurd (let clash : false ≡ true = h in cc)
-not_is false h = refl
 
 module _ (w : World) (t : ℤ) (well : is_well_formed_book w.book ≡ true) where
   abbrev b : Book

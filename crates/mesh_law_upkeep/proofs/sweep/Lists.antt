@@ -7,6 +7,7 @@ use Rattle.std.specs.declared.cmp.Ordering.{Ordering}
 use Rattle.std.specs.declared.option.Option.{Option}
 use Rattle.std.proofs.lemmas.Cmp.{tied_itself}
 use Rattle.std.proofs.lemmas.Map.Lookups.{CmpEqualImpliesEq}
+use Rattle.std.proofs.lemmas.Bool.{false_from_ne_true as not_true}
 use Rattle.mesh_list.specs.Keyed.{ascends, below_first, found, without}
 use Rattle.mesh_list.proofs.Ascends.{and_left, and_right}
 use Rattle.mesh_list.proofs.Standing.{ascends-without}
@@ -14,10 +15,6 @@ use Rattle.mesh_law_query.proofs.Has.{Has, Has_filter_from}
 use Rattle.mesh_spec_changes.proofs.listed.Lists.{below_each}
 use Rattle.mesh_law_changes.proofs.Rising.{found-without}
 use Rattle.mesh_law_upkeep.proofs.again.Lists.{all_without}
-
-pub not_true : (b : Bool) → (b ≡ true → ⊥) → b ≡ false
-not_true true h = absurd (h refl)
-not_true false h = refl
 
 module _ {A K : Type 0} (R : K → K → Ordering) (total : IsTotalOrder R) (exact : CmpEqualImpliesEq R) (key : A → K) where
   is_itself : (k q : K) → k ≡ q → is_eq (R k q) ≡ true

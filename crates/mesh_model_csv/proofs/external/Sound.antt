@@ -1,25 +1,27 @@
 -- Sources that are declared ascend by name, and each is proper.
-use Rattle.std.proofs.Common.{◌≡◌, ℕ, ◌+◌, ◌==◌, Bool, true, false, cond, ◌&&◌, ◌||◌, not, nat_le, nat_lt, List, [], ◌∷◌, ◌++◌, codes, length, Result, Ok, Err, refl, sym, ◌∙◌, ap, subst}
+use Rattle.std.proofs.Common.{◌≡◌, ℕ, ◌+◌, ◌==◌, Bool, true, false, cond, ◌&&◌, not, nat_le, nat_lt, List, [], ◌∷◌, ◌++◌, codes, length, Result, Ok, Err, refl, sym, ◌∙◌, ap, subst}
 use Rattle.std.proofs.lemmas.List.{append-nil, append_assoc}
 use Rattle.std.proofs.lemmas.List.Folds.{list_any-append}
 use Rattle.std.specs.List.{list_all}
 use Rattle.std.specs.Option.{is_some, unwrap_or}
-use Rattle.std.specs.Ordering.{is_eq, ordering_reverse}
+use Rattle.std.specs.Ordering.{is_eq}
 use Rattle.std.specs.Str.{bytes_eq}
 use Rattle.std.specs.declared.cmp.Ordering.{Ordering}
 use Rattle.std.specs.declared.cmp.Ordering.TheVariants.{Less, Equal, Greater}
 use Rattle.std.specs.declared.option.Option.{Option}
 use Rattle.std.specs.declared.option.Option.TheVariants.{None, Some}
+use Rattle.std.proofs.lemmas.Bool.{and_from as and_both, or_left, or_right}
 use Rattle.csv.specs.Reading.{default_config, records, strip_bom}
-use Rattle.mesh_list.proofs.Ascends.{and_left, and_right, and_both, ascends-placed}
+use Rattle.mesh_list.proofs.Ascends.{and_left, and_right, ascends-placed}
 use Rattle.mesh_list.proofs.Standing.{ascends-without}
 use Rattle.mesh_list.specs.Keyed.{found, put_by, placed, without, ascends}
-use Rattle.mesh_base_values.specs.NameOrder.{texts_total, names_total}
-use Rattle.mesh_base_values.specs.Names.{name_cmp, text_cmp, is_identifier}
+use Rattle.mesh_base_values.specs.NameOrder.{names_total}
+use Rattle.mesh_base_values.specs.Names.{name_cmp, is_identifier}
 use Rattle.mesh_base_values.specs.Picked.{same_text}
 use Rattle.mesh_base.specs.declared.definitions.Decl.{Decl}
 use Rattle.mesh_base_values.specs.declared.values.Column.{Column}
 use Rattle.mesh_base_values.specs.declared.values.Name.{Name}
+use Rattle.mesh_base_values.proofs.Equals.{self_equal as itself, text_itself as same_itself}
 use Rattle.mesh_query_tokens.specs.Gives.{◌>>=◌}
 use Rattle.mesh_query_tokens.specs.declared.faults.ReadFault.{ReadFault}
 use Rattle.mesh_model_csv.specs.seeds.Cells.{Record, field}
@@ -34,21 +36,6 @@ bound (Ok x) next y e = (x, refl, e)
 bound (Err f) next y e = cc e
 
 -- a text is itself
-itself : (o : Ordering) → o ≡ ordering_reverse o → is_eq o ≡ true
-itself Less e = cc e
-itself Equal e = refl
-itself Greater e = cc e
-
-same_itself : (t : List ℕ) → same_text t t ≡ true
-same_itself t = itself (text_cmp t t) (texts_total.antisymm t t)
-
-or_left : (a b : Bool) → a ≡ true → (a || b) ≡ true
-or_left true b e = refl
-or_left false b e = cc e
-
-or_right : (a b : Bool) → b ≡ true → (a || b) ≡ true
-or_right true b e = refl
-or_right false b e = e
 
 -- a column behind those that are new is new where none has its name
 new_behind : (front cs : List Column) (c : Column) → are_new front cs ≡ true → has_column (front ++ cs) c.name ≡ false → are_new front (cs ++ c ∷ []) ≡ true

@@ -5,9 +5,9 @@ use Rattle.std.specs.List.{list_all}
 use Rattle.std.specs.Option.{option_map}
 use Rattle.std.specs.declared.option.Option.{Option}
 use Rattle.std.specs.declared.option.Option.TheVariants.{None, Some}
+use Rattle.std.proofs.lemmas.Bool.{and_from as and_both}
 use borrow.Author.Tests.{eqb-true}
 use Rattle.csv.specs.Reading.{default_config, records, strip_bom}
-use Rattle.mesh_list.proofs.Ascends.{and_both}
 use Rattle.mesh_base_values.specs.declared.values.Cell.TheVariants.{Int as Number, Date as Day, Bool as Truth}
 use Rattle.mesh_base_values.specs.declared.values.Column.{Column}
 use Rattle.mesh_base_values.specs.declared.values.ColType.{ColType}

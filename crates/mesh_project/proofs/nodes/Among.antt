@@ -6,17 +6,18 @@ use Rattle.std.specs.Cmp.{tied_itself}
 use Rattle.std.specs.Ordering.{is_eq}
 use Rattle.std.specs.declared.cmp.Ordering.{Ordering}
 use Rattle.std.specs.declared.cmp.Ordering.TheVariants.{Less, Equal, Greater}
+use Rattle.std.proofs.lemmas.Bool.{or_right as or_true}
 use Rattle.mesh_list.specs.Keyed.{ascends, found, placed, put_by}
 use Rattle.mesh_list.proofs.Ascends.{ascends-placed}
 use Rattle.mesh_list.proofs.Found.{found-placed}
 use Rattle.mesh_base_values.specs.NameOrder.{names_exact, names_total}
 use Rattle.mesh_base_values.specs.Names.{name_cmp}
 use Rattle.mesh_base_values.specs.declared.values.Name.{Name}
+use Rattle.mesh_base_values.proofs.Equals.{name_is}
 use Rattle.mesh_base.specs.declared.snapshots.Node.{Node}
 use Rattle.mesh_base.specs.rules.Proper.{is_among}
 use Rattle.mesh_project.specs.declared.nodes.earlier.Place.{Place}
 use Rattle.mesh_project.specs.nodes.Earlier.{named, node_name, noted, place_name, place_of, put_at}
-use Rattle.mesh_project.proofs.nodes.Places.{name_is}
 
 abbrev pub names_of : List Node → List Name
 names_of nodes = map node_name nodes
@@ -126,9 +127,6 @@ module _ (nodes : List Node) where
   named_found names name at there among = gets_in name at there names [] among
 
 -- each name is among them
-or_true : (a b : Bool) → b ≡ true → (a || b) ≡ true
-or_true true b h = refl
-or_true false b h = h
 
 among_more : (ns : List Name) (n : Name) (xs : List Name) → AllByRecursion (λ x. is_among ns x ≡ true) xs → AllByRecursion (λ x. is_among (n ∷ ns) x ≡ true) xs
 among_more ns n [] all = tt

@@ -10,6 +10,7 @@ use Rattle.mesh_base_values.specs.declared.kinds.Kind.{Kind}
 use Rattle.mesh_base_values.specs.declared.values.Column.{Column}
 use Rattle.mesh_base_values.specs.declared.values.Name.{Name}
 use Rattle.mesh_base_values.specs.declared.values.Seed.{Seed}
+use Rattle.mesh_base_values.proofs.Equals.{name_is}
 use Rattle.mesh_base.specs.Keys.{input_name}
 use Rattle.mesh_base.specs.Outputs.{select_columns}
 use Rattle.mesh_base.specs.declared.definitions.Decl.{Decl}
@@ -48,7 +49,6 @@ use Rattle.mesh_resolve_selects.specs.selects.Standing.{is_grouped}
 use Rattle.mesh_resolve.specs.Selects.{resolved_as, right_keys, select, some_condition, walked}
 use Rattle.mesh_project.specs.nodes.Reads.{cte_reads, from_reads, join_reads, of_two_parts, query_reads, rel_reads, select_reads, text_reads, union_reads}
 use Rattle.mesh_project.proofs.nodes.Agree.{names_agree}
-use Rattle.mesh_project.proofs.nodes.Places.{name_is}
 
 module _ {X : Type 0} (P : X → Type 0) where
   all_left : (xs ys : List X) → AllByRecursion P (xs ++ ys) → AllByRecursion P xs

@@ -2,16 +2,12 @@
 use Rattle.std.proofs.Common.{◌≡◌, ℕ, suc, Bool, true, false, cond, List, [], ◌∷◌, ◌++◌, length, Option, None, Some, refl, sym, ap, ◌∙◌}
 use Rattle.std.specs.Option.{is_some, option_map}
 use Rattle.std.specs.BTreeMap.{BTreeMap, Updates, get}
-use Rattle.std.specs.Cmp.{Equal-is}
 use Rattle.std.specs.Ordering.{is_eq}
-use Rattle.mesh_base_values.specs.NameOrder.{names_exact}
 use Rattle.mesh_base_values.specs.Names.{name_cmp}
 use Rattle.mesh_base_values.specs.declared.values.Name.{Name}
+use Rattle.mesh_base_values.proofs.Equals.{name_is}
 use Rattle.mesh_base.specs.declared.snapshots.Node.{Node}
 use Rattle.mesh_project.specs.nodes.Earlier.{new_place, or_else, place_of}
-
-pub name_is : (a b : Name) → is_eq (name_cmp a b) ≡ true → a ≡ b
-name_is a b e = names_exact a b ((Equal-is (name_cmp a b)).0 e)
 
 -- a further model stands behind the others, where its name is new
 pub place_pushed : (ns : List Node) (n : Node) (name : Name) → place_of (ns ++ n ∷ []) name ≡ or_else (place_of ns name) (new_place n.own.name (length ns) name)

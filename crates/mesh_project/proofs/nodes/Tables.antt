@@ -8,6 +8,7 @@ use Rattle.mesh_list.proofs.Found.{found-placed}
 use Rattle.mesh_base_values.specs.NameOrder.{names_exact}
 use Rattle.mesh_base_values.specs.Names.{name_cmp}
 use Rattle.mesh_base_values.specs.declared.values.Name.{Name}
+use Rattle.mesh_base_values.proofs.Equals.{name_is}
 use Rattle.mesh_base.specs.Keys.{input_name}
 use Rattle.mesh_base.specs.declared.definitions.Decl.{Decl}
 use Rattle.mesh_base.specs.declared.jobs.Input.{Input}
@@ -21,7 +22,6 @@ use Rattle.mesh_project.specs.nodes.Nodes.{input_at, input_of, inputs_at, known_
 use Rattle.mesh_project.specs.nodes.Reads.{text_reads}
 use Rattle.mesh_project.proofs.nodes.Among.{IsAt, Stands, each_among, named_found, named_stand}
 use Rattle.mesh_project.proofs.nodes.Local.{Alike, own_same}
-use Rattle.mesh_project.proofs.nodes.Places.{name_is}
 
 module _ (nodes : List Node) where
   abbrev table_at : Option ℕ → Option Input

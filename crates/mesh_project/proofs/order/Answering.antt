@@ -13,6 +13,7 @@ use Rattle.std.proofs.lemmas.List.Quantifiers.{all_pairs_push}
 use Rattle.mesh_list.specs.Keyed.{ascends}
 use Rattle.mesh_base_values.specs.declared.values.Name.{Name}
 use Rattle.mesh_base_values.specs.Names.{name_cmp}
+use Rattle.mesh_base_values.proofs.Tests.{both_parts as and_both}
 use Rattle.mesh_project.specs.declared.order.readers.Reader.{Reader}
 use Rattle.mesh_project.specs.declared.order.readers.Ranked.{Ranked}
 use Rattle.mesh_project.specs.declared.order.peel.Peeled.{Peeled}
@@ -21,7 +22,7 @@ use Rattle.mesh_project.specs.order.Order.Reaches.{at_once, through}
 use Rattle.mesh_project.specs.order.Links.{AreLinks, IsBelow, has, leads}
 use Rattle.mesh_project.specs.order.Peeled.{AreStuck, ComesBefore, IsDone, IsPeeled, IsReached}
 use Rattle.mesh_project.specs.order.Seen.{AreNamed, IsNext}
-use Rattle.mesh_project.proofs.order.Numbers.{and_both, contains_of, has_at, has_filter, place_of}
+use Rattle.mesh_project.proofs.order.Numbers.{contains_of, has_at, has_filter, place_of}
 use Rattle.mesh_project.proofs.order.Peeling.{inside_links}
 use Rattle.mesh_project.proofs.order.Walking.{some_reach}
 

@@ -10,12 +10,9 @@ use Rattle.std.proofs.lemmas.List.Folds.{list_any_at, list_any-append}
 use Rattle.std.proofs.lemmas.List.Elements.{All-append, All-from_get_or, All-head, All-map, All-tail}
 use Rattle.std.proofs.lemmas.List.Kept.{AllPairs-cons}
 use Rattle.std.proofs.lemmas.Map.Views.{Contains-from_any, any-filter_same}
+use Rattle.mesh_base_values.proofs.Tests.{both_parts as and_both}
 use Rattle.mesh_project.specs.order.Links.{has}
 use Rattle.mesh_project.specs.order.Peeled.{ranks_with}
-
-pub and_both : (a b : Bool) → (a && b) ≡ true → (a ≡ true) × (b ≡ true)
-and_both true b h = (refl, h)
-and_both false b h = cc
 
 pub has_at : (ns : List ℕ) (k : ℕ) → k < length ns → has ns (slice_index ns k) ≡ true
 has_at ns k l = list_any_at (eqb (slice_index ns k)) ns k 0 l (eq-eqb _ _ refl)

@@ -6,13 +6,14 @@ use Rattle.std.proofs.lemmas.Bool.Decides.{nat_tests}
 use Rattle.std.proofs.lemmas.List.{get_or-replicate, length-replicate, map-append}
 use Rattle.std.proofs.lemmas.List.Elements.{All-append, All-map, All-get_or, All-from_get_or, All-nil}
 use Rattle.std.proofs.lemmas.List.Kept.{AllPairs-filter}
+use Rattle.mesh_base_values.proofs.Tests.{both_parts as and_both}
 use Rattle.mesh_project.specs.declared.order.readers.Reader.{Reader}
 use Rattle.mesh_project.specs.declared.order.readers.Ranked.{Ranked}
 use Rattle.mesh_project.specs.declared.order.peel.Peeled.{Peeled}
 use Rattle.mesh_project.specs.order.Order.{is_named, name_at, place, reader_at}
 use Rattle.mesh_project.specs.order.Links.{has, leads, AreByName, AreLinks, AreWithin, IsBelow}
 use Rattle.mesh_project.specs.order.Peeled.{is_ready, at_rank, ranks_with, AreStuck, ComesBefore, IsDone, IsPeeled, IsReached, IsRound, IsUnpeeled}
-use Rattle.mesh_project.proofs.order.Numbers.{all_has, and_both, has_at, has_append, has_filter, length-ranks_with, not_all_has, pairs_append, pairs_map, place_of, ranks_with-at}
+use Rattle.mesh_project.proofs.order.Numbers.{all_has, has_at, has_append, has_filter, length-ranks_with, not_all_has, pairs_append, pairs_map, place_of, ranks_with-at}
 
 -- what became of a place at a rank
 data Now (ready left : Bool) (old new rank : ℕ) : Type 0 where

@@ -6,7 +6,6 @@ use Rattle.std.specs.Option.{option_to_list}
 use Rattle.std.specs.Map.{keys_of, values_of}
 use Rattle.std.specs.BTreeMap.{BTreeMap, IsOrdered, Updates, get, values}
 use Rattle.std.specs.Ordering.{is_eq}
-use Rattle.std.specs.Cmp.{Equal-is}
 use Rattle.std.specs.declared.cmp.Ordering.TheVariants.{Less}
 use Rattle.std.specs.declared.option.Option.{Option}
 use Rattle.std.proofs.lemmas.Bool.{eqb-true, eq-eqb, lt-ltb, ltb-true, cases_lt}
@@ -18,14 +17,12 @@ use Rattle.std.proofs.lemmas.Map.Keys.{IsDistinct-from_apart, Less-from_sorted}
 use Rattle.std.proofs.lemmas.Map.Steps.{length-le_from_distinct_below}
 use Rattle.mesh_base_values.specs.declared.values.Name.{Name}
 use Rattle.mesh_base_values.specs.Names.{name_cmp}
-use Rattle.mesh_base_values.specs.NameOrder.{names_exact, names_total}
+use Rattle.mesh_base_values.specs.NameOrder.{names_total}
+use Rattle.mesh_base_values.proofs.Equals.{name_is as same_name}
 use Rattle.mesh_project.specs.declared.order.readers.Reader.{Reader}
 use Rattle.mesh_project.specs.order.Order.{AreApart, is_named, name_at, reader_at, reads}
 use Rattle.mesh_project.specs.order.Links.{AreByName, AreLinks, ArePlaces, IsBelow, IsPlaceOf, has}
 use Rattle.mesh_project.proofs.order.Numbers.{place_of}
-
-pub same_name : (a b : Name) → is_eq (name_cmp a b) ≡ true → a ≡ b
-same_name a b e = names_exact a b ((Equal-is (name_cmp a b)).0 e)
 
 pub equal_itself : (a : Name) → is_eq (name_cmp a a) ≡ true
 equal_itself a = ap is_eq (tied_itself names_total a)

@@ -3,7 +3,7 @@ use Rattle.std.proofs.Common.{◌≡◌, ℕ, zero, suc, ◌+◌, ◌<◌, ◌�
 use Rattle.std.specs.Prelude.{nat_lt, AllPairs, Contains}
 use Rattle.std.specs.List.{range_with_len}
 use Rattle.std.specs.Cmp.{IsTotalOrder}
-use Rattle.std.specs.Ordering.{is_lt, nat_cmp, ordering_then}
+use Rattle.std.specs.Ordering.{nat_cmp, ordering_then}
 use Rattle.std.specs.declared.cmp.Ordering.{Ordering}
 use Rattle.std.specs.declared.cmp.Ordering.TheVariants.{Less, Equal, Greater}
 use Rattle.std.proofs.lemmas.Bool.{and_from, cases_lt, eq-eqb, eqb-true, ltb-true}
@@ -16,21 +16,18 @@ use Rattle.std.proofs.lemmas.List.Kept.{AllPairs-cons}
 use Rattle.std.proofs.lemmas.Map.Keys.{IsDistinct-from_apart}
 use Rattle.std.proofs.lemmas.Map.Steps.{length-le_from_distinct_below, le-length_from_below}
 use Rattle.mesh_list.specs.Keyed.{ascends, below_first}
+use Rattle.mesh_list.proofs.Each.{lt_is}
 use Rattle.mesh_base_values.specs.Names.{name_cmp}
 use Rattle.mesh_base_values.specs.NameOrder.{names_total}
+use Rattle.mesh_base_values.proofs.Tests.{both_parts as and_both}
 use Rattle.mesh_project.specs.declared.order.readers.Reader.{Reader}
 use Rattle.mesh_project.specs.declared.order.readers.Ranked.{Ranked}
 use Rattle.mesh_project.specs.order.Order.{AreRanks, IsOrder, Reaches, above, is_named, itself, name_at, parents, place, ranked_cmp, reader_at, reads}
 use Rattle.mesh_project.specs.order.Order.Reaches.{at_once, through}
 use Rattle.mesh_project.specs.order.Links.{has}
 use Rattle.mesh_project.specs.order.Laws.{AreAsMany, AreCyclesOne, AreOrdersOne, AreRanksOne, HasNoCycle, StandBefore, item_at}
-use Rattle.mesh_project.proofs.order.Numbers.{and_both, has_at, has_filter, place_of}
+use Rattle.mesh_project.proofs.order.Numbers.{has_at, has_filter, place_of}
 use Rattle.mesh_project.proofs.order.Answering.{above_ge}
-
-lt_is : (o : Ordering) → is_lt o ≡ true → o ≡ Less
-lt_is Less h = refl
-lt_is Equal h = absurd cc
-lt_is Greater h = absurd cc
 
 abbrev In : {A : Type 0} → A → List A → Type 0
 In x [] = ⊥

@@ -1,7 +1,7 @@
 -- A node that fits the nodes before it fits them still where more stand behind; nodes in order are a proper project.
 use Rattle.std.proofs.Common.{◌≡◌, inl, inr, ℕ, zero, suc, ◌≤◌, Bool, true, false, ◌||◌, not, List, [], ◌∷◌, ◌++◌, map, length, refl, sym, ap, ◌∙◌, arith}
 use Rattle.std.proofs.Math.Dec.{eqb}
-use Rattle.std.proofs.lemmas.Bool.{eq-eqb, eqb-true}
+use Rattle.std.proofs.lemmas.Bool.{eq-eqb, eqb-true, and_from as and_both}
 use Rattle.std.proofs.lemmas.Cmp.{nat_cmp_total, on_total, then_total, tied_itself}
 use Rattle.std.proofs.lemmas.List.{length-map}
 use Rattle.std.proofs.lemmas.List.Folds.{list_all-append}
@@ -12,10 +12,11 @@ use Rattle.std.specs.Option.{is_some}
 use Rattle.std.specs.Ordering.{is_eq, is_lt, nat_cmp, ordering_then}
 use Rattle.std.specs.declared.cmp.Ordering.TheVariants.{Less, Equal}
 use Rattle.mesh_list.specs.Keyed.{ascends, below_first}
-use Rattle.mesh_list.proofs.Ascends.{and_both, and_left, and_right}
+use Rattle.mesh_list.proofs.Ascends.{and_left, and_right}
 use Rattle.mesh_base_values.specs.NameOrder.{names_total}
 use Rattle.mesh_base_values.specs.Names.{name_cmp}
 use Rattle.mesh_base_values.specs.declared.values.Name.{Name}
+use Rattle.mesh_base_values.proofs.Equals.{name_is}
 use Rattle.mesh_base.specs.declared.snapshots.Node.{Node}
 use Rattle.mesh_base.specs.rules.Proper.{are_places, has_node, have_distinct_names, is_fit, is_well_formed, node_cmp, node_itself, parent_at, parents_at, stands_on}
 use Rattle.mesh_base.specs.rules.Relations.{rank_over}
@@ -26,7 +27,6 @@ use Rattle.mesh_project.specs.declared.nodes.earlier.Place.{Place}
 use Rattle.mesh_project.specs.nodes.Earlier.{named, place_at}
 use Rattle.mesh_project.proofs.project.In.{In, all_below, fits_length, fits_right, of_map}
 use Rattle.mesh_project.proofs.nodes.Among.{IsAt, Stands, named_stand}
-use Rattle.mesh_project.proofs.nodes.Places.{name_is}
 use Rattle.mesh_project.proofs.project.Ranks.{Fits, parents_named, rank_is, ranked_total, ranks, within}
 
 got_kept : {X : Type 0} (xs ys : List X) (k : ℕ) → is_some (slice_get xs k) ≡ true → slice_get (xs ++ ys) k ≡ slice_get xs k

@@ -1,12 +1,12 @@
 -- The models of files in order, each over those before it, are a proper project.
 use Rattle.std.proofs.Common.{◌≡◌, inl, ℕ, zero, suc, ◌<◌, ◌≤◌, Bool, true, false, ◌||◌, not, cond, List, [], ◌∷◌, ◌++◌, map, length, Option, None, Some, Result, Ok, Err, refl, sym, ap, ◌∙◌, subst, append_assoc, arith}
 use Rattle.std.proofs.lemmas.List.{append-nil, length-map}
-use Rattle.std.proofs.lemmas.Bool.{le-leb}
+use Rattle.std.proofs.lemmas.Bool.{le-leb, and_from as and_both}
 use Rattle.std.specs.List.{AllByRecursion, AllZip, list_all, slice_get, slice_index_or}
 use Rattle.std.specs.Option.{is_some}
 use Rattle.std.specs.Ordering.{is_eq, is_lt}
 use Rattle.mesh_list.specs.Keyed.{ascends, below_first, found}
-use Rattle.mesh_list.proofs.Ascends.{and_both, and_left, and_right}
+use Rattle.mesh_list.proofs.Ascends.{and_left, and_right}
 use Rattle.mesh_list.proofs.Each.{each_found}
 use Rattle.mesh_base_values.specs.NameOrder.{names_total}
 use Rattle.mesh_base_values.specs.Names.{name_cmp}

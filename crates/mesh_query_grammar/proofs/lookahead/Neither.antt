@@ -1,11 +1,8 @@
 -- A token that is none of several signs is no operator.
-use Rattle.std.proofs.Common.{◌≡◌, List, [], ◌∷◌, codes, Bool, false, ◌||◌, refl}
+use Rattle.std.proofs.Common.{◌≡◌, List, [], ◌∷◌, codes, false, refl}
 use Rattle.mesh_query_tokens.specs.declared.tokens.Token.{Token}
 use Rattle.mesh_query_grammar.specs.Plans.{is_sign, is_cmp, is_add, is_mul}
 use Rattle.mesh_query_grammar.specs.Machine.{begins}
-
-two : (a b : Bool) → a ≡ false → b ≡ false → (a || b) ≡ false
-two a b h g = rw (h, g) refl
 
 pub no_add : (s : List Token) → begins (is_sign (codes "+")) s ≡ false → begins (is_sign (codes "-")) s ≡ false → begins is_add s ≡ false
 no_add [] a b = refl

@@ -3,19 +3,15 @@ use Rattle.std.proofs.Common.{◌≡◌, ◌≢◌, ℕ, suc, ◌+◌, ◌<◌, 
 use Rattle.std.specs.List.{list_any, flat_map}
 use Rattle.std.specs.Option.{IfSome, is_some}
 use Rattle.std.specs.BTreeMap.{BTreeMap, Updates, get}
-use Rattle.std.specs.Cmp.{Equal-is}
-use Rattle.std.proofs.lemmas.Map.Lookups.{exact_bytes}
 use Rattle.std.proofs.lemmas.List.{append-nil, take_more, flat_map_more}
 use Rattle.mesh_base_values.specs.Names.{text_cmp}
 use Rattle.mesh_base_values.specs.Picked.{same_text}
 use Rattle.mesh_base_values.specs.declared.values.Column.{Column}
+use Rattle.mesh_base_values.proofs.Equals.{text_is as same_name}
 use Rattle.mesh_resolve_scope.specs.declared.sight.sight.Seen.{Seen}
 use Rattle.mesh_resolve_scope.specs.declared.sight.sight.Meant.{Meant}
 use Rattle.mesh_resolve_scope.specs.sight.Sight.{meant, meant_by, meant_column, meant_in, is_column, is_there}
 use Rattle.mesh_resolve_scope.specs.sight.Sole.{sole, sole_of_both, places_from, IsIndexed}
-
-pub same_name : (a b : List ℕ) → same_text a b ≡ true → a ≡ b
-same_name a b is = exact_bytes a b ((Equal-is (text_cmp a b)).0 is)
 
 -- names of unlike length are two
 pub unlike_lengths : (a b : List ℕ) → length a ≢ length b → false ≡ same_text a b

@@ -2,30 +2,19 @@
 use Rattle.std.proofs.Common.{◌≡◌, ℕ, ◌+◌, ◌*◌, ◌<◌, ◌≤◌, Bool, true, false, ◌&&◌, cond, nat_lt, List, Some, None, ℤ, pos, ◌≤ℤ◌, refl, sym, ◌∙◌, ap, subst, arith}
 use Rattle.std.specs.Prelude.{MatchOption}
 use Rattle.std.specs.declared.option.Option.{Option}
-use Rattle.std.specs.Cmp.{Equal-is}
-use Rattle.std.proofs.lemmas.Cmp.{tied_itself}
-use Rattle.std.proofs.lemmas.Map.Lookups.{exact_bytes}
 use Rattle.std.proofs.lemmas.Bool.Decides.{nat_tests}
+use Rattle.std.proofs.lemmas.Bool.{and_from as and_both}
 use Rattle.jiff_core.specs.Calendar.{days_in_month, days_from_civil}
 use Rattle.jiff_core.specs.Date.{epoch_day}
 use Rattle.jiff_core.specs.declared.civil.date.Date.{Date}
 use Rattle.jiff_core.proofs.SignedLemmas.{signed_arith}
-use Rattle.mesh_list.proofs.Ascends.{and_left, and_right, and_both}
-use Rattle.mesh_base_values.specs.Names.{text_cmp}
-use Rattle.mesh_base_values.specs.NameOrder.{texts_total}
+use Rattle.mesh_list.proofs.Ascends.{and_left, and_right}
 use Rattle.mesh_base_values.specs.Picked.{same_text}
+use Rattle.mesh_base_values.proofs.Equals.{text_itself as same_itself, text_is as same_is}
+use Rattle.mesh_base_values.proofs.Tests.{below_true as below}
 use Rattle.mesh_time_days.specs.Moments.{date_text, IsDayText}
 use Rattle.mesh_time_days.proofs.TextLaws.{date_parts}
 use Rattle.mesh_time_days.specs.casts.Dates.{number_at, is_day, day_form, day_if, day_named}
-
-same_itself : (a : List ℕ) → same_text a a ≡ true
-same_itself a = (Equal-is (text_cmp a a)).1 (tied_itself texts_total a)
-
-same_is : (a b : List ℕ) → same_text a b ≡ true → a ≡ b
-same_is a b h = exact_bytes a b ((Equal-is (text_cmp a b)).0 h)
-
-below : (a b : ℕ) → a < b → nat_lt a b ≡ true
-below a b h = grind (arith, nat_tests)
 
 is_below : (a b : ℕ) → nat_lt a b ≡ true → a < b
 is_below a b h = grind (arith, nat_tests)

@@ -1,11 +1,11 @@
 use Rattle.std.proofs.Common.{◌≡◌, List, [], ◌∙◌}
+use Rattle.mesh_base_values.proofs.Tests.{both_parts as is_both}
 use Rattle.mesh_base.specs.declared.jobs.Input.{Input}
 use Rattle.mesh_house.specs.declared.world.Change.{Change}
 use Rattle.mesh_spec_changes.specs.Changes.{ascending}
 use Rattle.mesh_exec_works.specs.Plain.{model_of}
 use Rattle.mesh_exec_works.specs.Works.{seed_rows}
 use Rattle.mesh_exec.proofs.Filling.{ok_more, seed_fills, view_fills}
-use Rattle.mesh_exec.proofs.Running.{is_both}
 use Rattle.mesh_exec.specs.Fills.{each_with, fillings}
 use Rattle.mesh_exec.proofs.fills.changes_of.Goals as goal
 

@@ -1,4 +1,5 @@
 use Rattle.std.proofs.Common.{◌≡◌, ℕ, List, [], length, ap, subst, refl, ◌∙◌}
+use Rattle.mesh_base_values.proofs.Tests.{both_parts as is_both}
 use Rattle.mesh_house.specs.declared.world.Change.{Change}
 use Rattle.mesh_house.specs.Runs.{Makes}
 use Rattle.mesh_house.proofs.Runs.{memory_then, ran_nothing}
@@ -7,7 +8,7 @@ use Rattle.mesh_exec_works.specs.Plain.{model_of}
 use Rattle.mesh_exec.specs.Fills.{fillings, first_pool, run_fillings}
 use Rattle.mesh_exec.specs.Runs.{are_fit_runs}
 use Rattle.mesh_exec.proofs.Filling.{ok_more, runs_fill}
-use Rattle.mesh_exec.proofs.Running.{is_both, runs_fit}
+use Rattle.mesh_exec.proofs.Running.{runs_fit}
 use Rattle.mesh_exec.proofs.fills.fill_computed.Goals as goal
 
 pub returns-in_err-runs-clause-makes : goal.returns-in_err-runs-clause-makes

@@ -3,8 +3,9 @@ use Rattle.std.specs.Prelude.{FitsSigned}
 use Rattle.std.proofs.lemmas.Int.{to_z-of_z}
 use Rattle.std.proofs.lemmas.List.{take_rest}
 use Rattle.mesh_base_values.specs.declared.times.Bounds.{Bounds}
+use Rattle.mesh_base_values.proofs.Tests.{lt_says}
 use Rattle.mesh_time.specs.Edits.{spans_without_each}
-use Rattle.mesh_time.proofs.Apart.{lt_says, lt_not}
+use Rattle.mesh_time.proofs.Apart.{lt_not}
 use Rattle.mesh_time.proofs.Without.{beyond, goes_on, rest_goes_on, order_goes_on}
 use Rattle.mesh_time.proofs.cuts.cut.Goals as goal
 
