@@ -6,6 +6,7 @@ use Rattle.std.specs.declared.option.Option.{Option}
 use Rattle.mesh_base_values.specs.Kinds.{is_incremental}
 use Rattle.mesh_base_values.specs.declared.kinds.Kind.{Kind}
 use Rattle.mesh_base_values.specs.declared.kinds.Kind.TheVariants.{Full, View, Seed, Incremental}
+use Rattle.mesh_base_values.proofs.Tests.{both_parts as is_both}
 use Rattle.mesh_base.specs.rules.Proper.{is_body_of}
 use Rattle.mesh_base.specs.declared.jobs.Input.{Input}
 use Rattle.mesh_base.specs.declared.plans.Due.{Due}
@@ -21,7 +22,6 @@ use Rattle.mesh_exec_works.specs.Plain.{making, model_of}
 use Rattle.mesh_exec_works.specs.Works.{Part, are_fit, is_fit}
 use Rattle.mesh_exec.specs.Executed.{executes, filled, fills, part_fills, part_filling, part_outline, parts_outline}
 use Rattle.mesh_exec.proofs.Books.{ends}
-use Rattle.mesh_exec.proofs.Running.{is_both}
 use Rattle.mesh_exec.proofs.Stepping.{each_many, written_many}
 
 -- what comes behind a list that is there, in the world that it leaves

@@ -16,3 +16,5 @@ pub mod Making
 pub mod Migrated
 -- ByName: an entry is put into a map as its model is put at its place.
 pub mod ByName
+-- Applied: an apply and a run, step by step.
+pub mod Applied

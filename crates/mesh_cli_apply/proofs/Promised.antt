@@ -5,6 +5,7 @@ use Rattle.std.specs.Int.Signed.{lt_z}
 use Rattle.std.specs.List.{AllByRecursion, AllZip}
 use Rattle.std.specs.declared.option.Option.{Option}
 use Rattle.std.proofs.lemmas.List.{append-nil}
+use Rattle.std.proofs.lemmas.Bool.{and_from as where_all}
 use Rattle.mesh_base_values.specs.declared.values.Name.{Name}
 use Rattle.mesh_base.specs.declared.forgets.Restate.{Restate}
 use Rattle.mesh_base.specs.declared.plans.Category.{Category}
@@ -79,8 +80,6 @@ module _ (b : Book) (env : List ℕ) (e : Env) (t : ℤ) (p : Plan) (h : IsRunOf
   }
 
 -- a command that is allowed asks for its changes
-where_all : (a b : Bool) → a ≡ true → b ≡ true → (a && b) ≡ true
-where_all a b p q = (λ i. p i && b) ∙ q
 
 allowed : (c : Bool) (list : List Change) → c ≡ true → list ≡ cond c list []
 allowed c list is = λ i. cond (sym is i) list []

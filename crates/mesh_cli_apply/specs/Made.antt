@@ -11,19 +11,13 @@ use Rattle.mesh_house.specs.declared.world.Change.{Change}
 use Rattle.mesh_house.specs.declared.world.World.{World}
 use Rattle.mesh_house.specs.House.{Told}
 use Rattle.mesh_spec_changes.specs.Commands.{Command}
-use Rattle.mesh_spec_changes.specs.Environments.{env_at}
 use Rattle.mesh_plan.specs.Plans.{IsPlanOf}
-use Rattle.mesh_plan.specs.Running.{IsRunIn}
 use Rattle.mesh_cli_print.specs.declared.printed.refusals.Refusal.{Refusal}
 use Rattle.mesh_cli_apply.specs.Applying.{AreOf, IsApplied, IsHeld, IsRan, IsReady}
 
 -- the plan is one of a proper project at a moment, by this book
 abbrev pub IsPlanFor : Book → Plan → Type 0
 IsPlanFor b p = (nodes : List Node) × (env : List ℕ) × (t : ℤ) × (again : Option Restate) × IsMoment t × (is_proper p.project.nodes ≡ true) × IsPlanOf b nodes env t again p
-
--- the plan is one of a run at a moment, by this book
-abbrev pub IsRunFor : Book → Plan → Type 0
-IsRunFor b p = (env : List ℕ) × (t : ℤ) × IsMoment t × (is_proper p.project.nodes ≡ true) × IsRunIn b env (env_at b env) t p
 
 -- where the house tells its world, that has this book
 abbrev pub HasBook : Book → Told → Type 0

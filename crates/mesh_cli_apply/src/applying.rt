@@ -1,30 +1,26 @@
 // `apply`.
-ghost use Rattle.std.specs.Prelude.{◌≡◌, ◌≤◌, ◌++◌, true, IfOk};
+ghost use Rattle.std.specs.Prelude.{◌≡◌, ◌≤◌, ◌++◌, IfOk};
 ghost use Rattle.std.specs.Option.{option_copied};
 ghost use Rattle.mesh_list.specs.Counts.{Rose};
 ghost use Rattle.mesh_time_days.specs.Moments.{IsMoment};
-ghost use Rattle.mesh_spec_changes.specs.Commands.{Apply, is_present};
-ghost use Rattle.mesh_plan.specs.Plans.{promised};
 ghost use Rattle.mesh_cli_print.specs.plans.PlanText.{plan_text};
 ghost use Rattle.mesh_cli_print.specs.printed.Reports.{applied_line};
 ghost use Rattle.mesh_cli_answer.specs.Answers.{Answers, IsAsked};
 ghost use Rattle.mesh_cli_apply.specs.Applying.{ApplyGives, ApplyMakes};
 ghost use Rattle.mesh_cli_apply.specs.Loaded.{IsProject, OfProject};
-ghost use Rattle.mesh_cli_apply.specs.Made.{ApplyTells, HasBook, IsPlanFor, MakesBy};
 
-use crate::planned::planned;
-use crate::promote::make_plan;
+use crate::listing::listing;
+use crate::planned::{loaded, planned};
+use crate::steps::{executed, promoted};
 use mesh_base::Restate;
-use mesh_base::rules::{Plan, Project};
+use mesh_base::rules::Plan;
 use mesh_base_values::Str;
-use mesh_cli_answer::{of_load, present_book};
+use mesh_cli_answer::present_book;
 use mesh_cli_print::plans::plan_text;
 use mesh_cli_print::printed::{Refusal, applied_line};
 use mesh_house::Warehouse;
-use mesh_house_book::Book;
 use mesh_io::Folder;
 use mesh_list::{Memory, Seq};
-use mesh_project::project::load;
 use std::alloc::Global;
 use std::thread::Threads;
 
@@ -42,72 +38,6 @@ fn applied_text(alloc: Global, p: &Plan, changes: u64) -> Result<Str, Memory>
 {
     let line = applied_line(alloc, &p.env, changes)?;
     joined(plan_text(p)?, line)
-}
-
-fn apply_plan<R: Threads + Sync, W: Warehouse>(
-    rt: &R,
-    alloc: Global,
-    house: &mut W,
-    b: &Book,
-    p: &Plan,
-    workers: u32,
-) -> Result<Str, Refusal>
-    requires workers { (1 ≤ workers) × (workers ≤ 64) }
-    requires present { is_present b.now ≡ true }
-    requires plan { IsPlanFor b.now p.now }
-    requires book { HasBook b.now (W.told house.old) }
-    ensures { Answers ⊥ (MakesBy p.now (Apply (promised p.now))) (ApplyTells p.now) (W.told house.old) (W.told house.new) result }
-{
-    match make_plan(rt, alloc, house, b, p, workers) {
-        Err(refusal) => Err(refusal),
-        Ok(changes) => match applied_text(alloc, p, changes) {
-            Ok(text) => Ok(text),
-            Err(_) => Err(Refusal::Memory),
-        },
-    }
-}
-
-fn apply_by<R: Threads + Sync, W: Warehouse>(
-    rt: &R,
-    alloc: Global,
-    house: &mut W,
-    b: &Book,
-    project: &Project,
-    env: &Str,
-    t: i64,
-    again: Option<&Restate>,
-    workers: u32,
-) -> Result<Str, Refusal>
-    requires workers { (1 ≤ workers) × (workers ≤ 64) }
-    requires present { is_present b.now ≡ true }
-    requires moment { IsMoment t }
-    requires book { HasBook b.now (W.told house.old) }
-    ensures { Answers ⊥ (ApplyMakes project.now.nodes env.now t (option_copied again.entry)) (ApplyGives project.now.nodes env.now t (option_copied again.entry)) (W.told house.old) (W.told house.new) result }
-{
-    match planned(alloc, b, project, env, t, again) {
-        Err(refusal) => Err(refusal),
-        Ok(p) => apply_plan(rt, alloc, house, b, &p, workers),
-    }
-}
-
-fn apply_project<R: Threads + Sync, W: Warehouse>(
-    rt: &R,
-    alloc: Global,
-    house: &mut W,
-    project: &Project,
-    env: &Str,
-    t: i64,
-    again: Option<&Restate>,
-    workers: u32,
-) -> Result<Str, Refusal>
-    requires workers { (1 ≤ workers) × (workers ≤ 64) }
-    requires moment { IsMoment t }
-    ensures { Answers ⊥ (ApplyMakes project.now.nodes env.now t (option_copied again.entry)) (ApplyGives project.now.nodes env.now t (option_copied again.entry)) (W.told house.old) (W.told house.new) result }
-{
-    match present_book(alloc, house) {
-        Err(refusal) => Err(refusal),
-        Ok(b) => apply_by(rt, alloc, house, &b, project, env, t, again, workers),
-    }
 }
 
 /// `apply`: the project in `dir` is made for an environment at a moment, and the answer is the text of its plan with
@@ -129,8 +59,12 @@ pub fn apply<R: Threads + Sync, W: Warehouse, F: Folder>(
         (λ w. OfProject (F.told folder.old).files dir.now (λ nodes. ApplyGives nodes env.now t (option_copied again.entry) w)) (W.told house.old) (W.told house.new) result }
     ensures folder { IsAsked (F.told folder.old) (F.told folder.new) }
 {
-    match load(alloc, folder, dir) {
-        Err(fault) => Err(of_load(fault)),
-        Ok(project) => apply_project(rt, alloc, house, &project, env, t, again, workers),
-    }
+    let project = loaded(alloc, folder, dir)?;
+    let book = present_book(alloc, house)?;
+    let p = planned(alloc, &book, &project, env, t, again)?;
+    let lists = listing(alloc, &p)?;
+    let done = executed(rt, alloc, house, &p, workers)?;
+    let changes = promoted(alloc, house, &book, &p, &lists, done)?;
+    let text = applied_text(alloc, &p, changes)?;
+    Ok(text)
 }

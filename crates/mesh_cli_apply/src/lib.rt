@@ -9,9 +9,8 @@ mod faults;
 mod listing;
 mod migrating;
 mod planned;
-mod promote;
 mod running;
-mod views;
+mod steps;
 
 pub use applying::apply;
 pub use migrating::migrate;

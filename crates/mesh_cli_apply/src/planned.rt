@@ -3,16 +3,14 @@ ghost use Rattle.std.specs.Prelude.{◌≡◌, ◌⊎◌, true, IfOk, IfErr};
 ghost use Rattle.std.specs.List.{list_any};
 ghost use Rattle.std.specs.Option.{option_copied};
 ghost use Rattle.mesh_base.specs.declared.snapshots.Node.{Node};
-ghost use Rattle.mesh_base.specs.declared.rules.plans.Plan.{Plan};
 ghost use Rattle.mesh_list.specs.Counts.{Rose};
 ghost use Rattle.mesh_time_days.specs.Moments.{IsMoment};
 ghost use Rattle.mesh_spec_changes.specs.due.Parts.{same_name};
 ghost use Rattle.mesh_spec_changes.specs.Commands.{is_present};
-ghost use Rattle.mesh_cli_print.specs.plans.PlanText.{plan_text};
 ghost use Rattle.mesh_cli_print.specs.declared.printed.refusals.Refusal.TheVariants.{Memory as NoMemory};
 ghost use Rattle.mesh_cli_answer.specs.Answers.{Answers, IsAsked, no_changes};
 ghost use Rattle.mesh_cli_apply.specs.Applying.{PlanGives};
-ghost use Rattle.mesh_cli_apply.specs.Loaded.{OfProject};
+ghost use Rattle.mesh_cli_apply.specs.Loaded.{LoadsProject, OfProject};
 ghost use Rattle.mesh_cli_apply.specs.Planning.{IsPlanned, IsStray, PlanRefused, has_named, no_model};
 
 use crate::faults::of_plan;
@@ -30,6 +28,20 @@ use mesh_list::{Memory, Seq};
 use mesh_project::project::load;
 use mesh_query_tokens::FaultKind;
 use std::alloc::Global;
+
+/// The project in a folder, or why there is none.
+pub(crate) fn loaded<F: Folder>(
+    alloc: Global,
+    folder: &mut F,
+    dir: &Str,
+) -> Result<Project, Refusal>
+    ensures { LoadsProject dir.now (F.told folder.old) (F.told folder.new) result }
+{
+    match load(alloc, folder, dir) {
+        Err(fault) => Err(of_load(fault)),
+        Ok(project) => Ok(project),
+    }
+}
 
 fn is_named(nodes: &[Node], name: &Name) -> bool
     ensures { result ≡ list_any (λ (n : Node). same_name n.own.name name.now) nodes.now }
@@ -103,45 +115,6 @@ pub(crate) fn planned(
     }
 }
 
-fn text_by(
-    alloc: Global,
-    b: &Book,
-    project: &Project,
-    env: &Str,
-    t: i64,
-    again: Option<&Restate>,
-) -> Result<Str, Refusal>
-    requires present { is_present b.now ≡ true }
-    requires moment { IsMoment t }
-    ensures ok { IfOk result (λ text. (p : Plan) × IsPlanned b.now project.now.nodes env.now t (option_copied again.entry) p × (text ≡ plan_text p)) }
-    ensures err { IfErr result (λ r. (r ≡ NoMemory) ⊎ PlanRefused b.now project.now.nodes env.now t (option_copied again.entry) r) }
-{
-    match planned(alloc, b, project, env, t, again) {
-        Err(refusal) => Err(refusal),
-        Ok(p) => match plan_text(&p) {
-            Ok(text) => Ok(text),
-            Err(_) => Err(Refusal::Memory),
-        },
-    }
-}
-
-fn plan_project<W: Warehouse>(
-    alloc: Global,
-    house: &mut W,
-    project: &Project,
-    env: &Str,
-    t: i64,
-    again: Option<&Restate>,
-) -> Result<Str, Refusal>
-    requires moment { IsMoment t }
-    ensures { Answers ⊥ no_changes (PlanGives project.now.nodes env.now t (option_copied again.entry)) (W.told house.old) (W.told house.new) result }
-{
-    match present_book(alloc, house) {
-        Err(refusal) => Err(refusal),
-        Ok(b) => text_by(alloc, &b, project, env, t, again),
-    }
-}
-
 /// `plan`: the text of what an apply of the project in `dir` would do for an environment at a moment. Nothing is
 /// changed.
 pub fn plan<W: Warehouse, F: Folder>(
@@ -157,8 +130,9 @@ pub fn plan<W: Warehouse, F: Folder>(
     ensures answers { Answers (Rose (F.told folder.old).faults (F.told folder.new).faults) no_changes (λ w. OfProject (F.told folder.old).files dir.now (λ nodes. PlanGives nodes env.now t (option_copied again.entry) w)) (W.told house.old) (W.told house.new) result }
     ensures folder { IsAsked (F.told folder.old) (F.told folder.new) }
 {
-    match load(alloc, folder, dir) {
-        Err(fault) => Err(of_load(fault)),
-        Ok(project) => plan_project(alloc, house, &project, env, t, again),
-    }
+    let project = loaded(alloc, folder, dir)?;
+    let book = present_book(alloc, house)?;
+    let p = planned(alloc, &book, &project, env, t, again)?;
+    let text = plan_text(&p)?;
+    Ok(text)
 }

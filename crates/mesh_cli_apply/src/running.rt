@@ -1,19 +1,17 @@
 // `run`.
 ghost use Rattle.std.specs.Prelude.{◌≡◌, ◌⊎◌, ◌≤◌, ◌++◌, true, IfOk, IfErr};
 ghost use Rattle.mesh_time_days.specs.Moments.{IsMoment};
-ghost use Rattle.mesh_spec_changes.specs.Commands.{RunAll, is_present};
-ghost use Rattle.mesh_plan.specs.Plans.{promised};
+ghost use Rattle.mesh_spec_changes.specs.Commands.{is_present};
 ghost use Rattle.mesh_cli_print.specs.plans.PlanText.{plan_text};
 ghost use Rattle.mesh_cli_print.specs.declared.printed.refusals.Refusal.TheVariants.{Memory as NoMemory};
 ghost use Rattle.mesh_cli_print.specs.printed.Reports.{ran_line};
 ghost use Rattle.mesh_cli_answer.specs.Answers.{Answers};
 ghost use Rattle.mesh_cli_apply.specs.Applying.{RunGives, RunMakes};
-ghost use Rattle.mesh_cli_apply.specs.Made.{HasBook, IsRunFor, MakesBy, RunTells};
 ghost use Rattle.mesh_cli_apply.specs.Planning.{IsRunPlanned, RunRefused};
 
 use crate::applying::joined;
 use crate::faults::of_plan;
-use crate::promote::make_run;
+use crate::steps::executed;
 use mesh_base::rules::Plan;
 use mesh_base_values::Str;
 use mesh_cli_answer::present_book;
@@ -33,29 +31,6 @@ fn ran_text(alloc: Global, p: &Plan, changes: u64) -> Result<Str, Memory>
     joined(plan_text(p)?, line)
 }
 
-fn run_plan<R: Threads + Sync, W: Warehouse>(
-    rt: &R,
-    alloc: Global,
-    house: &mut W,
-    b: &Book,
-    p: &Plan,
-    workers: u32,
-) -> Result<Str, Refusal>
-    requires workers { (1 ≤ workers) × (workers ≤ 64) }
-    requires present { is_present b.now ≡ true }
-    requires plan { IsRunFor b.now p.now }
-    requires book { HasBook b.now (W.told house.old) }
-    ensures { Answers ⊥ (MakesBy p.now (RunAll (promised p.now))) (RunTells p.now) (W.told house.old) (W.told house.new) result }
-{
-    match make_run(rt, alloc, house, b, p, workers) {
-        Err(refusal) => Err(refusal),
-        Ok(changes) => match ran_text(alloc, p, changes) {
-            Ok(text) => Ok(text),
-            Err(_) => Err(Refusal::Memory),
-        },
-    }
-}
-
 /// The plan of what is due of an environment's models, by a book that is as it has to be.
 fn run_planned(alloc: Global, b: &Book, env: &Str, t: i64) -> Result<Plan, Refusal>
     requires present { is_present b.now ≡ true }
@@ -66,27 +41,6 @@ fn run_planned(alloc: Global, b: &Book, env: &Str, t: i64) -> Result<Plan, Refus
     match plan_run(alloc, b, env, t) {
         Err(fault) => Err(of_plan(alloc, env, fault)),
         Ok(p) => Ok(p),
-    }
-}
-
-fn run_by<R: Threads + Sync, W: Warehouse>(
-    rt: &R,
-    alloc: Global,
-    house: &mut W,
-    b: &Book,
-    env: &Str,
-    t: i64,
-    workers: u32,
-) -> Result<Str, Refusal>
-    requires workers { (1 ≤ workers) × (workers ≤ 64) }
-    requires present { is_present b.now ≡ true }
-    requires moment { IsMoment t }
-    requires book { HasBook b.now (W.told house.old) }
-    ensures { Answers ⊥ (RunMakes env.now t) (RunGives env.now t) (W.told house.old) (W.told house.new) result }
-{
-    match run_planned(alloc, b, env, t) {
-        Err(refusal) => Err(refusal),
-        Ok(p) => run_plan(rt, alloc, house, b, &p, workers),
     }
 }
 
@@ -104,8 +58,9 @@ pub fn run<R: Threads + Sync, W: Warehouse>(
     requires moment { IsMoment t }
     ensures { Answers ⊥ (RunMakes env.now t) (RunGives env.now t) (W.told house.old) (W.told house.new) result }
 {
-    match present_book(alloc, house) {
-        Err(refusal) => Err(refusal),
-        Ok(b) => run_by(rt, alloc, house, &b, env, t, workers),
-    }
+    let book = present_book(alloc, house)?;
+    let p = run_planned(alloc, &book, env, t)?;
+    let changes = executed(rt, alloc, house, &p, workers)?;
+    let text = ran_text(alloc, &p, changes)?;
+    Ok(text)
 }

@@ -2,7 +2,7 @@ use Rattle.std.proofs.Common.{ℕ, ℤ, Err, inl, rules, subst, FitsSigned, w64,
 use Rattle.std.proofs.lemmas.Int.{to_z-of_z}
 use Rattle.mesh_house.specs.Runs.{Makes}
 use Rattle.mesh_janitor.specs.promote.Promotion.{promotion}
-use Rattle.mesh_cli_apply.proofs.views.promoted.Goals as goal
+use Rattle.mesh_cli_apply.proofs.steps.promoted.Goals as goal
 
 pub returns-in-Err : goal.returns-in-Err
 returns-in-Err g c =
