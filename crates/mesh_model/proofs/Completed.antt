@@ -3,7 +3,7 @@ use Rattle.std.proofs.Common.{◌≡◌, ℕ, Bool, true, false, cond, ◌&&◌,
 use Rattle.std.specs.Option.{is_some, unwrap_or}
 use Rattle.std.specs.declared.option.Option.{Option}
 use Rattle.std.specs.declared.option.Option.TheVariants.{None, Some}
-use Rattle.mesh_list.proofs.Ascends.{and_both}
+use Rattle.std.proofs.lemmas.Bool.{and_from as and_both}
 use Rattle.mesh_base_values.specs.Crons.{CronSets}
 use Rattle.mesh_base_values.specs.Kinds.{lookback_of}
 use Rattle.mesh_base_values.specs.declared.kinds.Kind.{Kind}

@@ -8,7 +8,7 @@ use Rattle.std.specs.Str.Lossy.{utf8_valid_len}
 use Rattle.std.proofs.lemmas.Bool.Decides.{nat_tests}
 use Rattle.std.specs.declared.option.Option.{Option}
 use Rattle.std.specs.declared.option.Option.TheVariants.{None, Some}
-use Rattle.mesh_list.proofs.Ascends.{and_both}
+use Rattle.std.proofs.lemmas.Bool.{and_from as and_both}
 use Rattle.mesh_base_values.specs.Names.{is_name_byte, is_identifier}
 use Rattle.mesh_query_tokens.specs.Letters.{is_blank, is_digit, begins_word, is_sign, is_long_sign, lowered, decimal}
 use Rattle.mesh_query_tokens.specs.Pieces.{Piece, piece_at, word_at, number_at, macro_at, text_at, text_of, text_len, line_at, line_len, note_at, note_of, note_len, pair_at, last_at, long_sign, sign_at, utf8, no_token, too_large, longest_name, greatest, word_len, digits_len}

@@ -11,9 +11,9 @@ use std::alloc::Global;
 
 /// The tokens in front of the first fault among them, and that fault.
 #[derive(Drop)]
-pub(crate) struct Lexed {
-    pub(crate) tokens: Tokens,
-    pub(crate) fault: Option<ReadFault>,
+pub struct Lexed {
+    pub tokens: Tokens,
+    pub fault: Option<ReadFault>,
 }
 
 // The bytes in front of a place.
@@ -64,7 +64,8 @@ fn in_front(alloc: Global, bytes: &[u8], at: u64) -> Result<Tokens, Memory>
     }
 }
 
-pub(crate) fn read_tokens(alloc: Global, bytes: &[u8]) -> Result<Lexed, Memory>
+/// The tokens of a text in front of its first fault, and that fault.
+pub fn read_tokens(alloc: Global, bytes: &[u8]) -> Result<Lexed, Memory>
     ensures { IfOk result (λ found. found ≡ record { tokens = file_tokens bytes.now; fault = file_fault bytes.now }) }
 {
     match tokens_of(alloc, bytes) {

@@ -11,4 +11,5 @@ mod model;
 mod read;
 
 pub use laws::models_are_complete;
+pub use lexed::{Lexed, read_tokens};
 pub use read::read_model;

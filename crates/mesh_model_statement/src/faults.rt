@@ -6,7 +6,8 @@ use mesh_list::Duplicate;
 use mesh_query_tokens::{FaultKind, ReadFault};
 use std::alloc::Global;
 
-pub(crate) fn bad(alloc: Global, at: u64, name: &[u8]) -> ReadFault
+/// A property that is bad, or want of memory to name it.
+pub fn bad(alloc: Global, at: u64, name: &[u8]) -> ReadFault
     ensures { Refused result (bad at name.now) }
 {
     match u8::copy_items(alloc, name) {
@@ -18,7 +19,8 @@ pub(crate) fn bad(alloc: Global, at: u64, name: &[u8]) -> ReadFault
     }
 }
 
-pub(crate) fn unknown(alloc: Global, at: u64, name: &[u8]) -> ReadFault
+/// A property that no statement has.
+pub fn unknown(alloc: Global, at: u64, name: &[u8]) -> ReadFault
     ensures { Refused result (unknown at name.now) }
 {
     match u8::copy_items(alloc, name) {
@@ -30,7 +32,8 @@ pub(crate) fn unknown(alloc: Global, at: u64, name: &[u8]) -> ReadFault
     }
 }
 
-pub(crate) fn outside(alloc: Global, at: u64, name: &[u8]) -> ReadFault
+/// What is outside of what is built.
+pub fn outside(alloc: Global, at: u64, name: &[u8]) -> ReadFault
     ensures { Refused result (outside at name.now) }
 {
     match u8::copy_items(alloc, name) {

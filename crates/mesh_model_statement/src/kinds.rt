@@ -67,7 +67,7 @@ fn kind_or_fault(alloc: Global, at: u64, word: &[u8]) -> Result<KindWord, ReadFa
 }
 
 /// The byte at which the first token begins, and 0 where there is none.
-pub(crate) fn first_at(value: &[Token]) -> u64
+pub fn first_at(value: &[Token]) -> u64
     ensures { result ≡ first_at value.now }
 {
     match value {

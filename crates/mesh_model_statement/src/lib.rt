@@ -15,7 +15,10 @@ mod properties;
 mod values;
 mod words;
 
-pub use kinds::KindText;
+pub use faults::{bad, outside, unknown};
+pub use kinds::{KindText, first_at};
 pub use laws::{lookbacks_are_short, names_have_schemas, the_rest_stands_behind};
+pub use look::{is_word, word};
 pub use parts::Parts;
-pub use properties::{end_of, read_statement};
+pub use properties::{begins, end_of, expect, read_statement, value_size};
+pub use words::is_one_of;

@@ -9,7 +9,8 @@ use mesh_base_values::Str;
 use mesh_query_grammar::lookahead::is_same;
 use mesh_query_tokens::{Token, TokenKind};
 
-pub(crate) fn is_word(token: &Token, word: &[u8]) -> bool
+/// Whether a token is this word.
+pub fn is_word(token: &Token, word: &[u8]) -> bool
     ensures { result ≡ is_word word.now token.now }
 {
     match &token.kind {
@@ -19,7 +20,7 @@ pub(crate) fn is_word(token: &Token, word: &[u8]) -> bool
 }
 
 /// The word that a token is.
-pub(crate) fn word(token: &Token) -> Option<&[u8]>
+pub fn word(token: &Token) -> Option<&[u8]>
     ensures { seen result ≡ word token.now }
 {
     match &token.kind {

@@ -24,9 +24,14 @@ pub fn end_of(before: u64, tokens: &[Token]) -> u64
     end
 }
 
-// How many tokens a value has, which are one at least.
+/// How many tokens a value has, which are one at least.
 #[tactic(auto, unfolding(crate::specs::Statement::value_size))]
-fn value_size(alloc: Global, any: bool, before: u64, tokens: &[Token]) -> Result<usize, ReadFault>
+pub fn value_size(
+    alloc: Global,
+    any: bool,
+    before: u64,
+    tokens: &[Token],
+) -> Result<usize, ReadFault>
     ensures value { Gives result (value_size any before tokens.now) }
     ensures within { IfOk result (λ n. n ≤ length tokens.now) }
 {
@@ -83,8 +88,8 @@ fn property<'a>(
     }
 }
 
-// A sign that has to stand here: its end, and the tokens behind it.
-fn expect<'a>(
+/// A sign that has to stand here: its end, and the tokens behind it.
+pub fn expect<'a>(
     sign: &[u8],
     before: u64,
     tokens: &'a [Token],
@@ -103,7 +108,8 @@ fn expect<'a>(
     }
 }
 
-fn begins(sign: &[u8], tokens: &[Token]) -> bool
+/// Whether the first of the tokens is this sign.
+pub fn begins(sign: &[u8], tokens: &[Token]) -> bool
     ensures { result ≡ begins sign.now tokens.now }
 {
     match tokens {

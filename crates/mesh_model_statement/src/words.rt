@@ -7,7 +7,8 @@ use crate::kinds::KindWord;
 use mesh_base_values::Str;
 use mesh_query_grammar::lookahead::is_same;
 
-pub(crate) fn is_one_of(words: &[Str], word: &[u8]) -> bool
+/// Whether the word is one of these.
+pub fn is_one_of(words: &[Str], word: &[u8]) -> bool
     ensures { result ≡ is_one_of words.now word.now }
 {
     let mut found = false;

@@ -4,8 +4,9 @@ use Rattle.std.proofs.lemmas.List.{append_assoc}
 use Rattle.std.proofs.lemmas.List.Folds.{list_any-append}
 use Rattle.std.specs.List.{list_any}
 use Rattle.std.specs.declared.option.Option.TheVariants.{None, Some}
+use Rattle.std.proofs.lemmas.Bool.{and_from as and_both}
 use Rattle.csv.specs.Reading.{default_config, records, strip_bom}
-use Rattle.mesh_list.proofs.Ascends.{and_left, and_right, and_both}
+use Rattle.mesh_list.proofs.Ascends.{and_left, and_right}
 use Rattle.mesh_base_values.specs.declared.values.Column.{Column}
 use Rattle.mesh_base_values.specs.declared.values.ColType.{ColType}
 use Rattle.mesh_base_values.specs.declared.values.Seed.{Seed}

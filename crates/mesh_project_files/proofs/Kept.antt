@@ -6,7 +6,8 @@ use Rattle.std.specs.List.{All, ends_with}
 use Rattle.std.specs.Option.{is_some}
 use Rattle.std.specs.declared.option.Option.{Option}
 use Rattle.std.specs.declared.option.Option.TheVariants.{None, Some}
-use Rattle.mesh_list.proofs.Ascends.{and_left, and_right, and_both}
+use Rattle.std.proofs.lemmas.Bool.{and_from as and_both}
+use Rattle.mesh_list.proofs.Ascends.{and_left, and_right}
 use Rattle.mesh_base_values.specs.Crons.{is_cron}
 use Rattle.mesh_base_values.specs.Kinds.{is_incremental}
 use Rattle.mesh_base_values.specs.Names.{is_letter, is_schema, has_two_underscores}

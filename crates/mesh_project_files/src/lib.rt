@@ -14,5 +14,6 @@ mod read;
 pub use faults::{LoadFault, bad_path, in_file, outside, too_large};
 pub use files::{read_sources, read_within};
 pub use laws::files_say_one_thing;
+pub use places::{in_dir, is_sql, under};
 pub use project::{ModelFile, ProjectFiles};
 pub use read::read_files;

@@ -6,8 +6,8 @@ use mesh_base_values::Str;
 use mesh_list::{Duplicate, Memory, Seq};
 use std::alloc::Global;
 
-// A path below a folder.
-fn under(alloc: Global, dir: &[u8], path: &[u8]) -> Result<Str, Memory>
+/// A path below a folder.
+pub fn under(alloc: Global, dir: &[u8], path: &[u8]) -> Result<Str, Memory>
     ensures { IfOk result (λ made. made ≡ under dir.now path.now) }
 {
     let mut made = Vec::from_slice(alloc, dir)?;
