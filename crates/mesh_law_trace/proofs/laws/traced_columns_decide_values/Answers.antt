@@ -1,0 +1,6 @@
+use Rattle.std.proofs.Common.{◌∷◌, []}
+use Rattle.mesh_law_trace.proofs.Traced.{traced}
+use Rattle.mesh_law_trace.proofs.laws.traced_columns_decide_values.Goals as goal
+
+pub returns : goal.returns
+returns c = λ a b d e v query column agree clock. traced a b clock d e v query (column ∷ []) agree
