@@ -12,8 +12,8 @@ use Rattle.mesh_project_files.specs.Models.{file_within}
 use Rattle.mesh_project_files.specs.Places.{under}
 use Rattle.mesh_project_files.specs.declared.faults.LoadFault.{LoadFault}
 use Rattle.mesh_project_files.specs.declared.faults.LoadFault.TheVariants.{Fault, Folder, Memory}
-use Rattle.mesh_audit_text.specs.Texts.{IsAuditRead}
-use Rattle.mesh_audit_text.specs.declared.texts.AuditText.{AuditText}
+use Rattle.mesh_audit_files.specs.text.Texts.{IsAuditRead}
+use Rattle.mesh_audit_files.specs.declared.text.texts.AuditText.{AuditText}
 use Rattle.mesh_audit_files.specs.declared.files.AuditFile.{AuditFile}
 use Rattle.mesh_audit_files.specs.Files.{AreAuditFiles, IsAdded, IsContentAdded, IsFileAdded, IsTextAdded, audit_file, audit_name, audit_paths}
 use Rattle.mesh_audit_files.specs.Listings.{Listed}

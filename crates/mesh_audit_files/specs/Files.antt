@@ -12,8 +12,8 @@ use Rattle.mesh_project_files.specs.Loading.{◌>>=◌, Gives, in_file}
 use Rattle.mesh_project_files.specs.Models.{file_within}
 use Rattle.mesh_project_files.specs.Places.{in_dir, is_sql, under}
 use Rattle.mesh_project_files.specs.declared.faults.LoadFault.{LoadFault}
-use Rattle.mesh_audit_text.specs.declared.texts.AuditText.{AuditText}
-use Rattle.mesh_audit_text.specs.Texts.{IsAuditRead}
+use Rattle.mesh_audit_files.specs.declared.text.texts.AuditText.{AuditText}
+use Rattle.mesh_audit_files.specs.text.Texts.{IsAuditRead}
 use Rattle.mesh_audit_files.specs.declared.files.AuditFile.{AuditFile}
 use Rattle.mesh_audit_files.specs.Listings.{Listed, goes_by}
 use Rattle.mesh_audit_files.specs.Queries.{IsQueryFor}

@@ -10,3 +10,5 @@ pub mod Queries
 pub mod Files
 -- Sets: the audits of a project, or the first fault of their files and of what models list.
 pub mod Sets
+-- text: the definitions of the module `text`.
+pub mod text

@@ -9,9 +9,9 @@ use Rattle.mesh_base_values.specs.Names.{name_cmp}
 use Rattle.mesh_base_values.specs.declared.values.Name.{Name}
 use Rattle.mesh_base.specs.declared.snapshots.Node.{Node}
 use Rattle.mesh_project_files.specs.declared.project.ModelFile.{ModelFile}
-use Rattle.mesh_audit_text.specs.declared.entries.Entry.{Entry}
-use Rattle.mesh_audit_text.specs.declared.entries.Entry.TheVariants.{Named}
-use Rattle.mesh_audit_text.specs.Entries.{entries_of}
+use Rattle.mesh_audit_files.specs.declared.text.entries.Entry.{Entry}
+use Rattle.mesh_audit_files.specs.declared.text.entries.Entry.TheVariants.{Named}
+use Rattle.mesh_audit_files.specs.text.Entries.{entries_of}
 
 -- an entry of a model's `audits`, with the model and its file
 pub record Listed : Type 0 where

@@ -12,8 +12,8 @@ use Rattle.mesh_resolve.specs.Queries.{resolved}
 use Rattle.mesh_project_files.specs.Loading.{Gives, of_text}
 use Rattle.mesh_project_files.specs.declared.faults.LoadFault.{LoadFault}
 use Rattle.mesh_project.specs.nodes.Nodes.{input_of}
-use Rattle.mesh_audit_text.specs.Replaced.{with_name}
-use Rattle.mesh_audit_text.specs.Texts.{placeless}
+use Rattle.mesh_audit_files.specs.text.Replaced.{with_name}
+use Rattle.mesh_audit_files.specs.text.Texts.{placeless}
 use Rattle.mesh_audit_files.specs.declared.files.AuditFile.{AuditFile}
 
 -- what an audit's query may name: the models of the project, no sources and no macros

@@ -21,8 +21,8 @@ use Rattle.mesh_project_files.specs.declared.project.ProjectFiles.{ProjectFiles}
 use Rattle.mesh_resolve.specs.declared.known.Known.{Known}
 use Rattle.mesh_audit.specs.declared.audits.AuditSet.{AuditSet}
 use Rattle.mesh_audit.specs.Forms.{not_null, unique_values}
-use Rattle.mesh_audit_text.specs.declared.entries.Entry.{Entry}
-use Rattle.mesh_audit_text.specs.declared.entries.Entry.TheVariants.{Named, NotNull, UniqueValues, Other}
+use Rattle.mesh_audit_files.specs.declared.text.entries.Entry.{Entry}
+use Rattle.mesh_audit_files.specs.declared.text.entries.Entry.TheVariants.{Named, NotNull, UniqueValues, Other}
 use Rattle.mesh_audit_files.specs.declared.files.AuditFile.{AuditFile}
 use Rattle.mesh_audit_files.specs.Files.{AreAuditFiles}
 use Rattle.mesh_audit_files.specs.Listings.{Listed, all_listed}

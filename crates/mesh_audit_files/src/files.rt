@@ -1,5 +1,5 @@
 // The file of an audit.
-use mesh_audit_text::AuditText;
+use crate::text::AuditText;
 use mesh_base_values::Str;
 use mesh_list::Seq;
 

@@ -3,9 +3,9 @@ ghost use Rattle.std.specs.Prelude.{◌≡◌, ◌++◌, IfOk, OnOk, map};
 ghost use Rattle.std.specs.Option.{option_copied};
 ghost use Rattle.mesh_audit_files.specs.Listings.{all_listed, file_of, goes_by, is_entry_of, is_file_of, listed_as, listed_by};
 ghost use Rattle.mesh_audit_files.specs.Listing.{plain};
-ghost use Rattle.mesh_audit_text.specs.Entries.{entries_of};
+ghost use Rattle.mesh_audit_files.specs.text.Entries.{entries_of};
 
-use mesh_audit_text::{Entry, entries_of};
+use crate::text::{Entry, entries_of};
 use mesh_base::Node;
 use mesh_base_values::{Name, Str};
 use mesh_list::{Memory, Seq};

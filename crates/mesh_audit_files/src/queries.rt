@@ -10,7 +10,7 @@ ghost use Rattle.mesh_project.specs.nodes.Nodes.{input_of};
 ghost use Rattle.mesh_audit_files.specs.Queries.{IsQueryFor, in_query, known_in, query_of};
 
 use crate::files::AuditFile;
-use mesh_audit_text::{placeless, with_name};
+use crate::text::{placeless, with_name};
 use mesh_base::{Input, Inputs, Node, Query};
 use mesh_base_columns::columns_of;
 use mesh_base_values::{Name, Str};

@@ -10,7 +10,7 @@ ghost use Rattle.mesh_audit_files.specs.Walks.{Along};
 use crate::files::{AuditFile, AuditFiles};
 use crate::listings::{Listing, goes_by};
 use crate::queries::query_for;
-use mesh_audit_text::read_audit;
+use crate::text::read_audit;
 use mesh_base_values::{LARGEST_FILE, Str, Strs};
 use mesh_io::Folder;
 use mesh_list::{Duplicate, Memory, Seq, push_made};

@@ -12,9 +12,9 @@ ghost use Rattle.mesh_query_tokens.specs.declared.faults.FaultKind.TheVariants a
 use crate::files::AuditFile;
 use crate::listings::Listing;
 use crate::queries::query_for;
+use crate::text::Entry;
 use mesh_audit::audits::{Audit, AuditName, AuditSet};
 use mesh_audit::{not_null, unique_values};
-use mesh_audit_text::Entry;
 use mesh_base::rules::has_column;
 use mesh_base::{Node, Query};
 use mesh_base_columns::columns_of;

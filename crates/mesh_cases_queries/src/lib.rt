@@ -23,11 +23,14 @@
 //! two of which one waits for the other at a gate, and 256, and shows how many lists of rows there are, and whether
 //! each stands at the place of its job.
 //!
+//! `gates` has gates for cases, and a plan that is made with one.
+//!
 //! `bench/eval.py` and `bench/text.py` have the program run cases of their own.
 #![tactic(auto)]
 
 mod asked;
 mod cut;
+pub mod gates;
 mod jobs;
 mod shown;
 mod stage;

@@ -3,11 +3,11 @@ ghost use Rattle.std.specs.Prelude.{◌≤◌, ◌<◌, length, IsTrue};
 ghost use Rattle.std.specs.List.{All};
 ghost use Rattle.mesh_base.specs.declared.jobs.Job.{Job};
 
+use crate::gates::Holding;
 use crate::jobs::{jobs, pools, query};
 use mesh_base::{Jobs, Pools, Query};
 use mesh_base_values::{Cell, RowsList};
 use mesh_cases::{Pen, Trouble};
-use mesh_cases_gates::Holding;
 use mesh_exec_wave::wave::{Gate, OpenGate, wave};
 use std::alloc::Global;
 use std::thread::Threads;

@@ -7,7 +7,7 @@ use crate::stage::Stage;
 use crate::trouble::Trouble;
 use mesh_base::Done;
 use mesh_base_values::Str;
-use mesh_cases_gates::{Counting, Holding, make_behind};
+use mesh_cases_queries::gates::{Counting, Holding, make_behind};
 use mesh_exec_wave::wave::Gate;
 use mesh_time_days::moment_of;
 use std::alloc::Global;

@@ -24,8 +24,8 @@ use Rattle.mesh_spec_changes.specs.due.Plans.{Planned}
 use Rattle.mesh_spec_changes.specs.Changes.{ascending}
 use Rattle.mesh_lineage.specs.Joinable.{is_joinable, is_joinable_as}
 use Rattle.mesh_exec_wave.proofs.wave.Ascending.{cut_ascending}
-use Rattle.mesh_exec_units.specs.Units.{IsInDays, IsUnit}
-use Rattle.mesh_exec_units.proofs.Cuts.{sorted_rows}
+use Rattle.mesh_exec.specs.units.Units.{IsInDays, IsUnit}
+use Rattle.mesh_exec.proofs.units.Cuts.{sorted_rows}
 use Rattle.mesh_exec_works.specs.Cuts.{cut_fills, rows_in, run_fills, second_in, seconds_by, seconds_of}
 use Rattle.mesh_exec_works.specs.Executable.{is_due_of, is_in_days}
 use Rattle.mesh_exec_works.specs.Written.{written}

@@ -18,3 +18,5 @@ pub mod Planned
 pub mod Cuts
 -- Fronts: models whose rows are computed side by side, before any of them is made.
 pub mod Fronts
+-- units: the definitions of the module `units`.
+pub mod units

@@ -40,10 +40,10 @@ use Rattle.mesh_spec_promise.proofs.Moments.{moment_raised}
 use Rattle.mesh_law_changes.specs.along.Along.{StaysAlong}
 use Rattle.mesh_law_changes.specs.along.Ready.{AreApart, AreRanked, ArePut, IsFilled, IsPlaced, IsReady}
 use Rattle.mesh_law_changes.proofs.along.Along.{along_and_then, along_append, along_end, along_then, left_both, left_same}
-use Rattle.mesh_law_plans.proofs.puts.Puts.{plans_put}
-use Rattle.mesh_law_plans.proofs.opens.Plans.{plan_apart_and_ranked}
-use Rattle.mesh_law_plans.proofs.opens.Ready.{opened_ready}
-use Rattle.mesh_law_plans.proofs.opens.Runs.{run_placed}
+use Rattle.mesh_law_steps.proofs.puts.Puts.{plans_put}
+use Rattle.mesh_law_steps.proofs.opens.Plans.{plan_apart_and_ranked}
+use Rattle.mesh_law_steps.proofs.opens.Ready.{opened_ready}
+use Rattle.mesh_law_steps.proofs.opens.Runs.{run_placed}
 use Rattle.mesh_law_promise.proofs.InTurn.{all_filled, all_of, each_of}
 use Rattle.mesh_law_promise.proofs.Names.{HaveNames, proper_few, proper_names, refs_to}
 use Rattle.mesh_law_promise.proofs.Promoting.{IsModelMade, done_made, promoted_final, promoting_along}

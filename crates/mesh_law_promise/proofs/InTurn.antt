@@ -34,7 +34,7 @@ use Rattle.mesh_spec_promise.specs.Sound.{Sound}
 use Rattle.mesh_law_changes.specs.along.Along.{StaysAlong}
 use Rattle.mesh_law_changes.specs.along.Filled.{IsOneFilled, making_of}
 use Rattle.mesh_law_changes.specs.along.Ready.{AreApart, AreRanked, IsFilled, IsOpened, IsPlaced, IsReady}
-use Rattle.mesh_law_plans.proofs.fills.Filled.{one_filled}
+use Rattle.mesh_law_steps.proofs.fills.Filled.{one_filled}
 use Rattle.mesh_law_changes.proofs.along.Along.{along_append, along_end, left_both, left_fewer}
 
 -- what holds of each item holds of all

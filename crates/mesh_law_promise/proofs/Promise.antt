@@ -24,8 +24,8 @@ use Rattle.mesh_law_changes.proofs.EnvLaws.{env_expired}
 use Rattle.mesh_law_changes.proofs.Migrating.{book_moved}
 use Rattle.mesh_law_changes.specs.along.Along.{StaysAlong}
 use Rattle.mesh_law_changes.proofs.along.Along.{along_front, along_kept, left_none}
-use Rattle.mesh_law_upkeep.proofs.sweep.Loading.{load_along}
-use Rattle.mesh_law_upkeep.proofs.sweep.Sweeping.{sweep_along}
+use Rattle.mesh_law_steps.proofs.sweep.Loading.{load_along}
+use Rattle.mesh_law_steps.proofs.sweep.Sweeping.{sweep_along}
 use Rattle.mesh_law_promise.proofs.Applying.{apply_along, apply_final, first_of, run_along, run_final}
 use Rattle.mesh_law_promise.proofs.Lists.{env_named, list_is, run_names}
 

@@ -34,10 +34,10 @@ use Rattle.mesh_spec_promise.proofs.Seconds.{any_of}
 use Rattle.mesh_law_changes.proofs.Recorded.{same_object}
 use Rattle.mesh_law_changes.specs.along.Along.{StaysAlong}
 use Rattle.mesh_law_changes.specs.along.Ready.{AreApart, AreRanked, ArePut, IsPlaced}
-use Rattle.mesh_law_plans.proofs.puts.Puts.{plans_put}
-use Rattle.mesh_law_plans.proofs.opens.Plans.{plan_apart_and_ranked}
-use Rattle.mesh_law_plans.proofs.opens.Ready.{along, each_opened, environments_left, moment_left, snapshots_left}
-use Rattle.mesh_law_plans.proofs.opens.Runs.{run_placed}
+use Rattle.mesh_law_steps.proofs.puts.Puts.{plans_put}
+use Rattle.mesh_law_steps.proofs.opens.Plans.{plan_apart_and_ranked}
+use Rattle.mesh_law_steps.proofs.opens.Ready.{along, each_opened, environments_left, moment_left, snapshots_left}
+use Rattle.mesh_law_steps.proofs.opens.Runs.{run_placed}
 use Rattle.mesh_law_promise.proofs.Applying.{first_of, raised_is}
 use Rattle.mesh_law_promise.proofs.InTurn.{each_of}
 use Rattle.mesh_law_promise.proofs.Names.{HaveNames, proper_few, proper_names}

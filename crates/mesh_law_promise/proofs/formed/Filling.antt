@@ -34,9 +34,9 @@ use Rattle.mesh_law_changes.proofs.Recording.{marks_recorded}
 use Rattle.mesh_law_changes.proofs.Replacing.{rows_replaced}
 use Rattle.mesh_law_changes.specs.along.Filled.{IsOfObject}
 use Rattle.mesh_law_changes.specs.along.Ready.{HasTheRest, IsPlaced}
-use Rattle.mesh_law_plans.proofs.fills.Kept.{marked_object, marked_version, of_object, of_object_then, replaced_keeps, replaced_rows}
-use Rattle.mesh_law_plans.proofs.fills.Making.{IsBegun}
-use Rattle.mesh_law_plans.proofs.fills.Twins.{marks_are, twin_own}
+use Rattle.mesh_law_steps.proofs.fills.Kept.{marked_object, marked_version, of_object, of_object_then, replaced_keeps, replaced_rows}
+use Rattle.mesh_law_steps.proofs.fills.Making.{IsBegun}
+use Rattle.mesh_law_steps.proofs.fills.Twins.{marks_are, twin_own}
 use Rattle.mesh_law_promise.proofs.Promoting.{IsModelMade}
 use Rattle.mesh_law_promise.proofs.formed.Formed.{FormedAlong}
 

@@ -35,9 +35,9 @@ use Rattle.mesh_spec_promise.specs.Sound.{Sound, parent_objects}
 use Rattle.mesh_law_changes.proofs.Making.{table_made_sound, used_physical, view_made_sound}
 use Rattle.mesh_law_changes.specs.along.Filled.{making_of}
 use Rattle.mesh_law_changes.specs.along.Ready.{HasTheRest, IsOpened, IsPlaced}
-use Rattle.mesh_law_plans.proofs.fills.Kept.{of_object, table_object, table_version, view_object, view_version}
-use Rattle.mesh_law_plans.proofs.fills.Making.{IsBegun}
-use Rattle.mesh_law_plans.proofs.fills.Twins.{planned_known, twin_kind, twin_own}
+use Rattle.mesh_law_steps.proofs.fills.Kept.{of_object, table_object, table_version, view_object, view_version}
+use Rattle.mesh_law_steps.proofs.fills.Making.{IsBegun}
+use Rattle.mesh_law_steps.proofs.fills.Twins.{planned_known, twin_kind, twin_own}
 use Rattle.mesh_law_promise.proofs.Promoting.{IsModelMade}
 use Rattle.mesh_law_promise.proofs.formed.Formed.{FormedAlong, formed_taken}
 

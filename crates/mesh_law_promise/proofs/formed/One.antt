@@ -19,8 +19,8 @@ use Rattle.mesh_spec_changes.specs.Changes.{fills, followed, parents_in}
 use Rattle.mesh_spec_promise.specs.Sound.{Sound}
 use Rattle.mesh_law_changes.specs.along.Filled.{IsOfObject, making_of}
 use Rattle.mesh_law_changes.specs.along.Ready.{IsOpened, IsPlaced}
-use Rattle.mesh_law_plans.proofs.fills.Kept.{of_object_then}
-use Rattle.mesh_law_plans.proofs.fills.Making.{IsBegun}
+use Rattle.mesh_law_steps.proofs.fills.Kept.{of_object_then}
+use Rattle.mesh_law_steps.proofs.fills.Making.{IsBegun}
 use Rattle.mesh_law_promise.proofs.Promoting.{IsModelMade}
 use Rattle.mesh_law_promise.proofs.formed.Filling.{IsFormed, full_formed, seed_formed, view_formed}
 use Rattle.mesh_law_promise.proofs.formed.Formed.{FormedAlong, formed_append, formed_end}

@@ -40,10 +40,10 @@ use Rattle.mesh_law_changes.proofs.Recording.{unit_recorded}
 use Rattle.mesh_law_changes.proofs.Writing.{unit_written}
 use Rattle.mesh_law_changes.specs.along.Filled.{IsOfObject}
 use Rattle.mesh_law_changes.specs.along.Ready.{HasTheRest, IsPlaced}
-use Rattle.mesh_law_plans.proofs.fills.Kept.{of_object, of_object_then, ranged_object, ranged_version, written_keeps}
-use Rattle.mesh_law_plans.proofs.fills.Making.{IsBegun}
-use Rattle.mesh_law_plans.proofs.fills.Twins.{planned_known, schedule_is, twin_kind, twin_own}
-use Rattle.mesh_law_plans.proofs.fills.Unit.{unit_changes}
+use Rattle.mesh_law_steps.proofs.fills.Kept.{of_object, of_object_then, ranged_object, ranged_version, written_keeps}
+use Rattle.mesh_law_steps.proofs.fills.Making.{IsBegun}
+use Rattle.mesh_law_steps.proofs.fills.Twins.{planned_known, schedule_is, twin_kind, twin_own}
+use Rattle.mesh_law_steps.proofs.fills.Unit.{unit_changes}
 use Rattle.mesh_law_promise.proofs.formed.Filling.{IsFormed, mapped_from}
 use Rattle.mesh_law_promise.proofs.formed.Formed.{FormedAlong, formed_append}
 

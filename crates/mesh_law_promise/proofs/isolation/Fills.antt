@@ -24,7 +24,7 @@ use Rattle.mesh_spec_changes.specs.due.Plans.{Planned, is_made}
 use Rattle.mesh_spec_changes.proofs.due.Later.{Each_both}
 use Rattle.mesh_spec_changes.specs.Changes.{executes, fill, fills, followed, is_any, makes, tables_for}
 use Rattle.mesh_law_changes.specs.along.Filled.{making_of}
-use Rattle.mesh_law_plans.proofs.opens.Again.{due_object}
+use Rattle.mesh_law_steps.proofs.opens.Again.{due_object}
 
 -- changes that make or fill this object, or record what it has
 abbrev pub IsOfObject : Name → Change → Type 0

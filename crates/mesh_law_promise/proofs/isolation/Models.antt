@@ -42,9 +42,9 @@ use Rattle.mesh_spec_promise.proofs.Filled.{model_filled}
 use Rattle.mesh_spec_promise.proofs.Tables.{closed_own}
 use Rattle.mesh_law_changes.specs.along.Filled.{making_of}
 use Rattle.mesh_law_changes.specs.along.Ready.{IsPlaced}
-use Rattle.mesh_law_plans.proofs.puts.Tables.{twin_own}
-use Rattle.mesh_law_plans.proofs.fills.Twins.{planned_known}
-use Rattle.mesh_law_plans.proofs.fills.Unit.{unit_changes}
+use Rattle.mesh_law_steps.proofs.puts.Tables.{twin_own}
+use Rattle.mesh_law_steps.proofs.fills.Twins.{planned_known}
+use Rattle.mesh_law_steps.proofs.fills.Unit.{unit_changes}
 use Rattle.mesh_law_promise.proofs.isolation.Holds.{HoldsAlong}
 use Rattle.mesh_law_promise.proofs.isolation.Rows.{Keeps, keeps_elsewhere, keeps_replaced}
 use Rattle.mesh_law_promise.proofs.isolation.Turns.{FillsAgain}

@@ -37,7 +37,7 @@ use Rattle.mesh_spec_promise.specs.Histories.{IsAsked}
 use Rattle.mesh_spec_promise.specs.Sound.{IsEntry, Sound}
 use Rattle.mesh_spec_promise.proofs.ViewNames.{view_names}
 use Rattle.mesh_law_reuse.proofs.Known.{place_there}
-use Rattle.mesh_law_plans.proofs.puts.Models.{it_stands, planned_parent}
+use Rattle.mesh_law_steps.proofs.puts.Models.{it_stands, planned_parent}
 use Rattle.mesh_law_promise.proofs.shown.Leaving.{entry_among, entry_plain}
 use Rattle.mesh_law_promise.proofs.Names.{gone_from, objects_from}
 use Rattle.mesh_law_promise.specs.isolation.Isolation.{LeavesOut}

@@ -31,9 +31,9 @@ use Rattle.mesh_spec_promise.specs.Histories.{IsApplied, IsCovered, left}
 use Rattle.mesh_spec_promise.specs.Moved.{moved}
 use Rattle.mesh_spec_promise.specs.Sound.{Sound}
 use Rattle.mesh_law_changes.specs.along.Ready.{AreApart, AreRanked, ArePut, IsPlaced, IsReady}
-use Rattle.mesh_law_plans.proofs.puts.Puts.{plans_put}
-use Rattle.mesh_law_plans.proofs.opens.Ready.{opened_ready}
-use Rattle.mesh_law_plans.proofs.opens.Runs.{run_placed}
+use Rattle.mesh_law_steps.proofs.puts.Puts.{plans_put}
+use Rattle.mesh_law_steps.proofs.opens.Ready.{opened_ready}
+use Rattle.mesh_law_steps.proofs.opens.Runs.{run_placed}
 use Rattle.mesh_law_promise.proofs.Applying.{apart_ranked, put_sound, put_there, puts_made, raised_now, raised_sound}
 use Rattle.mesh_law_promise.proofs.InTurn.{each_of}
 use Rattle.mesh_law_promise.proofs.isolation.Elsewhere.{IsElsewhere}

@@ -38,7 +38,7 @@ use Rattle.mesh_spec_changes.specs.Changes.{ascending}
 use Rattle.mesh_spec_promise.proofs.Filled.{ascending_perm}
 use Rattle.mesh_spec_promise.proofs.Joined.{passed}
 use Rattle.mesh_spec_promise.proofs.Seconds.{scheduled_once, scheduled_proper}
-use Rattle.mesh_law_plans.proofs.fills.Unit.{unit_changes}
+use Rattle.mesh_law_steps.proofs.fills.Unit.{unit_changes}
 use Rattle.mesh_law_promise.proofs.isolation.Holds.{HoldsAlong, holds_append, holds_end}
 use Rattle.mesh_law_promise.proofs.isolation.Rows.{Keeps, keeps_elsewhere, keeps_written}
 

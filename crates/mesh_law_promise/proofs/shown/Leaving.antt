@@ -40,8 +40,8 @@ use Rattle.mesh_law_changes.proofs.EnvLaws.{is_old, own_of_old}
 use Rattle.mesh_law_changes.proofs.Envs.{envs_rise}
 use Rattle.mesh_law_changes.proofs.Rising.{found-without}
 use Rattle.mesh_law_changes.proofs.SnapshotGone.{by_recursion}
-use Rattle.mesh_law_upkeep.proofs.again.Names.{from_order}
-use Rattle.mesh_law_upkeep.proofs.sweep.Walks.{its_names}
+use Rattle.mesh_law_steps.proofs.again.Names.{from_order}
+use Rattle.mesh_law_steps.proofs.sweep.Walks.{its_names}
 
 -- another key is none of these
 other_key : (k q : Name) → (k ≡ q → ⊥) → is_eq (name_cmp k q) ≡ false

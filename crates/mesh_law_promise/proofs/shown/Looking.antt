@@ -21,8 +21,8 @@ use Rattle.mesh_spec_changes.specs.Changes.{parents_in, planned_ref}
 use Rattle.mesh_law_reuse.proofs.Known.{place_there}
 use Rattle.mesh_spec_promise.specs.Sound.{Sound}
 use Rattle.mesh_law_changes.specs.along.Ready.{AreApart}
-use Rattle.mesh_law_plans.proofs.puts.Models.{its_parents}
-use Rattle.mesh_law_plans.proofs.opens.Lists.{all_of, placed_in}
+use Rattle.mesh_law_steps.proofs.puts.Models.{its_parents}
+use Rattle.mesh_law_steps.proofs.opens.Lists.{all_of, placed_in}
 use Rattle.mesh_law_promise.proofs.shown.Targets.{object_reads}
 
 -- no two of some models have one object

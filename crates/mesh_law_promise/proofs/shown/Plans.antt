@@ -34,12 +34,12 @@ use Rattle.mesh_spec_promise.specs.Sound.{IsBodyOf, Sound}
 use Rattle.mesh_spec_promise.proofs.Ends.{found_contained}
 use Rattle.mesh_spec_promise.proofs.Tables.{closed_own}
 use Rattle.mesh_law_changes.specs.along.Ready.{AreApart, IsPlaced}
-use Rattle.mesh_law_plans.proofs.puts.Models.{its_closure}
-use Rattle.mesh_law_plans.proofs.puts.Objects.{known_again, new_twin}
-use Rattle.mesh_law_plans.proofs.puts.Tables.{twin_own}
-use Rattle.mesh_law_plans.proofs.opens.Lists.{of_all}
-use Rattle.mesh_law_plans.proofs.opens.Plans.{plan_apart_and_ranked}
-use Rattle.mesh_law_plans.proofs.opens.Runs.{run_placed}
+use Rattle.mesh_law_steps.proofs.puts.Models.{its_closure}
+use Rattle.mesh_law_steps.proofs.puts.Objects.{known_again, new_twin}
+use Rattle.mesh_law_steps.proofs.puts.Tables.{twin_own}
+use Rattle.mesh_law_steps.proofs.opens.Lists.{of_all}
+use Rattle.mesh_law_steps.proofs.opens.Plans.{plan_apart_and_ranked}
+use Rattle.mesh_law_steps.proofs.opens.Runs.{run_placed}
 use Rattle.mesh_law_promise.proofs.shown.Looking.{IsKnown, IsNew, look_apart}
 use Rattle.mesh_law_promise.proofs.shown.Targets.{viewed}
 

@@ -30,7 +30,7 @@ use Rattle.mesh_spec_promise.proofs.Fits.{plain_ref}
 use Rattle.mesh_spec_promise.proofs.ViewNames.{view_names}
 use Rattle.mesh_law_changes.proofs.EnvLaws.{is_old}
 use Rattle.mesh_law_changes.proofs.SnapshotGone.{same_map}
-use Rattle.mesh_law_upkeep.proofs.sweep.Kept.{entry_kept, kept_object, there}
+use Rattle.mesh_law_steps.proofs.sweep.Kept.{entry_kept, kept_object, there}
 use Rattle.mesh_law_promise.proofs.shown.Leaving.{IsSpared, entry_among, entry_plain, exit_spared}
 use Rattle.mesh_law_promise.proofs.shown.Targets.{body_reads}
 

@@ -42,7 +42,7 @@ use Rattle.mesh_resolve.specs.Queries.{cte, one_select, resolved, selects}
 use Rattle.mesh_resolve.specs.Relations.{columns_named, condition, conditional, dotted, drawing, drawn_from, found_relation, item_drawn, joined, nothing_drawn, or_unknown, relation, relation_by, seeing_relation, unconditional}
 use Rattle.mesh_resolve_selects.specs.selects.Standing.{is_grouped}
 use Rattle.mesh_resolve.specs.Selects.{from_item, resolved_as, right_keys, select, some_condition, walked}
-use Rattle.mesh_law_resolve.proofs.Good.{Good, given, provided_good, refused, then_good}
+use Rattle.mesh_law_reading.proofs.Good.{Good, given, provided_good, refused, then_good}
 use Rattle.mesh_project.specs.nodes.Reads.{cte_reads, from_reads, join_reads, of_two_parts, query_reads, rel_reads, select_reads, union_reads}
 
 flat_push : {X Y : Type 0} (f : X → List Y) (xs : List X) (x : X) → flat_map f (xs ++ x ∷ []) ≡ flat_map f xs ++ f x

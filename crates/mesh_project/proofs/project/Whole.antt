@@ -29,11 +29,11 @@ use Rattle.mesh_resolve_types.specs.Faults.{unwritten}
 use Rattle.mesh_resolve.specs.declared.known.Known.{Known}
 use Rattle.mesh_resolve.specs.Owns.{Behind, as_declared, body_of, own, query_body, sources_read, timed, with_body}
 use Rattle.mesh_resolve.specs.Queries.{resolved}
-use Rattle.mesh_law_resolve.specs.Formed.{AreParentsAmong, IsReadModel}
-use Rattle.mesh_law_resolve.specs.Sight.{model_relation}
-use Rattle.mesh_law_resolve.proofs.Files.{as_file}
-use Rattle.mesh_law_resolve.proofs.Good.{Good, given, refused, then_good}
-use Rattle.mesh_law_resolve.proofs.Whole.{well_formed}
+use Rattle.mesh_law_reading.specs.Formed.{AreParentsAmong, IsReadModel}
+use Rattle.mesh_law_reading.specs.Sight.{model_relation}
+use Rattle.mesh_law_reading.proofs.Files.{as_file}
+use Rattle.mesh_law_reading.proofs.Good.{Good, given, refused, then_good}
+use Rattle.mesh_law_reading.proofs.Whole.{well_formed}
 use Rattle.mesh_project.specs.declared.order.readers.Ranked.{Ranked}
 use Rattle.mesh_project.specs.declared.order.readers.Reader.{Reader}
 use Rattle.mesh_project.specs.order.Order.{AreApart, IsOrder, reader_at}

@@ -15,7 +15,7 @@ use Rattle.mesh_base.specs.declared.snapshots.Ref.{Ref}
 use Rattle.mesh_canon_text.specs.Text.{node_text}
 use Rattle.mesh_resolve.specs.declared.known.Known.{Known}
 use Rattle.mesh_resolve.specs.Owns.{own}
-use Rattle.mesh_law_resolve.specs.Formed.{IsReadModel}
+use Rattle.mesh_law_reading.specs.Formed.{IsReadModel}
 use Rattle.mesh_project.specs.declared.order.readers.Ranked.{Ranked}
 use Rattle.mesh_project_files.specs.Loading.{◌>>=◌, in_file}
 use Rattle.mesh_project_files.specs.declared.faults.LoadFault.{LoadFault}

@@ -1,6 +1,6 @@
 use Rattle.std.proofs.Common.{List, Err, map, ap, subst, ◌∙◌}
 use Rattle.mesh_query_tokens.specs.declared.faults.ReadFault.TheVariants as faults
-use Rattle.mesh_audit_text.specs.Texts.{IsAuditRead}
+use Rattle.mesh_audit_files.specs.text.Texts.{IsAuditRead}
 use Rattle.mesh_audit_files.specs.Files.{audit_name}
 use Rattle.mesh_audit_files.specs.Listing.{plain}
 use Rattle.mesh_audit_files.proofs.Unknown.{text_refused}

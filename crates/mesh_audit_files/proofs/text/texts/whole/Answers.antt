@@ -1,0 +1,10 @@
+use Rattle.std.proofs.Common.{Err}
+use Rattle.mesh_query_tokens.specs.declared.faults.ReadFault.TheVariants as faults
+use Rattle.mesh_audit_files.proofs.text.Refusing.{memory_gives}
+use Rattle.mesh_audit_files.proofs.text.texts.whole.Goals as goal
+
+pub returns-in_err-name : goal.returns-in_err-name
+returns-in_err-name c = (Err faults.Memory, tt, memory_gives _ _ c.from_residual.ensures.1)
+
+pub returns-in_err-tokens : goal.returns-in_err-tokens
+returns-in_err-tokens c = (Err faults.Memory, tt, memory_gives _ _ c.from_residual-in_err-tokens.ensures.1)

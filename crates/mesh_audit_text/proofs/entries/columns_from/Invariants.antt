@@ -1,6 +1,0 @@
-use Rattle.std.proofs.Common.{◌≡◌, ◌-◌, [], length}
-use Rattle.mesh_audit_text.specs.Entries.{columns_from}
-use Rattle.mesh_audit_text.proofs.entries.columns_from.Given as goal
-
-abbrev pub invariant-loop : goal.invariant-loop
-invariant-loop l = columns_from (length l.tokens - l.counter) l.columns l.rest ≡ columns_from (length l.tokens) [] l.tokens

@@ -1,6 +1,0 @@
-use Rattle.std.proofs.Common.{◌≡◌, ◌++◌, ◌≤◌, [], drop}
-use Rattle.mesh_audit_text.specs.Entries.{pieces_from}
-use Rattle.mesh_audit_text.proofs.entries.pieces.Given as goal
-
-abbrev pub invariant-loop-token : goal.invariant-loop-token
-invariant-loop-token l = (l.pieces ++ pieces_from l.front l.depth (drop l.token-index l.tokens) ≡ pieces_from [] 0 l.tokens) × (l.depth ≤ l.token-index)

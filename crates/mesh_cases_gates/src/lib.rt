@@ -1,8 +1,0 @@
-//! Gates for cases, and a plan that is made with one.
-#![tactic(auto)]
-
-mod gates;
-mod making;
-
-pub use gates::{Counting, Holding};
-pub use making::make_behind;

@@ -1,5 +1,0 @@
-use Rattle.mesh_law_plans.proofs.fills.Filled.{one_filled}
-use Rattle.mesh_law_plans.proofs.fills.laws.models_are_made_and_filled.Goals as goal
-
-pub returns : goal.returns
-returns c = one_filled

@@ -1,5 +1,0 @@
-use Rattle.mesh_law_plans.proofs.opens.Runs.{run_placed}
-use Rattle.mesh_law_plans.proofs.opens.laws.runs_are_placed.Goals as goal
-
-pub returns : goal.returns
-returns c = run_placed

@@ -1,5 +1,0 @@
-use Rattle.mesh_law_plans.proofs.puts.Puts.{plans_put}
-use Rattle.mesh_law_plans.proofs.puts.laws.plans_are_put.Goals as goal
-
-pub returns : goal.returns
-returns c = plans_put

@@ -1,5 +1,0 @@
-use Rattle.mesh_law_resolve.proofs.TypingModels.{model_fills}
-use Rattle.mesh_law_resolve.proofs.typing.models_fill_their_columns.Goals as goal
-
-pub returns : goal.returns
-returns c = model_fills

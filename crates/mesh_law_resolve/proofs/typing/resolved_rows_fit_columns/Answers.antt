@@ -1,5 +1,0 @@
-use Rattle.mesh_law_resolve.proofs.TypingQueries.{rows_fit}
-use Rattle.mesh_law_resolve.proofs.typing.resolved_rows_fit_columns.Goals as goal
-
-pub returns : goal.returns
-returns c = rows_fit

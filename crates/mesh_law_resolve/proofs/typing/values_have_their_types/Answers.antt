@@ -1,8 +1,0 @@
-use Rattle.mesh_law_resolve.proofs.TypingMeets.{typed_holds}
-use Rattle.mesh_law_resolve.proofs.typing.values_have_their_types.Goals as goal
-
-pub returns-clause-values : goal.returns-clause-values
-returns-clause-values c columns sight h e t is = (typed_holds columns sight h e t is).0
-
-pub returns-clause-operands : goal.returns-clause-operands
-returns-clause-operands c columns sight h e t is = (typed_holds columns sight h e t is).1

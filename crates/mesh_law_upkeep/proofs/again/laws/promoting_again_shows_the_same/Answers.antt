@@ -1,5 +1,0 @@
-use Rattle.mesh_law_upkeep.proofs.again.Promoting.{shown_again}
-use Rattle.mesh_law_upkeep.proofs.again.laws.promoting_again_shows_the_same.Goals as goal
-
-pub returns : goal.returns
-returns c w plan typed k = shown_again w plan typed k

@@ -1,5 +1,0 @@
-use Rattle.mesh_law_upkeep.proofs.sweep.Loading.{load_along}
-use Rattle.mesh_law_upkeep.proofs.sweep.laws.loads_keep_the_world_sound.Goals as goal
-
-pub returns : goal.returns
-returns c = load_along
