@@ -20,7 +20,7 @@ use Rattle.mesh_cli_print.specs.declared.printed.refusals.Refusal.{Refusal}
 use Rattle.mesh_cli_print.specs.declared.printed.refusals.Refusal.TheVariants.{Warehouse, Memory, Input}
 use Rattle.mesh_cli_answer.specs.Answers.{Answers, IsMade}
 use Rattle.mesh_cli_answer.proofs.Answering.{answers_so, refused_first, same_refusal, whole_prefix}
-use Rattle.mesh_cli_apply.specs.Applying.{ApplyGives, ApplyMakes, AreOf, IsApplied, IsHeld, IsRan, IsReady, RunGives, RunMakes}
+use Rattle.mesh_cli_apply.specs.Applying.{ApplyGives, ApplyMakes, AreOf, GoesToItsEnd, IsApplied, IsHeld, IsRan, IsReady, RunGives, RunMakes}
 use Rattle.mesh_cli_apply.specs.Made.{ApplyTells, HasBook, MakesBy, RunTells}
 use Rattle.mesh_cli_apply.specs.Making.{IsWhole, MakesAll}
 use Rattle.mesh_cli_apply.specs.Planning.{IsPlanned, IsRunPlanned, PlanRefused, RunRefused}
@@ -49,31 +49,31 @@ module _ {T : Type 0} (p : Plan) (k : Command) (b : Book) (gives : World → Res
     failed = λ is. absurd (let clash : Memory ≡ Warehouse = same_refusal {T = T} Memory Warehouse is in cc);
     beyond = λ is. absurd (let clash : Memory ≡ Input = same_refusal {T = T} Memory Input is in cc);
     early = λ early. absurd (let clash : false ≡ true = early in cc);
-    made = λ w told. let is = by.made w told (has w told.world) in inr (is.1.0, (is.0, is.1.1), whole_prefix is.1.0 w a.calls c is.1.2);
+    made = λ w told. let is = by.made w told (has w told.world) in inr (is.2.0, (is.0, is.2.1), whole_prefix is.2.0 w a.calls c is.2.2);
     given = λ w told fine. absurd (let clash : true ≡ false = fine in cc);
   }
 
   -- all of them were made, and this is told
-  pub whole : (n : ℕ) (x : T) → MakesAll p k b a c (Ok n) → ((w : World) → IsReady p w → (list : List Change) → AreOf p.moment k w list → n ≡ length list → gives w (Ok x)) → Answers ⊥ (MakesBy p k) gives a c (Ok x)
+  pub whole : (n : ℕ) (x : T) → MakesAll p k b a c (Ok n) → ((w : World) → IsReady p w → GoesToItsEnd p w → (list : List Change) → AreOf p.moment k w list → n ≡ length list → gives w (Ok x)) → Answers ⊥ (MakesBy p k) gives a c (Ok x)
   whole n x by so = record {
     faults = by.faults;
     failed = λ is. absurd (cc);
     beyond = λ is. absurd (cc);
     early = tt;
-    made = λ w told. let is = by.made w told (has w told.world) in (is.1.0, (is.0, is.1.1), is.1.2);
-    given = λ w told. let is = by.made w told (has w told.world) in so w is.0 is.1.0 is.1.1 is.1.3;
+    made = λ w told. let is = by.made w told (has w told.world) in (is.2.0, (is.0, is.2.1), is.2.2);
+    given = λ w told. let is = by.made w told (has w told.world) in so w is.0 is.1 is.2.0 is.2.1 is.2.3;
   }
 
 module _ (p : Plan) (b : Book) (a c : Told) (has : HasBook b a) (n : ℕ) (text : List ℕ) where
   -- an apply's text
   pub applied : MakesAll p (Apply (promised p)) b a c (Ok n) → text ≡ plan_text p ++ applied_line p.env n → Answers ⊥ (MakesBy p (Apply (promised p))) (ApplyTells p) a c (Ok text)
   applied by is = whole p (Apply (promised p)) b (ApplyTells p) a c has n text by
-      (λ w ready list made e. record { ready = ready; list = list; made = made; is = is ∙ ap (λ (k : ℕ). plan_text p ++ applied_line p.env k) e })
+      (λ w ready end list made e. record { ready = ready; whole = end; list = list; made = made; is = is ∙ ap (λ (k : ℕ). plan_text p ++ applied_line p.env k) e })
 
   -- a run's text
   pub ran : MakesAll p (RunAll (promised p)) b a c (Ok n) → text ≡ plan_text p ++ ran_line p.env n → Answers ⊥ (MakesBy p (RunAll (promised p))) (RunTells p) a c (Ok text)
   ran by is = whole p (RunAll (promised p)) b (RunTells p) a c has n text by
-      (λ w ready list made e. record { ready = ready; list = list; made = made; is = is ∙ ap (λ (k : ℕ). plan_text p ++ ran_line p.env k) e })
+      (λ w ready end list made e. record { ready = ready; whole = end; list = list; made = made; is = is ∙ ap (λ (k : ℕ). plan_text p ++ ran_line p.env k) e })
 
 -- by a book that was read: why nothing is planned, and what is made and answered of a plan
 module _ (b : Book) (nodes : List Node) (env : List ℕ) (t : ℤ) (again : Option Restate) (a : Told) (has : HasBook b a) where

@@ -56,7 +56,7 @@ module _ (b : Book) (well : is_well_formed_book b ≡ true) (a : Told) (has : Ha
       let (renames, is_map) = has_map b well in
       told_alone MigrateMakes MigrateGives a a line (alone_itself a) (omega arith)
       (λ w t. (renames, map_of renames is_map w t, λ clock. sym ((λ i. cond (moves (has w t.world i) renames) (Migrate renames ∷ []) []) ∙ still renames)))
-      (λ w t. (well_of w t, is ∙ sym (ap migrated_line (number_of w t ∙ (λ i. cond (other i) (length b.snapshots) 0)))))
+      (λ w t. (well_of w t, inl (ap (λ (k : Book). nat_eq k.version 1) (has w t.world) ∙ other), is ∙ sym (ap migrated_line (number_of w t ∙ (λ i. cond (other i) (length b.snapshots) 0)))))
     where
       still : (renames : List Rename) → cond (moves b renames) (Migrate renames ∷ []) [] ≡ []
       still renames = (λ i. cond (well i && (other i && not (has_twins (renamed_all renames b.snapshots)))) (Migrate renames ∷ []) [])
@@ -98,7 +98,7 @@ module _ (b : Book) (well : is_well_formed_book b ≡ true) (a : Told) (has : Ha
         beyond = λ k. absurd (cc);
         early = tt;
         made = λ w t. (Migrate renames ∷ [], makes w t, q.told w t.world);
-        given = λ w t. (well_of w t, same ∙ as_ ∙ sym (ap migrated_line (number_of w t ∙ (λ i. cond (former i) (length b.snapshots) 0))));
+        given = λ w t. (well_of w t, inr (renames, subst (λ (k : Book). IsMap k renames) (sym (has w t.world)) is, apart), same ∙ as_ ∙ sym (ap migrated_line (number_of w t ∙ (λ i. cond (former i) (length b.snapshots) 0))));
       }
       moved_on c line (Err r) as_ (e, same, q) = subst (λ (x : Refusal). Done a c (Err x)) (sym same) (halted c e q)
 

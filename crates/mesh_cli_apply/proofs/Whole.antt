@@ -110,7 +110,7 @@ module _ (p : Plan) (c : Command) (b : Book) where
     failed = λ is. absurd (cc);
     inside = λ is. absurd (cc);
     early = tt;
-    made = λ w t e. let (ready, made, long) = h.ok w t in (ready, (executed p w, of w e, made, ap (λ (d : Done). d.changes) h.number ∙ sym long));
+    made = λ w t e. let (ready, made, long) = h.ok w t in (ready, long, (executed p w, of w e, made, ap (λ (d : Done). d.changes) h.number ∙ sym long));
     given = tt;
   }
 
@@ -172,6 +172,7 @@ module _ (p : Plan) (c : Command) (b : Book) where
           let (ready, made, long) = h.ok w t in
           let own : done.changes ≡ length (outline p) = ap (λ (d : Done). d.changes) h.number in (
             ready,
+            long,
             (
               executed p w ++ list,
               of w e long,

@@ -19,7 +19,7 @@ use Rattle.mesh_exec.specs.declared.faults.ExecFault.{ExecFault}
 use Rattle.mesh_exec.specs.declared.faults.ExecFault.TheVariants as fault
 use Rattle.mesh_exec.specs.declared.sources.Lack.{Lack}
 use Rattle.mesh_exec.specs.Answers.{IsLostIn}
-use Rattle.mesh_exec.specs.Executed.{executed}
+use Rattle.mesh_exec.specs.Executed.{executed, outline}
 use Rattle.mesh_exec.specs.Sources.{first_lack}
 use Rattle.mesh_cli_print.specs.printed.Reports.{applied_line, ran_line}
 use Rattle.mesh_cli_print.specs.declared.printed.refusals.Refusal.{Refusal}
@@ -62,6 +62,11 @@ IsHeld p w r = IsLacking p w r ⊎ IsStopped p w r
 abbrev pub IsReady : Plan → World → Type 0
 IsReady p w = first_lack w.sources (parts p) ≡ None
 
+-- the changes of a plan's models go to their end, since no object that one of them reads is missing on the way: there
+-- are as many as the plan has without rows
+abbrev pub GoesToItsEnd : Plan → World → Type 0
+GoesToItsEnd p w = length (executed p w) ≡ length (outline p)
+
 -- `plan` prints the plan
 abbrev pub PlanGives : List Node → List ℕ → ℤ → Option Restate → World → Result (List ℕ) Refusal → Type 0
 PlanGives nodes env t again w (Ok text) = (p : Plan) × IsPlanned w.book nodes env t again p × (text ≡ plan_text p)
@@ -74,6 +79,7 @@ ApplyMakes nodes env t again w list = (p : Plan) × IsPlanned w.book nodes env t
 -- its text: the plan, and how many changes it took
 pub record IsApplied (p : Plan) (env : List ℕ) (t : ℤ) (w : World) (text : List ℕ) : Type 0 where
   pub ready : IsReady p w
+  pub whole : GoesToItsEnd p w
   pub list : List Change
   pub made : AreOf t (Apply (promised p)) w list
   pub is : text ≡ plan_text p ++ applied_line env (length list)
@@ -88,6 +94,7 @@ RunMakes env t w list = (p : Plan) × IsRunPlanned w.book env t p × IsReady p w
 
 pub record IsRan (p : Plan) (env : List ℕ) (t : ℤ) (w : World) (text : List ℕ) : Type 0 where
   pub ready : IsReady p w
+  pub whole : GoesToItsEnd p w
   pub list : List Change
   pub made : AreOf t (RunAll (promised p)) w list
   pub is : text ≡ plan_text p ++ ran_line env (length list)

@@ -16,11 +16,11 @@ use Rattle.mesh_exec.specs.declared.faults.ExecFault.{ExecFault}
 use Rattle.mesh_cli_print.specs.declared.printed.refusals.Refusal.{Refusal}
 use Rattle.mesh_cli_print.specs.declared.printed.refusals.Refusal.TheVariants.{Input, Memory, Warehouse}
 use Rattle.mesh_cli_answer.specs.Answers.{IsAlone, as_refusal, is_early, is_fault}
-use Rattle.mesh_cli_apply.specs.Applying.{AreOf, IsHeld, IsReady, of_exec}
+use Rattle.mesh_cli_apply.specs.Applying.{AreOf, GoesToItsEnd, IsHeld, IsReady, of_exec}
 
 -- all changes of a command were made, and so many are told; where it is refused, nothing or a prefix of them
 abbrev pub IsWhole : Plan → Command → World → Told → Told → Result ℕ Refusal → Type 0
-IsWhole p c w old new (Ok n) = IsReady p w × ((list : List Change) × AreOf p.moment c w list × IsRun list w old.calls new × (n ≡ length list))
+IsWhole p c w old new (Ok n) = IsReady p w × GoesToItsEnd p w × ((list : List Change) × AreOf p.moment c w list × IsRun list w old.calls new × (n ≡ length list))
 IsWhole p c w old new (Err r) = IsAlone old new ⊎ (IsReady p w × ((list : List Change) × AreOf p.moment c w list × IsPrefixRun list w old.calls new))
 
 -- A call that is to make the changes of a command with this plan, which was made of this book.

@@ -1,5 +1,6 @@
 -- What moving a book makes and prints, and why it is refused.
-use Rattle.std.specs.Prelude.{◌≡◌, ◌⊎◌, ℕ, true, nat_eq, if◌then◌else◌, List, [], ◌∷◌, length, Result, Ok, Err}
+use Rattle.std.specs.Prelude.{◌≡◌, ◌⊎◌, ℕ, true, false, nat_eq, if◌then◌else◌, List, [], ◌∷◌, length, Result, Ok, Err}
+use Rattle.std.specs.declared.option.Option.TheVariants.{None}
 use Rattle.mesh_base_values.specs.declared.values.Name.{Name}
 use Rattle.mesh_base.specs.declared.forgets.Rename.{Rename}
 use Rattle.mesh_query_tokens.specs.declared.faults.FaultKind.TheVariants.{FingerprintClash}
@@ -14,7 +15,7 @@ use Rattle.mesh_house.specs.House.{Told}
 use Rattle.mesh_house.specs.Runs.{Makes, Ran}
 use Rattle.mesh_spec_changes.specs.Commands.{MigrateAll, changes}
 use Rattle.mesh_cli_print.specs.faults.Lines.{name_text}
-use Rattle.mesh_janitor.specs.migrate.Migration.{IsMap, IsRefused}
+use Rattle.mesh_janitor.specs.migrate.Migration.{IsMap, IsRefused, first_twins}
 use Rattle.mesh_janitor.specs.declared.migrate.fault.MigrationFault.{MigrationFault}
 use Rattle.mesh_janitor.specs.declared.migrate.fault.MigrationFault.TheVariants.{Twins, Memory as NoRoom}
 use Rattle.mesh_cli_print.specs.printed.Reports.{migrated_line}
@@ -47,8 +48,12 @@ pub record IsClashing (b : Book) (r : Refusal) : Type 0 where
   pub first : IsRefused b (Twins name stored given)
   pub told : r ≡ Model (name_text name) 0 (FingerprintClash stored given)
 
+-- no two snapshots of one name would get one fingerprint: the book isn't moved, or its map has no twins
+abbrev pub HasNoTwins : Book → Type 0
+HasNoTwins b = (nat_eq b.version 1 ≡ false) ⊎ ((renames : List Rename) × IsMap b renames × (first_twins renames ≡ None))
+
 abbrev pub MigrateGives : World → Result (List ℕ) Refusal → Type 0
-MigrateGives w (Ok text) = (is_well_formed_book w.book ≡ true) × (text ≡ migrated_line (moved_number w.book))
+MigrateGives w (Ok text) = (is_well_formed_book w.book ≡ true) × HasNoTwins w.book × (text ≡ migrated_line (moved_number w.book))
 MigrateGives w (Err r) = IsBroken w.book r ⊎ IsClashing w.book r
 
 -- why a book isn't moved, as a command tells it
