@@ -20,7 +20,8 @@ from measured import TOP
 ROWS = f"{TOP}/crates/mesh_answers/data/rows"
 # What begins a line that isn't printed by the one before it.
 SHELL = ("./mesh ", "sqlite3 ", "mkdir ", "cp ", "tail ")
-MIRRORS = [("starter", "guide_starter"), ("shop", "guide_shop"), ("shop", "guide_stopped")]
+MIRRORS = [("bikes", "guide_bikes"), ("bikes", "guide_faults"), ("starter", "starter_changed"), ("shop", "shop_late_rows"),
+           ("shop", "guide_stopped")]
 SKIPPED = ("script", "audits", "more.csv", "fixed.csv")
 
 
