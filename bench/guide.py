@@ -1,10 +1,14 @@
 #!/usr/bin/env python3
-"""Compares `docs/GUIDE.md` with the worked examples that run its command lines: the lines `./mesh ..` with the text below each are the
-commands of the worked examples `guide_..` of `mesh_answers` with what their files `expected` say, all of them and each example's in its
-order; each file that the page shows is one of these examples; and their projects are those of `examples/`.
+"""Compares `docs/GUIDE.md` with the worked examples that run its command lines: the commands `./mesh ..` of its `console` blocks, and of
+its `text` blocks, with the text below each are the commands of the worked examples `guide_..` of `mesh_answers` with what their files
+`expected` say, all of them and each example's in its order; what `cat` prints are files of `examples/`; and the examples' projects are
+those of `examples/`. (`bench/bikes.py` computes what `guide_bikes` has to print.)
+
+A command may end in `| tail -n N` or `| head -n N`. One that goes into another program isn't compared; `bench/pages.py --program` runs
+all commands of the page, from its top to its bottom.
 
 Given a program, it also runs these examples with it as a user would, each in an empty folder and over warehouses in files, but for the
-one whose calls are made to fail, and the page's lines of `sqlite3` after `guide_starter`, and compares what is printed.
+one whose calls are made to fail, and compares what is printed.
 
 Usage: bench/guide.py [PROGRAM]"""
 import os
@@ -18,8 +22,6 @@ import tempfile
 from measured import TOP
 
 ROWS = f"{TOP}/crates/mesh_answers/data/rows"
-# What begins a line that isn't printed by the one before it.
-SHELL = ("./mesh ", "sqlite3 ", "mkdir ", "cp ", "tail ")
 MIRRORS = [("bikes", "guide_bikes"), ("bikes", "guide_faults"), ("starter", "starter_changed"), ("shop", "shop_late_rows"),
            ("shop", "guide_stopped")]
 SKIPPED = ("script", "audits", "more.csv", "fixed.csv")
@@ -30,38 +32,18 @@ def read(path):
         return file.read()
 
 
-def blocks(page):
-    """The indented blocks of a page, without their indent."""
-    found, lines = [], []
-    for line in [*page.splitlines(), "end"]:
-        if line.startswith("    ") or (lines and not line):
-            lines.append(line[4:])
-        elif lines:
-            found.append("\n".join(lines).strip("\n"))
-            lines = []
-    return found
-
-
-def shown(page, program):
-    """The lines of a page that begin with a program, each with the text below it."""
-    found, open_one = [], False
-    for block in blocks(page):
+def shown(page):
+    """The commands of a page's console and text blocks, each with the text below it."""
+    found = []
+    for info, block in re.findall(r"^```(\w*)\n(.*?)^```$", page, flags=re.M | re.S):
+        if info not in ("console", "text"):
+            continue
         for line in block.splitlines():
-            if line.startswith(SHELL):
-                open_one = line.startswith(program)
-                if open_one:
-                    found.append([line, ""])
-            elif line and open_one:
+            if line.startswith("$ ") or line.startswith("./mesh "):
+                found.append([line.removeprefix("$ "), ""])
+            elif found:
                 found[-1][1] += line + "\n"
-            else:
-                open_one = False
-        open_one = False
     return [tuple(one) for one in found]
-
-
-def files(page):
-    """The files that a page shows: in blocks that have no commands, with an empty line between two."""
-    return [piece + "\n" for block in blocks(page) if not block.startswith(SHELL) for piece in block.split("\n\n")]
 
 
 def examples():
@@ -78,14 +60,27 @@ def examples():
     return found
 
 
-def compare_page(page, rows):
-    """How many command lines and files of the page are those of the examples."""
-    places = dict.fromkeys(rows, 0)
-    lines = shown(page, "./mesh ")
+def cut(printed, how, many):
+    """What `tail -n` or `head -n` leaves of a text."""
+    lines = printed.splitlines(True)
+    return "".join(lines[-int(many):] if how == "tail" else lines[:int(many)])
+
+
+def is_shown(step, line, printed):
+    """Whether a command of the page, with the text below it, is a step of an example."""
+    command, how, many = re.fullmatch(r"(.*?)(?: \| (tail|head) -n (\d+))?", line).groups()
+    return f"./{step[0]}" == command and (cut(step[2], how, many) if how else step[2]) == printed
+
+
+def compare_commands(lines, rows):
+    """How many command lines of the page are those of the examples."""
+    places, count = dict.fromkeys(rows, 0), 0
     for line, printed in lines:
+        if not line.startswith("./mesh ") or re.search(r"\| (?!tail -n|head -n)", line):
+            continue
+        count += 1
         for name, steps in rows.items():
-            step = steps[places[name]] if places[name] < len(steps) else None
-            if step and (f"./{step[0]}", step[2]) == (line, printed):
+            if places[name] < len(steps) and is_shown(steps[places[name]], line, printed):
                 places[name] += 1
                 break
         else:
@@ -93,12 +88,26 @@ def compare_page(page, rows):
     for name, steps in rows.items():
         if places[name] != len(steps):
             sys.exit(f"the page doesn't show this of {name}:\n{steps[places[name]][0]}")
-    texts = [read(f"{top}/{name}") for folder in rows for top, _, names in os.walk(f"{ROWS}/{folder}") for name in names]
-    pieces = files(page)
-    for piece in pieces:
-        if piece not in texts:
-            sys.exit(f"no example has this file:\n{piece}")
-    return len(lines), len(pieces)
+    return count
+
+
+def compare_files(lines):
+    """How many files the page shows by `cat`, each as it is in `examples/` or was copied from there."""
+    copied, count = {}, 0
+
+    def text_of(path):
+        path = copied.get(path, path)
+        return read(f"{TOP}/{path if path.startswith('examples/') else 'examples/' + path}")
+
+    for line, printed in lines:
+        words = line.split()
+        if words[0] == "cp" and len(words) == 3:
+            copied[words[2]] = copied.get(words[1], words[1])
+        elif words[0] == "cat":
+            count += len(words) - 1
+            if printed != "".join(map(text_of, words[1:])):
+                sys.exit(f"examples/ has something else:\n{line}")
+    return count
 
 
 def compare_mirrors():
@@ -119,6 +128,8 @@ def play(program, name, steps, folder):
         words = shlex.split(line, comments=True)
         if words[:1] == ["write"]:
             shutil.copy(f"{ROWS}/{name}/{words[2]}", f"{folder}/{words[1]}")
+        elif words[:1] == ["delete"]:
+            os.remove(f"{folder}/{words[1]}")
         elif words[:1] == ["mesh"]:
             step, status, printed = next(expected)
             done = subprocess.run([program, *words[1:]], stdin=subprocess.DEVNULL, capture_output=True, text=True, cwd=folder)
@@ -129,30 +140,18 @@ def play(program, name, steps, folder):
     return len(steps)
 
 
-def ask_file(page, folder):
-    """Runs the page's lines of `sqlite3` in a folder."""
-    lines = shown(page, "sqlite3 ")
-    for line, printed in lines:
-        said = subprocess.run(shlex.split(line), capture_output=True, text=True, cwd=folder, check=True).stdout
-        if said != printed:
-            sys.exit(f"{line}\nprints\n{said}")
-    return len(lines)
-
-
 def main():
-    page, rows = read(f"{TOP}/docs/GUIDE.md"), examples()
-    lines, pieces = compare_page(page, rows)
+    lines, rows = shown(read(f"{TOP}/docs/GUIDE.md")), examples()
+    commands, files = compare_commands(lines, rows), compare_files(lines)
     compare_mirrors()
-    print(f"{lines} command lines and {pieces} files of the page are those of {len(rows)} examples")
+    print(f"{commands} command lines of the page are those of {len(rows)} examples, and {files} files are those of examples/")
     if len(sys.argv) > 1:
-        program, played, asked = os.path.abspath(sys.argv[1]), 0, 0
+        program, played = os.path.abspath(sys.argv[1]), 0
         for name, steps in rows.items():
             if "\nfail" not in read(f"{ROWS}/{name}/script"):
                 with tempfile.TemporaryDirectory() as folder:
                     played += play(program, name, steps, folder)
-                    if name == "guide_starter":
-                        asked = ask_file(page, folder)
-        print(f"over files the program prints what {played} commands of them print, and sqlite3 what {asked} lines of the page say")
+        print(f"over files the program prints what {played} commands of them print")
 
 
 if __name__ == "__main__":

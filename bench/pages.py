@@ -12,8 +12,8 @@ A page's commands stand in fenced blocks whose first word is `console`: a line `
 below it, up to the next one, are what it prints, standard output and error together; `$ echo $?` prints the status of the
 command before. A block whose first line names a language and a path, as ```sql models/daily.sql, is a file, which is
 written there first. A page begins in an empty folder with `./mesh` and `./try`, both the program, and copies of
-`examples/` and `tools/`; a line `<!-- new folder -->` begins another. Other blocks are shown and not run. `docs/GUIDE.md` has its
-commands in indented blocks, which `bench/guide.py` compares; it is run too.
+`examples/` and `tools/`; a line `<!-- new folder -->` begins another. Other blocks are shown and not run. Without pages
+named, `bench/guide.py` is run too, which compares `docs/GUIDE.md` with the worked examples.
 
 Usage: bench/pages.py [--program FILE] [PAGE ..]"""
 import difflib

@@ -1,5 +1,6 @@
 -- How many rides began and ended at each station on each day.
-MODEL (name bikes.station_days, kind INCREMENTAL_BY_TIME_RANGE (time_column day), start '2024-05-01');
+MODEL (name bikes.station_days, kind INCREMENTAL_BY_TIME_RANGE (time_column day),
+  start '2024-05-01');
 WITH moves AS (
   SELECT from_station AS station, started, 1 AS departures, 0 AS arrivals
   FROM bikes.rides

@@ -1,5 +1,6 @@
 -- What each ride costs. A minute that was begun counts.
-MODEL (name bikes.fares, kind INCREMENTAL_BY_TIME_RANGE (time_column day), start '2024-05-01');
+MODEL (name bikes.fares, kind INCREMENTAL_BY_TIME_RANGE (time_column day),
+  start '2024-05-01');
 WITH timed AS (
   SELECT ride, bike, plan, started, (seconds + 59) / 60 AS minutes
   FROM bikes.rides
