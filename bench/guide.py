@@ -1,8 +1,9 @@
 #!/usr/bin/env python3
 """Compares `docs/GUIDE.md` with the worked examples that run its command lines: the commands `./mesh ..` of its `console` blocks, and of
 its `text` blocks, with the text below each are the commands of the worked examples `guide_..` of `mesh_answers` with what their files
-`expected` say, all of them and each example's in its order; what `cat` prints are files of `examples/`; and the examples' projects are
-those of `examples/`. (`bench/bikes.py` computes what `guide_bikes` has to print.)
+`expected` say, all of them and each example's in its order; what `cat` prints are files of `examples/`; the examples' projects are
+those of `examples/`; and the picture of `examples/bikes` in README.md has its models' FROM and JOIN. (`bench/bikes.py` computes what
+`guide_bikes` has to print.)
 
 A command may end in `| tail -n N` or `| head -n N`. One that goes into another program isn't compared; `bench/pages.py --program` runs
 all commands of the page, from its top to its bottom.
@@ -72,6 +73,16 @@ def is_shown(step, line, printed):
     return f"./{step[0]}" == command and (cut(step[2], how, many) if how else step[2]) == printed
 
 
+def batched(path, steps):
+    """What a script of `examples/` prints, by the steps of an example that has its lines among its own."""
+    printed, steps = "", iter(steps)
+    for line in read(f"{TOP}/{path}").splitlines():
+        if line and not line.startswith("#"):
+            bare = (re.sub(r"^mesh (--paths \w+ )?", "", step[0]) == line and step[2] for step in steps)
+            printed += next(filter(None, bare))
+    return printed
+
+
 def compare_commands(lines, rows):
     """How many command lines of the page are those of the examples."""
     places, count = dict.fromkeys(rows, 0), 0
@@ -79,6 +90,11 @@ def compare_commands(lines, rows):
         if not line.startswith("./mesh ") or re.search(r"\| (?!tail -n|head -n)", line):
             continue
         count += 1
+        batch = re.search(r" batch < (\S+) \| (tail|head) -n (\d+)$", line)
+        if batch:
+            if cut(batched(batch[1], rows["guide_bikes"]), batch[2], batch[3]) != printed:
+                sys.exit(f"guide_bikes prints something else:\n{line}\n{printed}")
+            continue
         for name, steps in rows.items():
             if places[name] < len(steps) and is_shown(steps[places[name]], line, printed):
                 places[name] += 1
@@ -120,6 +136,22 @@ def compare_mirrors():
                     sys.exit(f"examples/{path} isn't that of {example}")
 
 
+def compare_picture():
+    """How many arrows the picture of README.md has, each from what a model of `examples/bikes` reads to that model."""
+    drawn, written = set(), set()
+    for line in re.search(r"^```mermaid\n(.*?)^```$", read(f"{TOP}/README.md"), flags=re.M | re.S)[1].splitlines():
+        ends = [re.findall(r"(?:^|& )\s*(\w+)", side) for side in line.split(" --> ")]
+        if len(ends) == 2:
+            drawn |= {(start, end) for start in ends[0] for end in ends[1]}
+    for name in os.listdir(f"{TOP}/examples/bikes/models"):
+        bare = re.sub(r"--.*", "", read(f"{TOP}/examples/bikes/models/{name}"))
+        for schema, model in re.findall(r"(?:FROM|JOIN) (raw|bikes)\.(\w+)", bare):
+            written.add((f"raw_{model}" if schema == "raw" else model, name.removesuffix(".sql")))
+    if drawn != written:
+        sys.exit(f"README.md draws other arrows: {sorted(drawn ^ written)}")
+    return len(drawn)
+
+
 def play(program, name, steps, folder):
     """Runs the steps of an example in a folder with a program."""
     shutil.copytree(f"{ROWS}/{name}/project", folder, dirs_exist_ok=True)
@@ -144,7 +176,8 @@ def main():
     lines, rows = shown(read(f"{TOP}/docs/GUIDE.md")), examples()
     commands, files = compare_commands(lines, rows), compare_files(lines)
     compare_mirrors()
-    print(f"{commands} command lines of the page are those of {len(rows)} examples, and {files} files are those of examples/")
+    print(f"{commands} command lines of the page are those of {len(rows)} examples, {files} files and {compare_picture()} arrows of a "
+          "picture those of examples/")
     if len(sys.argv) > 1:
         program, played = os.path.abspath(sys.argv[1]), 0
         for name, steps in rows.items():
