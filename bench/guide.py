@@ -23,8 +23,9 @@ import tempfile
 from measured import TOP
 
 ROWS = f"{TOP}/crates/mesh_answers/data/rows"
-MIRRORS = [("bikes", "guide_bikes"), ("bikes", "guide_faults"), ("starter", "starter_changed"), ("shop", "shop_late_rows"),
-           ("shop", "guide_stopped")]
+# Examples whose project has all that one of `examples/` has, and those that have some of it.
+WHOLE = [("bikes", "guide_bikes"), ("starter", "starter_changed"), ("shop", "shop_late_rows"), ("shop", "shop_stopped")]
+PARTS = ["guide_faults", "guide_stopped"]
 SKIPPED = ("script", "audits", "more.csv", "fixed.csv")
 
 
@@ -126,14 +127,19 @@ def compare_files(lines):
     return count
 
 
+def paths_below(start, folder):
+    """The files below a folder that count, by their paths from the start on."""
+    for top, folders, names in os.walk(f"{start}/{folder}"):
+        folders[:] = [folder for folder in folders if folder not in SKIPPED]
+        yield from (os.path.relpath(f"{top}/{name}", start) for name in names if name not in SKIPPED)
+
+
 def compare_mirrors():
-    for project, example in MIRRORS:
-        for top, folders, names in os.walk(f"{TOP}/examples/{project}"):
-            folders[:] = [folder for folder in folders if folder not in SKIPPED]
-            for name in names:
-                path = os.path.relpath(f"{top}/{name}", f"{TOP}/examples")
-                if name not in SKIPPED and read(f"{top}/{name}") != read(f"{ROWS}/{example}/project/{path}"):
-                    sys.exit(f"examples/{path} isn't that of {example}")
+    examples = [(example, f"{TOP}/examples", project) for project, example in WHOLE]
+    for example, start, folder in examples + [(example, f"{ROWS}/{example}/project", ".") for example in PARTS]:
+        for path in paths_below(start, folder):
+            if read(f"{TOP}/examples/{path}") != read(f"{ROWS}/{example}/project/{path}"):
+                sys.exit(f"examples/{path} isn't that of {example}")
 
 
 def compare_picture():

@@ -7,7 +7,6 @@ WITH timed AS (
   WHERE started BETWEEN @start_epoch AND @end_epoch
 )
 SELECT DATE '1970-01-01' + r.started / 86400 AS day, r.ride, r.bike, r.plan, r.minutes,
-  r.started % 86400 / 3600 AS hour,
   CASE WHEN r.minutes > t.free_minutes
     THEN t.start_cents + (r.minutes - t.free_minutes) * t.minute_cents
     ELSE t.start_cents END AS cents
