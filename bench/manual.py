@@ -22,7 +22,7 @@ PAGE = f"{TOP}/docs/mesh.1"
 # How many columns an example may have: 80 without the indents of a section and of an example.
 WIDTH = 68
 # The sections of the source that are a command's.
-COMMANDS = ("plan", "apply", "run", "evaluate", "fetchdf", "ingest", "invalidate", "janitor", "migrate", "batch", "demo")
+COMMANDS = ("plan", "apply", "run", "evaluate", "fetchdf", "ingest", "invalidate", "janitor", "migrate", "trace", "impact", "batch", "demo")
 HEAD = r"""
 .\" Made of docs/COMMANDS.md by bench/manual.py: change that file, not this one.
 .TH MESH 1 "" mesh "User Commands"

@@ -25,7 +25,7 @@ import sys
 import tempfile
 
 TOP = os.path.dirname(os.path.dirname(os.path.abspath(__file__)))
-COMMANDS = "plan apply run evaluate fetchdf ingest invalidate janitor migrate batch demo".split()
+COMMANDS = "plan apply run evaluate fetchdf ingest invalidate janitor migrate trace impact batch demo".split()
 FAULTS = [f"M{k}" for k in range(1, 21)] + [f"S{k}" for k in range(1, 6)]
 STATUSES = range(8)
 SIZES = {"PROVED.md": 15 * 1024, "ARCHITECTURE.md": 15 * 1024}

@@ -13,7 +13,7 @@ _mesh_options() {
     ingest) echo --append ;;
     janitor) echo --execution-time ;;
     demo) echo --workers ;;
-    fetchdf | invalidate | migrate | batch) ;;
+    fetchdf | invalidate | migrate | trace | impact | batch) ;;
     esac
 }
 
@@ -41,7 +41,7 @@ _mesh_files() {
 }
 
 _mesh() {
-    local names="plan apply run evaluate fetchdf ingest invalidate janitor migrate batch demo"
+    local names="plan apply run evaluate fetchdf ingest invalidate janitor migrate trace impact batch demo"
     local words command='' folder='' given=' ' option='' ended='' places=0 word at it
     _mesh_words
     COMPREPLY=()

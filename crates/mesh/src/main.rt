@@ -1,8 +1,8 @@
 //! The program: it hands its words, the host's files, clock and streams, and a warehouse to the top call of
 //! `mesh_cli::cli`, and ends with the status that the call answers. The warehouse is in memory where the words say
-//! `:memory:` or are no command line, and else in a file of SQLite. Where that file can't be opened, all that is
-//! printed is `warehouse fault`, and the status is 3; where memory is out here, it is `want of memory`, and 4. What
-//! lies here is trusted, not proved: which house is made.
+//! `:memory:`, are no command line or stand on the project alone, and else in a file of SQLite. Where that file can't
+//! be opened, all that is printed is `warehouse fault`, and the status is 3; where memory is out here, it is `want of
+//! memory`, and 4. What lies here is trusted, not proved: which house is made.
 #![tactic(auto)]
 
 use mesh_base_values::Str;

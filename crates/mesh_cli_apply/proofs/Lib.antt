@@ -18,3 +18,5 @@ pub mod Migrated
 pub mod ByName
 -- Applied: an apply and a run, step by step.
 pub mod Applied
+-- Traced: what `trace` and `impact` find, and what they answer.
+pub mod Traced

@@ -12,3 +12,5 @@ pub mod Made
 pub mod Listing
 -- Migrating: the same of moving a book.
 pub mod Migrating
+-- Tracing: what `trace` and `impact` print, and why they are refused.
+pub mod Tracing

@@ -54,7 +54,8 @@ fn is_named(nodes: &[Node], name: &Name) -> bool
     false
 }
 
-fn no_model(alloc: Global, name: &Name) -> Result<Refusal, Memory>
+/// The words name no model of the project.
+pub(crate) fn no_model(alloc: Global, name: &Name) -> Result<Refusal, Memory>
     ensures { IfOk result (λ r. r ≡ no_model name.now) }
 {
     let file = Vec::from_slice(alloc, b"-")?;

@@ -10,9 +10,9 @@ use Rattle.mesh_base_values.specs.Picked.{same_text}
 use Rattle.mesh_base_values.specs.declared.values.Name.{Name}
 use Rattle.mesh_base.specs.declared.forgets.Restate.{Restate}
 use Rattle.mesh_cli_words.specs.declared.line.Command.{Command}
-use Rattle.mesh_cli_words.specs.declared.line.Command.TheVariants.{Plan, Apply, Run, Evaluate, Fetchdf, Ingest, Janitor, Invalidate, Migrate, Batch, Demo}
+use Rattle.mesh_cli_words.specs.declared.line.Command.TheVariants.{Plan, Apply, Run, Evaluate, Fetchdf, Ingest, Janitor, Invalidate, Migrate, Trace, Impact, Batch, Demo}
 use Rattle.mesh_cli_words.specs.declared.line.Line.{Line}
-use Rattle.mesh_cli_values.specs.options.Values.{IsMomentOf, again_named, count_named, days_named, env_named, expiring_named, is_other, name_named, workers_named}
+use Rattle.mesh_cli_values.specs.options.Values.{IsMomentOf, again_named, column_named, count_named, days_named, env_named, expiring_named, is_other, name_named, workers_named}
 use Rattle.mesh_cli_words.specs.Words.{mesh_app}
 
 -- the value that was given under this name
@@ -45,6 +45,9 @@ again_given rows = again_named (given (codes "restate-model") rows) (given (code
 
 abbrev pub model_given : Text → List Row → Option Name
 model_given id rows = option_and_then name_named (given id rows)
+
+abbrev pub column_given : List Row → Option Text
+column_given rows = option_and_then column_named (given (codes "column") rows)
 
 -- the days from the first text's to the last text's
 abbrev pub days_between : Option Text → Option Text → Option (ℤ × ℤ)
@@ -84,6 +87,12 @@ ingest_given rows =
 abbrev pub invalidate_given : List Row → Option Command
 invalidate_given rows = option_and_then (λ env. if is_other env then Some (Invalidate env) else None) (env_given rows)
 
+abbrev pub trace_given : List Row → Option Command
+trace_given rows = option_and_then (λ model. option_map (λ column. Trace model column) (column_given rows)) (model_given (codes "model") rows)
+
+abbrev pub impact_given : List Row → Option Command
+impact_given rows = option_and_then (λ name. option_map (λ column. Impact name column) (column_given rows)) (model_given (codes "name") rows)
+
 abbrev pub demo_given : List Row → Option Command
 demo_given rows = option_and_then (λ n. option_map (λ workers. Demo n workers) (workers_given rows)) (count_given rows)
 
@@ -99,8 +108,10 @@ command_given t name rows =
     else (if same_text name (codes "janitor") then Some (Janitor t)
     else (if same_text name (codes "invalidate") then invalidate_given rows
     else (if same_text name (codes "migrate") then Some Migrate
+    else (if same_text name (codes "trace") then trace_given rows
+    else (if same_text name (codes "impact") then impact_given rows
     else (if same_text name (codes "batch") then Some Batch
-    else (if same_text name (codes "demo") then demo_given rows else None))))))))))
+    else (if same_text name (codes "demo") then demo_given rows else None))))))))))))
 
 -- the command of a name and what was given to it
 pub record IsCommand (name : Text) (rows : List Row) (command : Command) : Type 0 where

@@ -62,6 +62,12 @@ invalidate_app = with_rule (bare_app (codes "invalidate")) (needed (place_rule (
 abbrev pub migrate_app : App
 migrate_app = bare_app (codes "migrate")
 
+abbrev pub trace_app : App
+trace_app = with_rule (with_rule (bare_app (codes "trace")) (needed (place_rule (codes "model")))) (needed (place_rule (codes "column")))
+
+abbrev pub impact_app : App
+impact_app = with_rule (with_rule (bare_app (codes "impact")) (needed (place_rule (codes "name")))) (needed (place_rule (codes "column")))
+
 abbrev pub batch_app : App
 batch_app = bare_app (codes "batch")
 
@@ -103,8 +109,14 @@ to_invalidate_app = with_subcommand to_janitor_app invalidate_app.top
 abbrev pub to_migrate_app : App
 to_migrate_app = with_subcommand to_invalidate_app migrate_app.top
 
+abbrev pub to_trace_app : App
+to_trace_app = with_subcommand to_migrate_app trace_app.top
+
+abbrev pub to_impact_app : App
+to_impact_app = with_subcommand to_trace_app impact_app.top
+
 abbrev pub to_batch_app : App
-to_batch_app = with_subcommand to_migrate_app batch_app.top
+to_batch_app = with_subcommand to_impact_app batch_app.top
 
 -- all commands
 abbrev pub mesh_app : App

@@ -3,7 +3,7 @@ ghost use Rattle.std.specs.Prelude.{◌≡◌, IfOk, false};
 ghost use Rattle.clap.specs.Walk.{Rule, rule_of};
 ghost use Rattle.clap.specs.Simple.{App, app_of, with_rule, with_subcommand};
 ghost use Rattle.clap.specs.declared.builder.command.Command.TheViews.{out-Command as fields_of};
-ghost use Rattle.mesh_cli_words.specs.Words.{option_rule, flag_rule, place_rule, needed, bare_app, timed_app, again_app, plan_app, apply_app, run_app, evaluate_app, fetchdf_app, ingest_app, janitor_app, invalidate_app, migrate_app, batch_app, demo_app, evaluate_places_app, unnamed_app, basis_app, to_plan_app, to_apply_app, to_run_app, to_evaluate_app, to_fetchdf_app, to_ingest_app, to_janitor_app, to_invalidate_app, to_migrate_app, to_batch_app, mesh_app};
+ghost use Rattle.mesh_cli_words.specs.Words.{option_rule, flag_rule, place_rule, needed, bare_app, timed_app, again_app, plan_app, apply_app, run_app, evaluate_app, fetchdf_app, ingest_app, janitor_app, invalidate_app, migrate_app, trace_app, impact_app, batch_app, demo_app, evaluate_places_app, unnamed_app, basis_app, to_plan_app, to_apply_app, to_run_app, to_evaluate_app, to_fetchdf_app, to_ingest_app, to_janitor_app, to_invalidate_app, to_migrate_app, to_trace_app, to_impact_app, to_batch_app, mesh_app};
 
 use clap::builder::ValueParser;
 use clap::{Arg, ArgAction, Command};
@@ -198,6 +198,26 @@ fn invalidate_command<'a>(alloc: Global) -> Result<Command<'a>, AllocError>
     with_arg(Ok(bare(alloc, "invalidate")), env)
 }
 
+fn trace_command<'a>(alloc: Global) -> Result<Command<'a>, AllocError>
+    ensures app { IfOk result (λ c. app_of c ≡ trace_app) }
+    ensures local { IfOk result (λ c. (fields_of c).has_globals ≡ false) }
+{
+    let model = needed_place(alloc, "model");
+    let column = needed_place(alloc, "column");
+    let first = with_arg(Ok(bare(alloc, "trace")), model);
+    with_arg(first, column)
+}
+
+fn impact_command<'a>(alloc: Global) -> Result<Command<'a>, AllocError>
+    ensures app { IfOk result (λ c. app_of c ≡ impact_app) }
+    ensures local { IfOk result (λ c. (fields_of c).has_globals ≡ false) }
+{
+    let name = needed_place(alloc, "name");
+    let column = needed_place(alloc, "column");
+    let first = with_arg(Ok(bare(alloc, "impact")), name);
+    with_arg(first, column)
+}
+
 fn demo_command<'a>(alloc: Global) -> Result<Command<'a>, AllocError>
     ensures app { IfOk result (λ c. app_of c ≡ demo_app) }
     ensures local { IfOk result (λ c. (fields_of c).has_globals ≡ false) }
@@ -290,11 +310,25 @@ fn to_migrate<'a>(alloc: Global) -> Result<Command<'a>, AllocError>
     with_command(to_invalidate(alloc), Ok(bare(alloc, "migrate")))
 }
 
+fn to_trace<'a>(alloc: Global) -> Result<Command<'a>, AllocError>
+    ensures app { IfOk result (λ c. app_of c ≡ to_trace_app) }
+    ensures local { IfOk result (λ c. (fields_of c).has_globals ≡ false) }
+{
+    with_command(to_migrate(alloc), trace_command(alloc))
+}
+
+fn to_impact<'a>(alloc: Global) -> Result<Command<'a>, AllocError>
+    ensures app { IfOk result (λ c. app_of c ≡ to_impact_app) }
+    ensures local { IfOk result (λ c. (fields_of c).has_globals ≡ false) }
+{
+    with_command(to_trace(alloc), impact_command(alloc))
+}
+
 fn to_batch<'a>(alloc: Global) -> Result<Command<'a>, AllocError>
     ensures app { IfOk result (λ c. app_of c ≡ to_batch_app) }
     ensures local { IfOk result (λ c. (fields_of c).has_globals ≡ false) }
 {
-    with_command(to_migrate(alloc), Ok(bare(alloc, "batch")))
+    with_command(to_impact(alloc), Ok(bare(alloc, "batch")))
 }
 
 /// All commands, with the options in front.

@@ -4,11 +4,11 @@ ghost use Rattle.std.specs.Option.{option_map};
 ghost use Rattle.clap.specs.Walk.{rows_of};
 ghost use Rattle.clap.specs.Matches.{found_of};
 ghost use Rattle.mesh_cli_words.specs.declared.line.Command.TheVariants.{Invalidate};
-ghost use Rattle.mesh_cli_words.specs.Lines.{apply_given, command_given, demo_given, evaluate_given, fetchdf_given, ingest_given, invalidate_given, plan_given, run_given};
+ghost use Rattle.mesh_cli_words.specs.Lines.{apply_given, command_given, demo_given, evaluate_given, fetchdf_given, impact_given, ingest_given, invalidate_given, plan_given, run_given, trace_given};
 
 use crate::given::{
-    again_given, count_given, days_given, env_given, expiring_given, is_flagged, model_given,
-    text_given, workers_given,
+    again_given, column_given, count_given, days_given, env_given, expiring_given, is_flagged,
+    model_given, text_given, workers_given,
 };
 use crate::line::Command;
 use clap::ArgMatches;
@@ -150,6 +150,30 @@ fn invalidate_given(alloc: Global, m: &ArgMatches<'_>) -> Result<Option<Command>
     Ok(invalidated(env))
 }
 
+fn trace_given(alloc: Global, m: &ArgMatches<'_>) -> Result<Option<Command>, Memory>
+    ensures { IfOk result (λ made. made ≡ trace_given (rows_of (found_of m.now))) }
+{
+    let Some(model) = model_given(alloc, m, "model")? else {
+        return Ok(None);
+    };
+    match column_given(alloc, m)? {
+        None => Ok(None),
+        Some(column) => Ok(Some(Command::Trace { model, column })),
+    }
+}
+
+fn impact_given(alloc: Global, m: &ArgMatches<'_>) -> Result<Option<Command>, Memory>
+    ensures { IfOk result (λ made. made ≡ impact_given (rows_of (found_of m.now))) }
+{
+    let Some(name) = model_given(alloc, m, "name")? else {
+        return Ok(None);
+    };
+    match column_given(alloc, m)? {
+        None => Ok(None),
+        Some(column) => Ok(Some(Command::Impact { name, column })),
+    }
+}
+
 fn demo_given(m: &ArgMatches<'_>) -> Option<Command>
     ensures { result ≡ demo_given (rows_of (found_of m.now)) }
 {
@@ -190,6 +214,10 @@ pub(crate) fn command_given(
         invalidate_given(alloc, m)
     } else if same_text(name, b"migrate") {
         Ok(Some(Command::Migrate))
+    } else if same_text(name, b"trace") {
+        trace_given(alloc, m)
+    } else if same_text(name, b"impact") {
+        impact_given(alloc, m)
     } else if same_text(name, b"batch") {
         Ok(Some(Command::Batch))
     } else if same_text(name, b"demo") {

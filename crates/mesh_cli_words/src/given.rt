@@ -3,14 +3,15 @@ ghost use Rattle.std.specs.Prelude.{◌≡◌, codes, IfOk};
 ghost use Rattle.std.specs.Option.{option_and_then, option_map};
 ghost use Rattle.clap.specs.Walk.{rows_of};
 ghost use Rattle.clap.specs.Matches.{found_of};
-ghost use Rattle.mesh_cli_values.specs.options.Values.{count_named, name_named};
-ghost use Rattle.mesh_cli_words.specs.Lines.{again_given, count_given, days_between, days_given, env_given, expiring_given, given, is_flagged, is_yes, model_given, workers_given};
+ghost use Rattle.mesh_cli_values.specs.options.Values.{column_named, count_named, name_named};
+ghost use Rattle.mesh_cli_words.specs.Lines.{again_given, column_given, count_given, days_between, days_given, env_given, expiring_given, given, is_flagged, is_yes, model_given, workers_given};
 
 use clap::ArgMatches;
 use mesh_base::Restate;
 use mesh_base_values::{Name, Str, same_text};
 use mesh_cli_values::options::{
-    again_named, count_named, days_named, env_named, expiring_named, name_named, workers_named,
+    again_named, column_named, count_named, days_named, env_named, expiring_named, name_named,
+    workers_named,
 };
 use mesh_list::{Memory, Seq};
 use std::alloc::Global;
@@ -118,6 +119,21 @@ pub(crate) fn model_given(
     ensures { IfOk result (λ made. made ≡ model_given id.now (rows_of (found_of m.now))) }
 {
     model_named(alloc, given(m, id))
+}
+
+fn column_of(alloc: Global, text: Option<&str>) -> Result<Option<Str>, Memory>
+    ensures { IfOk result (λ made. made ≡ option_and_then column_named (option_map (λ s. s.now) text.entry)) }
+{
+    match text {
+        None => Ok(None),
+        Some(text) => column_named(alloc, text.as_bytes()),
+    }
+}
+
+pub(crate) fn column_given(alloc: Global, m: &ArgMatches<'_>) -> Result<Option<Str>, Memory>
+    ensures { IfOk result (λ made. made ≡ column_given (rows_of (found_of m.now))) }
+{
+    column_of(alloc, given(m, "column"))
 }
 
 fn days_between(first: Option<&str>, last: Option<&str>) -> Option<(i32, i32)>

@@ -1,5 +1,5 @@
 // The words that the host gives, and the file that they name.
-use crate::line::UsageFault;
+use crate::line::{Command, Line, UsageFault};
 use crate::read::read_words;
 use mesh_base_values::{Str, same_text};
 use mesh_list::{Duplicate, Memory, Seq};
@@ -60,12 +60,28 @@ fn file_of(alloc: Global, name: Option<&Str>) -> Result<Option<Str>, Memory> {
     Ok(Some(name.copy()?))
 }
 
-/// The file of the warehouse, or none where it is in memory and where the words are no command line.
+/// Whether a command stands on the project alone: a file isn't opened for it.
+fn stands_on_project(command: &Command) -> bool {
+    match command {
+        Command::Trace { .. } | Command::Impact { .. } => true,
+        _ => false,
+    }
+}
+
+fn line_file(alloc: Global, line: &Line) -> Result<Option<Str>, Memory> {
+    if stands_on_project(&line.command) {
+        return Ok(None);
+    }
+    file_of(alloc, line.warehouse.as_ref())
+}
+
+/// The file of the warehouse, or none where it is in memory, where the command stands on the project alone, and where
+/// the words are no command line.
 pub fn warehouse_file(alloc: Global, words: &[Str]) -> Result<Option<Str>, Memory> {
     match read_words(alloc, words) {
         // A warehouse in memory in the place of the file would keep nothing.
         Err(UsageFault::Memory) => Err(Memory),
         Err(UsageFault::Usage) => Ok(None),
-        Ok(line) => file_of(alloc, line.warehouse.as_ref()),
+        Ok(line) => line_file(alloc, &line),
     }
 }

@@ -50,6 +50,16 @@ pub enum Command {
         env: Str,
     },
     Migrate,
+    /// What a column of a model hangs on.
+    Trace {
+        model: Name,
+        column: Str,
+    },
+    /// What hangs on a column of a model or a source.
+    Impact {
+        name: Name,
+        column: Str,
+    },
     Batch,
     /// The shop project with so many records, made and run in memory.
     Demo {
@@ -94,6 +104,11 @@ impl Drop for Command {
             | Command::Janitor { moment: _ }
             | Command::Invalidate { env: _ }
             | Command::Migrate
+            | Command::Trace {
+                model: _,
+                column: _,
+            }
+            | Command::Impact { name: _, column: _ }
             | Command::Batch
             | Command::Demo { n: _, workers: _ } => {}
         }

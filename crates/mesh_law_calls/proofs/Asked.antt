@@ -18,7 +18,7 @@ use Rattle.mesh_spec_changes.specs.Commands.{allows, changes, is_final, is_not_b
 use Rattle.mesh_spec_changes.specs.Environments.{env_at}
 use Rattle.mesh_spec_promise.specs.Histories.{IsAsked, judged_at}
 use Rattle.mesh_cli_words.specs.declared.line.Command.{Command}
-use Rattle.mesh_cli_words.specs.declared.line.Command.TheVariants.{Plan, Apply, Run, Evaluate, Fetchdf, Ingest, Janitor, Invalidate, Migrate, Batch, Demo}
+use Rattle.mesh_cli_words.specs.declared.line.Command.TheVariants.{Plan, Apply, Run, Evaluate, Fetchdf, Ingest, Janitor, Invalidate, Migrate, Trace, Impact, Batch, Demo}
 use Rattle.mesh_plan.specs.Plans.{promised}
 use Rattle.mesh_plan.specs.Running.{IsRunIn, IsRunOf}
 use Rattle.mesh_exec.proofs.plans.Executable.{moment_is}
@@ -82,6 +82,8 @@ made_is_asked dir s (Ingest name file append) w list h =
 made_is_asked dir s (Janitor moment) w list (t, at, real, are) = (promise.Janitor t, (t, at, real, refl), λ clock shows. are clock)
 made_is_asked dir s (Invalidate env) w list are = (promise.Invalidate env, refl, λ clock shows. are clock)
 made_is_asked dir s Migrate w list (renames, moved, are) = (promise.MigrateAll renames, (renames, moved, refl), λ clock shows. are clock)
+made_is_asked dir s (Trace model column) w list h = (promise.Nothing, refl, λ clock shows. h)
+made_is_asked dir s (Impact source column) w list h = (promise.Nothing, refl, λ clock shows. h)
 made_is_asked dir s Batch w list h = (promise.Nothing, refl, λ clock shows. h)
 made_is_asked dir s (Demo n workers) w list h = (promise.Nothing, refl, λ clock shows. h)
 
@@ -114,6 +116,8 @@ asked_is_met dir s (Ingest name file append) w k h after shows = subst (IsAsked 
 asked_is_met dir s (Janitor moment) w k (t, at, real, is) after shows = subst (IsAsked after w) (sym is) (moment_is t real)
 asked_is_met dir s (Invalidate env) w k h after shows = subst (IsAsked after w) (sym h) tt
 asked_is_met dir s Migrate w k (renames, moved, is) after shows = subst (IsAsked after w) (sym is) tt
+asked_is_met dir s (Trace model column) w k h after shows = subst (IsAsked after w) (sym h) tt
+asked_is_met dir s (Impact source column) w k h after shows = subst (IsAsked after w) (sym h) tt
 asked_is_met dir s Batch w k h after shows = subst (IsAsked after w) (sym h) tt
 asked_is_met dir s (Demo n workers) w k h after shows = subst (IsAsked after w) (sym h) tt
 
@@ -142,6 +146,8 @@ may_leave dir s (Ingest name file append) w k h = subst (MayLeave w) (sym h.has)
 may_leave dir s (Janitor moment) w k (t, at, real, is) = subst (MayLeave w) (sym is) tt
 may_leave dir s (Invalidate env) w k h = subst (MayLeave w) (sym h) tt
 may_leave dir s Migrate w k (renames, moved, is) = subst (MayLeave w) (sym is) tt
+may_leave dir s (Trace model column) w k h = subst (MayLeave w) (sym h) tt
+may_leave dir s (Impact source column) w k h = subst (MayLeave w) (sym h) tt
 may_leave dir s Batch w k h = subst (MayLeave w) (sym h) tt
 may_leave dir s (Demo n workers) w k h = subst (MayLeave w) (sym h) tt
 

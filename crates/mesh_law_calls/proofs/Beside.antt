@@ -28,7 +28,7 @@ use Rattle.mesh_law_promise.proofs.isolation.Others.{others_stay, records_stay}
 use Rattle.mesh_law_promise.proofs.isolation.Spared.{not_again_kept}
 use Rattle.mesh_law_promise.proofs.shown.Sweeping.{sweep_leaves}
 use Rattle.mesh_cli_words.specs.declared.line.Command.{Command}
-use Rattle.mesh_cli_words.specs.declared.line.Command.TheVariants.{Plan, Apply, Run, Evaluate, Fetchdf, Ingest, Janitor, Invalidate, Migrate, Batch, Demo}
+use Rattle.mesh_cli_words.specs.declared.line.Command.TheVariants.{Plan, Apply, Run, Evaluate, Fetchdf, Ingest, Janitor, Invalidate, Migrate, Trace, Impact, Batch, Demo}
 use Rattle.mesh_cli.specs.cli.Ends.{Commanded}
 use Rattle.mesh_cli.specs.cli.Sides.{Sides}
 use Rattle.mesh_law_calls.specs.Kept.{Widens, unchanged, widened}
@@ -54,6 +54,8 @@ module _ (dir : List ℕ) (s : Sides) (w : World) (name : List ℕ) where
   left_out (Janitor moment) k h other = absurd other
   left_out (Invalidate env) k h other = subst (λ (c : promise.Command). LeavesOut c name) (sym h) other
   left_out Migrate k h other = absurd other
+  left_out (Trace model column) k h other = subst (λ (c : promise.Command). LeavesOut c name) (sym h) tt
+  left_out (Impact source column) k h other = subst (λ (c : promise.Command). LeavesOut c name) (sym h) tt
   left_out Batch k h other = subst (λ (c : promise.Command). LeavesOut c name) (sym h) tt
   left_out (Demo n workers) k h other = subst (λ (c : promise.Command). LeavesOut c name) (sym h) tt
 
@@ -73,6 +75,8 @@ module _ (dir : List ℕ) (s : Sides) (w : World) where
   drops_none (Janitor moment) k h keeps = absurd keeps
   drops_none (Invalidate env) k h keeps = subst DropsNone (sym h) tt
   drops_none Migrate k (renames, moved, is) keeps = subst DropsNone (sym is) tt
+  drops_none (Trace model column) k h keeps = subst DropsNone (sym h) tt
+  drops_none (Impact source column) k h keeps = subst DropsNone (sym h) tt
   drops_none Batch k h keeps = subst DropsNone (sym h) tt
   drops_none (Demo n workers) k h keeps = subst DropsNone (sym h) tt
 

@@ -27,7 +27,7 @@ use Rattle.mesh_spec_promise.proofs.Doubts.{doubted}
 use Rattle.mesh_law_promise.proofs.formed.Commands.{stays_formed}
 use Rattle.mesh_cli_words.specs.Lines.{IsLine}
 use Rattle.mesh_cli_words.specs.declared.line.Command.{Command}
-use Rattle.mesh_cli_words.specs.declared.line.Command.TheVariants.{Plan, Apply, Run, Evaluate, Fetchdf, Ingest, Janitor, Invalidate, Migrate, Batch, Demo}
+use Rattle.mesh_cli_words.specs.declared.line.Command.TheVariants.{Plan, Apply, Run, Evaluate, Fetchdf, Ingest, Janitor, Invalidate, Migrate, Trace, Impact, Batch, Demo}
 use Rattle.mesh_cli_words.specs.declared.line.Line.{Line}
 use Rattle.mesh_cli.specs.cli.Asked.{Makes}
 use Rattle.mesh_cli.specs.cli.Ends.{Commanded}
@@ -61,6 +61,8 @@ judged_moment dir s (Ingest name file append) w k was h =
 judged_moment dir s (Janitor moment) w k was (t, at, real, is) = subst (λ (c : promise.Command). IsMoment (judged_at w c)) (sym is) (one_or_other w (promise.Janitor t) t was real)
 judged_moment dir s (Invalidate env) w k was h = subst (λ (c : promise.Command). IsMoment (judged_at w c)) (sym h) (one_or_other w (promise.Invalidate env) w.book.moment was was)
 judged_moment dir s Migrate w k was (renames, moved, is) = subst (λ (c : promise.Command). IsMoment (judged_at w c)) (sym is) (one_or_other w (promise.MigrateAll renames) w.book.moment was was)
+judged_moment dir s (Trace model column) w k was h = subst (λ (c : promise.Command). IsMoment (judged_at w c)) (sym h) (one_or_other w promise.Nothing w.book.moment was was)
+judged_moment dir s (Impact source column) w k was h = subst (λ (c : promise.Command). IsMoment (judged_at w c)) (sym h) (one_or_other w promise.Nothing w.book.moment was was)
 judged_moment dir s Batch w k was h = subst (λ (c : promise.Command). IsMoment (judged_at w c)) (sym h) (one_or_other w promise.Nothing w.book.moment was was)
 judged_moment dir s (Demo n workers) w k was h = subst (λ (c : promise.Command). IsMoment (judged_at w c)) (sym h) (one_or_other w promise.Nothing w.book.moment was was)
 

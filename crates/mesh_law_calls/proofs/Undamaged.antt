@@ -1,19 +1,26 @@
 -- No command tells of a sound world that it is damaged.
-use Rattle.std.proofs.Common.{◌≡◌, inl, inr, ℕ, ℤ, Bool, true, false, cond, List, Option, Some, None, Err, Result, refl, sym, ap, subst, ◌∙◌}
+use Rattle.std.proofs.Common.{◌≡◌, inl, inr, ℕ, ℤ, Bool, true, false, cond, List, Option, Some, None, Ok, Err, Result, if◌then◌else◌, refl, sym, ap, subst, ◌∙◌}
 use Rattle.std.specs.Prelude.{◌&&◌}
+use Rattle.std.specs.Option.{ForSome}
 use Rattle.mesh_list.proofs.Ascends.{and_left}
+use Rattle.mesh_base_values.specs.declared.values.Column.{Column}
 use Rattle.mesh_base_values.specs.declared.values.Name.{Name}
 use Rattle.mesh_query_tokens.specs.declared.faults.FaultKind.TheVariants.{FingerprintClash}
+use Rattle.mesh_base.specs.declared.definitions.Decl.{Decl}
 use Rattle.mesh_base.specs.declared.forgets.Restate.{Restate}
 use Rattle.mesh_base.specs.declared.snapshots.Node.{Node}
 use Rattle.mesh_base.specs.declared.rules.plans.Plan.{Plan as Made}
+use Rattle.mesh_base.specs.rules.Seen.{has_column}
 use Rattle.mesh_time_days.specs.Moments.{IsMoment}
 use Rattle.mesh_house_book.specs.WellFormed.{book_fault, is_moment, is_version}
 use Rattle.mesh_house_book.specs.declared.book.Book.{Book}
+use Rattle.mesh_spec_model.specs.Closures.{closures}
 use Rattle.mesh_spec_model.proofs.Clocks.{shown}
 use Rattle.mesh_io.specs.declared.files.File.{File}
 use Rattle.mesh_house.specs.Step.{run}
 use Rattle.mesh_house.specs.declared.world.World.{World}
+use Rattle.mesh_project_files.specs.Project.{sources_in}
+use Rattle.mesh_trace.specs.declared.traces.Trace.{Trace as Traced}
 use Rattle.mesh_spec_changes.specs.due.Parts.{Parts}
 use Rattle.mesh_spec_changes.specs.Changes.{opens, run_opens}
 use Rattle.mesh_spec_changes.specs.Environments.{env_at}
@@ -33,12 +40,13 @@ use Rattle.mesh_cli_answer.specs.Present.{IsBroken, IsNotPresent}
 use Rattle.mesh_cli_apply.specs.Applying.{ApplyGives, IsHeld, PlanGives, RunGives}
 use Rattle.mesh_cli_apply.specs.Loaded.{OfProject}
 use Rattle.mesh_cli_apply.specs.Planning.{IsPlanned, IsRunPlanned, PlanRefused, RunRefused, no_model, of_plan}
+use Rattle.mesh_cli_apply.specs.Tracing.{ImpactOf, IsImpactOf, IsTraceOf, Lists, TraceOf, found, model_columns, no_column, or_declared}
 use Rattle.mesh_cli_apply.proofs.Promised.{plan_is_of, run_is_of}
 use Rattle.mesh_cli_look.specs.asking.Evaluated.{days}
 use Rattle.mesh_cli_look.specs.upkeep.Ingesting.{IngestGives, other_shape}
 use Rattle.mesh_cli_look.specs.upkeep.Upkeep.{InvalidateRefused, JanitorRefused}
 use Rattle.mesh_cli_words.specs.declared.line.Command.{Command}
-use Rattle.mesh_cli_words.specs.declared.line.Command.TheVariants.{Plan, Apply, Run, Evaluate, Fetchdf, Ingest, Janitor, Invalidate, Migrate, Batch, Demo}
+use Rattle.mesh_cli_words.specs.declared.line.Command.TheVariants.{Plan, Apply, Run, Evaluate, Fetchdf, Ingest, Janitor, Invalidate, Migrate, Trace, Impact, Batch, Demo}
 use Rattle.mesh_cli.specs.cli.Asked.{AppliesGive, Gives}
 use Rattle.mesh_cli.specs.cli.Ends.{Commanded}
 use Rattle.mesh_cli.specs.cli.Sides.{Sides}
@@ -109,6 +117,15 @@ module _ (b : Book) (fit : book_fault b ≡ None) (why : Refusal) (damage : tell
   ingest_refused files dir name file keep w (inl h) = differs (other_shape name) refl h.has.1
   ingest_refused files dir name file keep w (inr h) = differs (refusal.Model h.path h.at h.kind) refl h.told
 
+  -- or a list of columns
+  lists_quiet : (is : List Traced → Type 0) (name : Name) (column : List ℕ) (columns : Option (List Column)) → Lists (found name column columns) is (Err why) → ⊥
+  lists_quiet is name column None h = differs (no_model name) refl (let both : Err why ≡ Err (no_model name) = h in cc)
+  lists_quiet is name column (Some columns) h = by_test (has_column columns column) h
+    where
+      by_test : (b : Bool) → Lists (if b then Ok tt else Err (no_column column)) is (Err why) → ⊥
+      by_test true k = k
+      by_test false k = differs (no_column column) refl (let both : Err why ≡ Err (no_column column) = k in cc)
+
   -- of a project, only what is told of its models does so
   of_project : (files : Option (List File)) (dir : List ℕ) (gives : List Node → Result (List ℕ) Refusal → Type 0) → ((nodes : List Node) → gives nodes (Err why) → ⊥) → OfProject files dir gives (Err why) → ⊥
   of_project files dir gives none (inl h) = none h.project.nodes h.has
@@ -169,6 +186,11 @@ module _ (x : Parts) (w : World) (sound : Sound x w) (why : Refusal) (damage : t
   quiet dir s (Invalidate env) h = invalidate_refused w.book fit why damage env h
   quiet dir s Migrate (inl h) = not_broken w.book fit why damage h
   quiet dir s Migrate (inr h) = differs w.book fit why damage (refusal.Model (name_text h.name) 0 (FingerprintClash h.stored h.given)) refl h.told
+  quiet dir s (Trace model column) h =
+      of_project w.book fit why damage s.folder.files dir (λ nodes. TraceOf nodes model column) (λ nodes. lists_quiet w.book fit why damage (IsTraceOf (closures nodes) model column) model column (model_columns nodes model)) h
+  quiet dir s (Impact name column) h =
+      of_project w.book fit why damage s.folder.files dir (λ nodes told. (sources : List Decl) × ForSome s.folder.files (λ fs. sources_in fs dir ≡ Ok sources) × ImpactOf sources nodes name column told)
+      (λ nodes all. lists_quiet w.book fit why damage (IsImpactOf (closures nodes) name column) name column (or_declared (model_columns nodes name) all.0 name) all.2) h
   quiet dir s Batch h = differs w.book fit why damage refusal.Usage refl (let both : Err why ≡ Err refusal.Usage = h in cc)
   quiet dir s (Demo n workers) h = h
 

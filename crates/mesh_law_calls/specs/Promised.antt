@@ -10,7 +10,7 @@ use Rattle.mesh_house.specs.declared.world.World.{World}
 use Rattle.mesh_spec_changes.specs.Commands as promise
 use Rattle.mesh_spec_promise.specs.Final.{Final}
 use Rattle.mesh_cli_words.specs.declared.line.Command.{Command}
-use Rattle.mesh_cli_words.specs.declared.line.Command.TheVariants.{Plan, Apply, Run, Evaluate, Fetchdf, Ingest, Janitor, Invalidate, Migrate, Batch, Demo}
+use Rattle.mesh_cli_words.specs.declared.line.Command.TheVariants.{Plan, Apply, Run, Evaluate, Fetchdf, Ingest, Janitor, Invalidate, Migrate, Trace, Impact, Batch, Demo}
 use Rattle.mesh_plan.specs.Plans.{promised}
 use Rattle.mesh_cli_apply.specs.Loaded.{IsProject}
 use Rattle.mesh_cli_apply.specs.Migrating.{IsMoved}
@@ -38,6 +38,8 @@ AsksFor dir s (Ingest name file append) w k = IsSource s.folder.files dir name f
 AsksFor dir s (Janitor moment) w k = AtMoment moment s.clock.moment (λ t. k ≡ promise.Janitor t)
 AsksFor dir s (Invalidate env) w k = k ≡ promise.Invalidate env
 AsksFor dir s Migrate w k = (renames : List Rename) × IsMoved w.book renames × (k ≡ promise.MigrateAll renames)
+AsksFor dir s (Trace model column) w k = k ≡ promise.Nothing
+AsksFor dir s (Impact name column) w k = k ≡ promise.Nothing
 AsksFor dir s Batch w k = k ≡ promise.Nothing
 AsksFor dir s (Demo n workers) w k = k ≡ promise.Nothing
 

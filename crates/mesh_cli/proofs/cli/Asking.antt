@@ -4,7 +4,7 @@ use Rattle.std.specs.Option.{is_none}
 use Rattle.mesh_cli_print.specs.declared.printed.refusals.Refusal.{Refusal}
 use Rattle.mesh_cli_print.specs.declared.printed.refusals.Refusal.TheVariants.{Usage, Memory}
 use Rattle.mesh_cli_words.specs.declared.line.Command.{Command}
-use Rattle.mesh_cli_words.specs.declared.line.Command.TheVariants.{Plan, Apply, Run, Evaluate, Fetchdf, Ingest, Janitor, Invalidate, Migrate, Batch, Demo}
+use Rattle.mesh_cli_words.specs.declared.line.Command.TheVariants.{Plan, Apply, Run, Evaluate, Fetchdf, Ingest, Janitor, Invalidate, Migrate, Trace, Impact, Batch, Demo}
 use Rattle.mesh_cli_words.specs.declared.line.Line.{Line}
 use Rattle.mesh_cli_words.specs.declared.line.UsageFault.{UsageFault}
 use Rattle.mesh_cli_words.specs.declared.line.UsageFault.TheVariants as fault
@@ -22,6 +22,8 @@ alone_batch (Ingest name file append) e = refl
 alone_batch (Janitor moment) e = refl
 alone_batch (Invalidate env) e = refl
 alone_batch Migrate e = refl
+alone_batch (Trace model column) e = refl
+alone_batch (Impact name column) e = refl
 alone_batch Batch e = absurd (let clash : true ≡ false = e in cc)
 alone_batch (Demo n workers) e = refl
 

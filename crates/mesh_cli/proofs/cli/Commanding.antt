@@ -1,7 +1,9 @@
 -- What a command does at its moment.
-use Rattle.std.proofs.Common.{◌≡◌, ℕ, ℤ, true, false, List, Ok, Err, Result, refl, sym, subst, inl, arith}
+use Rattle.std.proofs.Common.{◌≡◌, ℕ, ℤ, true, false, List, Ok, Err, Result, refl, sym, subst, ◌⊎◌, inl, ap, arith}
 use Rattle.std.specs.declared.option.Option.{Option}
 use Rattle.mesh_base.specs.declared.forgets.Restate.{Restate}
+use Rattle.mesh_base_values.specs.declared.values.Name.{Name}
+use Rattle.mesh_io.specs.declared.files.File.{File}
 use Rattle.mesh_io.specs.Told.{ClockTold, FolderTold}
 use Rattle.mesh_list.specs.Counts.{Rose}
 use Rattle.mesh_time_days.specs.Moments.{IsMoment}
@@ -11,12 +13,13 @@ use Rattle.mesh_house.specs.House.{Told}
 use Rattle.mesh_cli_print.specs.declared.printed.refusals.Refusal.{Refusal}
 use Rattle.mesh_cli_print.specs.declared.printed.refusals.Refusal.TheVariants.{Memory}
 use Rattle.mesh_cli.specs.demo.Demos.{IsDemo}
-use Rattle.mesh_cli_words.specs.declared.line.Command.TheVariants.{Plan, Apply, Run, Janitor, Demo}
+use Rattle.mesh_cli_words.specs.declared.line.Command.TheVariants.{Plan, Apply, Run, Janitor, Trace, Impact, Demo}
 use Rattle.mesh_cli_apply.specs.Applying.{ApplyGives, ApplyMakes, RunGives, RunMakes}
 use Rattle.mesh_cli_apply.specs.Loaded.{IsProject, OfProject}
+use Rattle.mesh_cli_apply.specs.Tracing.{ImpactGives, ReadsFolder, TraceGives}
 use Rattle.mesh_cli_look.specs.upkeep.Upkeep.{JanitorGives, JanitorMakes}
-use Rattle.mesh_cli_answer.specs.Answers.{Answers, IsAsked}
-use Rattle.mesh_cli_answer.proofs.Answering.{alone_itself, answers_so, told_alone, wanting_first}
+use Rattle.mesh_cli_answer.specs.Answers.{Answers, IsAsked, no_changes}
+use Rattle.mesh_cli_answer.proofs.Answering.{alone_itself, answers_so, refused_alone, told_alone, wanting_first}
 use Rattle.mesh_cli.specs.cli.Ends.{Commanded}
 use Rattle.mesh_cli.specs.cli.Asked.{Gives, Makes}
 use Rattle.mesh_cli.specs.cli.Sides.{IsAt, Sides, Timed, sides}
@@ -115,3 +118,40 @@ module _ (dir : List ℕ) (n workers : ℕ) (s : Sides) where
     unasked = λ e. refl;
     unused = λ e. (refl, λ w fine. absurd (let clash : true ≡ false = fine in cc));
   }
+
+-- what the files of the folder give is answered, whatever the warehouse is, which isn't used
+module _ (gives : Option (List File) → Result (List ℕ) Refusal → Type 0) (f f' : FolderTold) (k : ClockTold) (h : Told) where
+  abbrev FromFiles : World → Result (List ℕ) Refusal → Type 0
+  FromFiles w r = gives f.files r
+
+  from_files : (answer : Result (List ℕ) Refusal) → ReadsFolder gives f f' answer → Answers (Rose f.faults f'.faults ⊎ Rose k.faults k.faults) no_changes FromFiles h h answer
+  from_files (Ok text) by = told_alone no_changes FromFiles h h text (alone_itself h) (omega arith) (λ w told. refl) (λ w told. by.given)
+  from_files (Err r) by = refused_alone no_changes FromFiles h h r (alone_itself h) (omega arith) (λ e. absurd (by.inside (ap (λ (x : Refusal). Err x) e))) (λ e. inl (by.failed (ap (λ (x : Refusal). Err x) e))) (λ w told fine. by.given fine)
+
+-- a column's trace
+pub trace_told : (dir : List ℕ) (model : Name) (column : List ℕ) (f f' : FolderTold) (k : ClockTold) (h : Told) (answer : Result (List ℕ) Refusal)
+    → ReadsFolder (λ files. TraceGives files dir model column) f f' answer → Commanded dir (Trace model column) (sides f k h) (sides f' k h) answer
+trace_told dir model column f f' k h answer by = record {
+  house = from_files (λ files. TraceGives files dir model column) f f' k h answer by;
+  files = by.files;
+  moment = refl;
+  folder = by.faults;
+  clock = omega arith;
+  unread = λ e. absurd (let clash : true ≡ false = e in cc);
+  unasked = λ e. refl;
+  unused = λ e. (refl, λ w. by.given);
+}
+
+-- what hangs on a column
+pub impact_told : (dir : List ℕ) (name : Name) (column : List ℕ) (f f' : FolderTold) (k : ClockTold) (h : Told) (answer : Result (List ℕ) Refusal)
+    → ReadsFolder (λ files. ImpactGives files dir name column) f f' answer → Commanded dir (Impact name column) (sides f k h) (sides f' k h) answer
+impact_told dir name column f f' k h answer by = record {
+  house = from_files (λ files. ImpactGives files dir name column) f f' k h answer by;
+  files = by.files;
+  moment = refl;
+  folder = by.faults;
+  clock = omega arith;
+  unread = λ e. absurd (let clash : true ≡ false = e in cc);
+  unasked = λ e. refl;
+  unused = λ e. (refl, λ w. by.given);
+}

@@ -12,7 +12,7 @@ use Rattle.mesh_cli_words.specs.declared.line.Command.{Command}
 use Rattle.mesh_cli_words.specs.declared.line.Command.TheVariants.{Invalidate}
 use Rattle.mesh_cli_words.specs.declared.line.Line.{Line}
 use Rattle.mesh_cli_values.specs.options.Values.{IsMomentOf, crew, is_crew, workers_named}
-use Rattle.mesh_cli_words.specs.Lines.{IsCommandOf, IsLine, again_given, apply_given, command_given, count_given, days_given, demo_given, env_given, evaluate_given, fetchdf_given, given, ingest_given, invalidate_given, model_given, plan_given, run_given, workers_given}
+use Rattle.mesh_cli_words.specs.Lines.{IsCommandOf, IsLine, again_given, apply_given, column_given, command_given, count_given, days_given, demo_given, env_given, evaluate_given, fetchdf_given, given, impact_given, ingest_given, invalidate_given, model_given, plan_given, run_given, trace_given, workers_given}
 use Rattle.mesh_cli.specs.cli.Fit.{IsCrew, IsFit}
 
 -- so many are 1 to 64
@@ -82,6 +82,12 @@ module _ (t : Option ℤ) (rows : List Row) (within : IfSome t IsMoment) where
   invalidate_fit : IfSome (invalidate_given rows) IsFit
   invalidate_fit = then_fit (λ env. Unit {0}) _ (env_given rows) (any (env_given rows)) (λ env e. other_fit env (same_text env prod) refl)
 
+  trace_fit : IfSome (trace_given rows) IsFit
+  trace_fit = then_fit (λ m. Unit {0}) _ (model_given (codes "model") rows) (any (model_given (codes "model") rows)) (λ model m. map_fit (λ c. Unit {0}) _ (column_given rows) (any (column_given rows)) (λ column c. tt))
+
+  impact_fit : IfSome (impact_given rows) IsFit
+  impact_fit = then_fit (λ n. Unit {0}) _ (model_given (codes "name") rows) (any (model_given (codes "name") rows)) (λ name n. map_fit (λ c. Unit {0}) _ (column_given rows) (any (column_given rows)) (λ column c. tt))
+
   demo_fit : IfSome (demo_given rows) IsFit
   demo_fit = then_fit (λ n. Unit {0}) _ (count_given rows) (any (count_given rows)) (λ n e. map_fit IsCrew _ (workers_given rows) (workers_in (given (codes "workers") rows)) (λ workers crew. crew))
 
@@ -96,8 +102,10 @@ module _ (t : Option ℤ) (rows : List Row) (within : IfSome t IsMoment) where
       (if_fit (same_text n (codes "janitor")) _ _ within
       (if_fit (same_text n (codes "invalidate")) _ _ invalidate_fit
       (if_fit (same_text n (codes "migrate")) _ _ tt
+      (if_fit (same_text n (codes "trace")) _ _ trace_fit
+      (if_fit (same_text n (codes "impact")) _ _ impact_fit
       (if_fit (same_text n (codes "batch")) _ _ tt
-      (if_fit (same_text n (codes "demo")) _ _ demo_fit tt))))))))))
+      (if_fit (same_text n (codes "demo")) _ _ demo_fit tt))))))))))))
 
 command_is : (sub : Option (Text × List Row)) (c : Command) → IsCommandOf sub c → IsFit c
 command_is None c h = absurd h

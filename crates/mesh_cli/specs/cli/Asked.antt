@@ -10,10 +10,11 @@ use Rattle.mesh_house.specs.declared.world.World.{World}
 use Rattle.mesh_cli_print.specs.declared.printed.refusals.Refusal.{Refusal}
 use Rattle.mesh_cli_print.specs.declared.printed.refusals.Refusal.TheVariants.{Usage}
 use Rattle.mesh_cli_words.specs.declared.line.Command.{Command}
-use Rattle.mesh_cli_words.specs.declared.line.Command.TheVariants.{Plan, Apply, Run, Evaluate, Fetchdf, Ingest, Janitor, Invalidate, Migrate, Batch, Demo}
+use Rattle.mesh_cli_words.specs.declared.line.Command.TheVariants.{Plan, Apply, Run, Evaluate, Fetchdf, Ingest, Janitor, Invalidate, Migrate, Trace, Impact, Batch, Demo}
 use Rattle.mesh_cli_apply.specs.Applying.{ApplyGives, ApplyMakes, PlanGives, RunGives, RunMakes}
 use Rattle.mesh_cli_apply.specs.Loaded.{IsProject, OfProject}
 use Rattle.mesh_cli_apply.specs.Migrating.{MigrateGives, MigrateMakes}
+use Rattle.mesh_cli_apply.specs.Tracing.{ImpactGives, TraceGives}
 use Rattle.mesh_cli_look.specs.asking.Fetched.{fetched, word_tokens}
 use Rattle.mesh_cli_look.specs.asking.Evaluated.{days, evaluated}
 use Rattle.mesh_cli_look.specs.upkeep.Ingesting.{IngestGives, IngestMakes}
@@ -53,6 +54,8 @@ Makes dir s (Ingest name file append) w list = IngestMakes s.folder.files dir na
 Makes dir s (Janitor moment) w list = AtMoment moment s.clock.moment (λ t. JanitorMakes t w list)
 Makes dir s (Invalidate env) w list = InvalidateMakes env w list
 Makes dir s Migrate w list = MigrateMakes w list
+Makes dir s (Trace model column) w list = list ≡ []
+Makes dir s (Impact name column) w list = list ≡ []
 Makes dir s Batch w list = list ≡ []
 Makes dir s (Demo n workers) w list = list ≡ []
 
@@ -67,11 +70,16 @@ Gives dir s (Ingest name file append) w answer = IngestGives s.folder.files dir 
 Gives dir s (Janitor moment) w answer = AtMoment moment s.clock.moment (λ t. JanitorGives t w answer)
 Gives dir s (Invalidate env) w answer = InvalidateGives env w answer
 Gives dir s Migrate w answer = MigrateGives w answer
+Gives dir s (Trace model column) w answer = TraceGives s.folder.files dir model column answer
+Gives dir s (Impact name column) w answer = ImpactGives s.folder.files dir name column answer
 Gives dir s Batch w answer = answer ≡ Err Usage
 Gives dir s (Demo n workers) w answer = DemoGives n answer
 
--- the commands that use the warehouse: all but the demonstration, which has one of its own
+-- the commands that use the warehouse: all but the traces, which hang on the project alone, and the demonstration, which
+-- has one of its own
 abbrev pub uses_house : Command → Bool
+uses_house (Trace model column) = false
+uses_house (Impact name column) = false
 uses_house (Demo n workers) = false
 uses_house other = true
 
@@ -80,6 +88,8 @@ abbrev pub reads_folder : Command → Bool
 reads_folder (Plan env auto workers moment again) = true
 reads_folder (Apply env workers moment again) = true
 reads_folder (Ingest name file append) = true
+reads_folder (Trace model column) = true
+reads_folder (Impact name column) = true
 reads_folder other = false
 
 -- the commands that ask the clock

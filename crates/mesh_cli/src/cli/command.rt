@@ -2,7 +2,8 @@
 ghost use Rattle.std.specs.Prelude.{ℕ, true, false, IfSome, List};
 ghost use Rattle.std.specs.Option.{option_copied};
 ghost use Rattle.mesh_time_days.specs.Moments.{IsMoment};
-ghost use Rattle.mesh_io.specs.Told.{FolderTold};
+ghost use Rattle.mesh_house.specs.House.{Told};
+ghost use Rattle.mesh_io.specs.Told.{ClockTold, FolderTold};
 ghost use Rattle.mesh_cli_words.specs.declared.line.Command.TheVariants as asked;
 ghost use Rattle.mesh_cli.specs.cli.Ends.{Commanded};
 ghost use Rattle.mesh_cli.specs.cli.Fit.{IsCrew, IsFit};
@@ -13,8 +14,8 @@ use crate::cli::moment::moment_of;
 use crate::cli::place::place_or;
 use crate::demo::{DemoFault, demo};
 use mesh_base::Restate;
-use mesh_base_values::Str;
-use mesh_cli_apply::{apply, migrate, plan, run};
+use mesh_base_values::{Name, Str};
+use mesh_cli_apply::{apply, impact, migrate, plan, run, trace};
 use mesh_cli_look::asking::{evaluate, fetchdf};
 use mesh_cli_look::upkeep::{ingest, invalidate, janitor};
 use mesh_cli_print::printed::Refusal;
@@ -127,6 +128,31 @@ fn swept<W: Warehouse, C: Clock>(
     }
 }
 
+/// A column's trace, which hangs on the project alone.
+fn traced<F: Folder>(
+    alloc: Global,
+    dir: &Str,
+    model: &Name,
+    column: &Str,
+    folder: &mut F,
+) -> Result<Str, Refusal>
+    ensures { (k : ClockTold) (h : Told) → Commanded dir.now (asked.Trace model.now column.now) (sides (F.told folder.old) k h) (sides (F.told folder.new) k h) result }
+{
+    trace(alloc, folder, dir, model, column)
+}
+
+fn affected<F: Folder>(
+    alloc: Global,
+    dir: &Str,
+    name: &Name,
+    column: &Str,
+    folder: &mut F,
+) -> Result<Str, Refusal>
+    ensures { (k : ClockTold) (h : Told) → Commanded dir.now (asked.Impact name.now column.now) (sides (F.told folder.old) k h) (sides (F.told folder.new) k h) result }
+{
+    impact(alloc, folder, dir, name, column)
+}
+
 /// The demonstration, which lies in memory and uses nothing of what is here.
 fn demonstrated<R: Threads + Sync>(
     rt: &R,
@@ -211,6 +237,8 @@ pub(crate) fn answered<R: Threads + Sync, W: Warehouse, F: Folder, C: Clock>(
         Command::Janitor { moment } => swept(alloc, *moment, house, clock),
         Command::Invalidate { env } => invalidate(alloc, house, env),
         Command::Migrate => migrate(alloc, house),
+        Command::Trace { model, column } => traced(alloc, dir, model, column, folder),
+        Command::Impact { name, column } => affected(alloc, dir, name, column, folder),
         Command::Batch => Err(Refusal::Usage),
         Command::Demo { n, workers } => demonstrated(rt, alloc, *n, *workers),
     }

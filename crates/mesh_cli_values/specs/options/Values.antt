@@ -70,6 +70,10 @@ name_of schema model = if is_identifier schema && is_identifier model then Some 
 abbrev pub name_named : List ℕ → Option Name
 name_named text = option_and_then (λ at. name_of (take at text) (drop (at + 1) text)) (position is_point text)
 
+-- a column's name, in small letters
+abbrev pub column_named : List ℕ → Option (List ℕ)
+column_named text = if is_identifier text then Some (small text) else None
+
 -- both days, the first not above the last
 abbrev pub days_in_order : ℤ × ℤ → Option (ℤ × ℤ)
 days_in_order (first, last) = if le_z first last then Some (first, last) else None

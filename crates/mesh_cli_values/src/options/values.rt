@@ -4,7 +4,7 @@ ghost use Rattle.std.specs.List.{list_all, position};
 ghost use Rattle.std.specs.Option.{option_map};
 ghost use Rattle.std.specs.declared.option.Option.{Option};
 ghost use Rattle.mesh_spec_changes.specs.Environments.{is_env_byte, is_env_name};
-ghost use Rattle.mesh_cli_values.specs.options.Values.{IsMomentOf, again_named, count_named, days_named, env_named, expiring_named, is_other, is_point, name_named, name_of, restate_named, workers_named};
+ghost use Rattle.mesh_cli_values.specs.options.Values.{IsMomentOf, again_named, column_named, count_named, days_named, env_named, expiring_named, is_other, is_point, name_named, name_of, restate_named, workers_named};
 
 use mesh_base::Restate;
 use mesh_base_values::{Name, Str, is_identifier, same_text};
@@ -128,6 +128,16 @@ pub fn name_named(alloc: Global, text: &[u8]) -> Result<Option<Name>, Memory>
         None => Ok(None),
         Some(at) => name_of(alloc, &text[..at], &text[at + 1..]),
     }
+}
+
+/// A column's name, in small letters.
+pub fn column_named(alloc: Global, text: &[u8]) -> Result<Option<Str>, Memory>
+    ensures { IfOk result (λ made. made ≡ column_named text.now) }
+{
+    if is_identifier(text) {
+        return Ok(Some(lower_case(alloc, text)?));
+    }
+    Ok(None)
 }
 
 /// Two days, the first not above the last.

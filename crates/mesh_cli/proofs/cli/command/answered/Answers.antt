@@ -18,3 +18,13 @@ pub returns-in-Demo : goal.returns-in-Demo
 returns-in-Demo g c =
     subst (λ (k : Command). Commanded c.args.dir.now k (sides (g.F.Folder.told c.args.folder.now) (g.C.Clock.told c.args.clock.now) (g.W.Warehouse.told c.args.house.now)) (sides (g.F.Folder.told c.args.folder.now) (g.C.Clock.told c.args.clock.now) (g.W.Warehouse.told c.args.house.now)) c.demonstrated.result)
     (sym c.in-Demo.is) (c.demonstrated.ensures c.args.dir.now (sides (g.F.Folder.told c.args.folder.now) (g.C.Clock.told c.args.clock.now) (g.W.Warehouse.told c.args.house.now)))
+
+pub returns-in-Trace : goal.returns-in-Trace
+returns-in-Trace g c =
+    subst (λ (k : Command). Commanded c.args.dir.now k (sides (g.F.Folder.told c.args.folder.now) (g.C.Clock.told c.args.clock.now) (g.W.Warehouse.told c.args.house.now)) (sides (g.F.Folder.told c.traced.new.folder) (g.C.Clock.told c.args.clock.now) (g.W.Warehouse.told c.args.house.now)) c.traced.result)
+    (sym c.in-Trace.is) (c.traced.ensures (g.C.Clock.told c.args.clock.now) (g.W.Warehouse.told c.args.house.now))
+
+pub returns-in-Impact : goal.returns-in-Impact
+returns-in-Impact g c =
+    subst (λ (k : Command). Commanded c.args.dir.now k (sides (g.F.Folder.told c.args.folder.now) (g.C.Clock.told c.args.clock.now) (g.W.Warehouse.told c.args.house.now)) (sides (g.F.Folder.told c.affected.new.folder) (g.C.Clock.told c.args.clock.now) (g.W.Warehouse.told c.args.house.now)) c.affected.result)
+    (sym c.in-Impact.is) (c.affected.ensures (g.C.Clock.told c.args.clock.now) (g.W.Warehouse.told c.args.house.now))

@@ -1,0 +1,2 @@
+MODEL (name shop.broken, kind FULL);
+SELECT nope FROM shop.daily

@@ -1,0 +1,2 @@
+MODEL (name shop.once, kind FULL);
+SELECT DISTINCT id, who FROM shop.daily

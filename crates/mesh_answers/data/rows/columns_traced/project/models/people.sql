@@ -1,0 +1,1 @@
+MODEL (name shop.people, kind SEED (path '../seeds/people.csv'), columns (who INT, name TEXT));
