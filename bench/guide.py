@@ -5,8 +5,8 @@ its `text` blocks, with the text below each are the commands of the worked examp
 those of `examples/`; and the picture of `examples/bikes` in README.md has its models' FROM and JOIN. (`bench/bikes.py` computes what
 `guide_bikes` has to print.)
 
-A command may end in `| tail -n N` or `| head -n N`. One that goes into another program isn't compared; `bench/pages.py --program` runs
-all commands of the page, from its top to its bottom.
+A command may end in `| tail -n N` or `| head -n N`. One that goes into another program isn't compared, nor is `trace` or `impact`, which
+read the project alone; `bench/pages.py --program` runs all commands of the page, from its top to its bottom.
 
 Given a program, it also runs these examples with it as a user would, each in an empty folder and over warehouses in files, but for the
 one whose calls are made to fail, and compares what is printed.
@@ -88,7 +88,7 @@ def compare_commands(lines, rows):
     """How many command lines of the page are those of the examples."""
     places, count = dict.fromkeys(rows, 0), 0
     for line, printed in lines:
-        if not line.startswith("./mesh ") or re.search(r"\| (?!tail -n|head -n)", line):
+        if not line.startswith("./mesh ") or re.search(r"\| (?!tail -n|head -n)| (trace|impact) \w+\.", line):
             continue
         count += 1
         batch = re.search(r" batch < (\S+) \| (tail|head) -n (\d+)$", line)
