@@ -1,8 +1,8 @@
 // What the commands of an example run on: everything is in memory.
-use crate::mapped::mesh_over_a_map;
 use crate::report::Outcome;
 use crate::trouble::Trouble;
 use mesh_base_values::{LAST_MOMENT, Str};
+use mesh_cli::cli::mesh_over_a_map;
 use mesh_house::{Fail, Fails, MemHouse, Warehouse, World};
 use mesh_io::{File, Folder, MemClock, MemFolder, MemSink, MemSource, Numbers};
 use mesh_keep::MapKeeper;

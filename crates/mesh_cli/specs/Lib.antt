@@ -2,3 +2,5 @@
 pub mod demo
 -- cli: the definitions of the module `cli`.
 pub mod cli
+-- promise: the definitions of the module `promise`.
+pub mod promise

@@ -5,6 +5,7 @@
 mod batches;
 mod command;
 mod laws;
+mod mapped;
 mod moment;
 mod place;
 mod script;
@@ -15,4 +16,5 @@ pub use laws::{
     commands_that_are_done_made_their_changes, commands_that_are_refused_change_nothing,
     commands_without_a_refusal_are_done, plans_applied_at_once_are_applies, workers_change_nothing,
 };
+pub use mapped::mesh_over_a_map;
 pub use top::mesh;

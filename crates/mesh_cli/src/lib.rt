@@ -5,3 +5,4 @@
 
 pub mod cli;
 pub mod demo;
+pub mod promise;

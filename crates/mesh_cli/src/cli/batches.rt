@@ -6,6 +6,7 @@ ghost use Rattle.mesh_cli_print.specs.declared.printed.refusals.Refusal.TheVaria
 ghost use Rattle.mesh_cli.specs.cli.Fit.{IsFit};
 ghost use Rattle.mesh_cli.specs.cli.Scripts.{AskedAnswers, IsTextLine, ScriptEnds, StepEnds, TextsEnd, is_batch, may_stand, of_usage, stands_alone};
 ghost use Rattle.mesh_cli.specs.cli.Sides.{here, place_or, sides};
+ghost use Rattle.mesh_cli.specs.promise.Promise.{ScriptPromise};
 ghost use Rattle.mesh_cli_print.specs.printed.Printing.{sinks};
 
 use crate::cli::command::line_answer;
@@ -18,6 +19,7 @@ use mesh_cli_words::{Command, Line, UsageFault, read_words};
 use mesh_house::Warehouse;
 use mesh_io::{Clock, Folder, Sink};
 use mesh_list::Memory;
+use mesh_spec_promise::the_empty_world_is_sound;
 use std::alloc::Global;
 use std::thread::Threads;
 
@@ -160,6 +162,7 @@ fn begun(alloc: Global, script: &[u8], top: &Line) -> Result<(Str, Vec<Str>), Me
 
 /// Runs the lines of a script in order, and stops at the first status that isn't 0, which it answers. A line without
 /// `--paths` takes the folder of the command that runs the script.
+#[tactic(auto, using(crate::proofs::promise::Promising::script_promised))]
 pub fn batch<R: Threads + Sync, W: Warehouse, F: Folder, C: Clock, O: Sink, E: Sink>(
     rt: &R,
     alloc: Global,
@@ -171,9 +174,12 @@ pub fn batch<R: Threads + Sync, W: Warehouse, F: Folder, C: Clock, O: Sink, E: S
     out: &mut O,
     err: &mut E,
 ) -> u8
-    ensures { ScriptEnds (place_or top.now.paths here) script.now (sides (F.told folder.old) (C.told clock.old) (W.told house.old)) (sides (F.told folder.new) (C.told clock.new) (W.told house.new))
+    ensures ends { ScriptEnds (place_or top.now.paths here) script.now (sides (F.told folder.old) (C.told clock.old) (W.told house.old)) (sides (F.told folder.new) (C.told clock.new) (W.told house.new))
+        (sinks (O.told out.old) (E.told err.old)) (sinks (O.told out.new) (E.told err.new)) result }
+    ensures promise { ScriptPromise (place_or top.now.paths here) script.now (sides (F.told folder.old) (C.told clock.old) (W.told house.old)) (sides (F.told folder.new) (C.told clock.new) (W.told house.new))
         (sinks (O.told out.old) (E.told err.old)) (sinks (O.told out.new) (E.told err.new)) result }
 {
+    the_empty_world_is_sound();
     match begun(alloc, script, top) {
         Err(Memory) => printed(alloc, Err(Refusal::Memory), out, err),
         Ok((dir, texts)) => steps(

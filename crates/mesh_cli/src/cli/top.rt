@@ -4,6 +4,7 @@ ghost use Rattle.mesh_cli_words.specs.Lines.{IsLine};
 ghost use Rattle.mesh_cli.specs.cli.Fit.{IsFit};
 ghost use Rattle.mesh_cli.specs.cli.Scripts.{BatchEnds, LineAnswers, WordsEnd};
 ghost use Rattle.mesh_cli.specs.cli.Sides.{here, place_or, sides};
+ghost use Rattle.mesh_cli.specs.promise.Promise.{CallPromise};
 ghost use Rattle.mesh_cli_print.specs.printed.Printing.{sinks};
 
 use crate::cli::batches::{batch, is_batch, of_usage};
@@ -15,6 +16,7 @@ use mesh_cli_words::{Line, read_words};
 use mesh_house::Warehouse;
 use mesh_io::{Clock, Folder, Sink, Source};
 use mesh_list::{Duplicate, Memory};
+use mesh_spec_promise::the_empty_world_is_sound;
 use std::alloc::Global;
 use std::thread::Threads;
 
@@ -103,9 +105,12 @@ pub fn mesh<R: Threads + Sync, W: Warehouse, F: Folder, C: Clock, S: Source, O: 
     out: &mut O,
     err: &mut E,
 ) -> u8
-    ensures { WordsEnd words.now (S.told input.old) (S.told input.new) (sides (F.told folder.old) (C.told clock.old) (W.told house.old)) (sides (F.told folder.new) (C.told clock.new) (W.told house.new))
+    ensures ends { WordsEnd words.now (S.told input.old) (S.told input.new) (sides (F.told folder.old) (C.told clock.old) (W.told house.old)) (sides (F.told folder.new) (C.told clock.new) (W.told house.new))
+        (sinks (O.told out.old) (E.told err.old)) (sinks (O.told out.new) (E.told err.new)) result }
+    ensures promise { CallPromise words.now (S.told input.old) (S.told input.new) (sides (F.told folder.old) (C.told clock.old) (W.told house.old)) (sides (F.told folder.new) (C.told clock.new) (W.told house.new))
         (sinks (O.told out.old) (E.told err.old)) (sinks (O.told out.new) (E.told err.new)) result }
 {
+    the_empty_world_is_sound();
     match read_words(alloc, words) {
         Err(fault) => printed(alloc, Err(of_usage(fault)), out, err),
         Ok(line) => done(rt, alloc, &line, folder, house, clock, input, out, err),

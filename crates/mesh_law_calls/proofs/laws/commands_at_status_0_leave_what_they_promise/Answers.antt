@@ -1,5 +1,0 @@
-use Rattle.mesh_law_calls.proofs.Keeping.{command_leaves}
-use Rattle.mesh_law_calls.proofs.laws.commands_at_status_0_leave_what_they_promise.Goals as goal
-
-pub returns : goal.returns
-returns c = command_leaves

@@ -1,5 +1,0 @@
-use Rattle.mesh_law_calls.proofs.Still.{within_moment}
-use Rattle.mesh_law_calls.proofs.laws.commands_within_a_moment_are_still.Goals as goal
-
-pub returns : goal.returns
-returns c = within_moment

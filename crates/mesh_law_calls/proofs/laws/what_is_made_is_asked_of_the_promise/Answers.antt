@@ -1,5 +1,0 @@
-use Rattle.mesh_law_calls.proofs.Asked.{made_is_asked}
-use Rattle.mesh_law_calls.proofs.laws.what_is_made_is_asked_of_the_promise.Goals as goal
-
-pub returns : goal.returns
-returns c = made_is_asked

@@ -1,5 +1,0 @@
-use Rattle.mesh_law_calls.proofs.Beside.{rows_left}
-use Rattle.mesh_law_calls.proofs.others.commands_keep_rows_that_they_do_not_compute_again.Goals as goal
-
-pub returns : goal.returns
-returns c = rows_left

@@ -1,5 +1,0 @@
-use Rattle.mesh_law_calls.proofs.Beside.{janitor_left}
-use Rattle.mesh_law_calls.proofs.others.the_janitor_leaves_other_views.Goals as goal
-
-pub returns : goal.returns
-returns c dir moment old new answer commanded x w told sound e known free = janitor_left x w sound e known dir moment old new answer commanded told free
