@@ -16,3 +16,5 @@ pub mod InTurn
 pub mod Applying
 -- Commands: every command.
 pub mod Commands
+-- Shown: the models of a plan show rows once they are made.
+pub mod Shown

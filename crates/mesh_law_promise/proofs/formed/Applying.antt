@@ -12,6 +12,7 @@ use Rattle.mesh_base.specs.declared.forgets.Restate.{Restate}
 use Rattle.mesh_base.specs.declared.snapshots.Snapshot.{Snapshot}
 use Rattle.mesh_time.proofs.Apart.{lt_not}
 use Rattle.mesh_house_book.specs.WellFormed.{is_moment}
+use Rattle.mesh_house_book.specs.declared.book.Book.{Book}
 use Rattle.mesh_spec_model.specs.Horizons.{Clock, Shows}
 use Rattle.mesh_law_query.proofs.Has.{Has, Has_to}
 use Rattle.mesh_house.specs.Step.{run, step}
@@ -43,7 +44,14 @@ use Rattle.mesh_law_promise.proofs.InTurn.{each_of}
 use Rattle.mesh_law_promise.proofs.Names.{HaveNames, proper_few, proper_names}
 use Rattle.mesh_law_promise.proofs.Promoting.{IsModelMade, promoting_along}
 use Rattle.mesh_law_promise.proofs.formed.Formed.{FormedAlong, formed_append, formed_end, formed_more}
-use Rattle.mesh_law_promise.proofs.formed.InTurn.{AreFormed, models_formed, models_whole}
+use Rattle.mesh_law_promise.proofs.formed.InTurn.{AreFormed, models_formed, models_state, models_whole}
+
+-- All models of a plan are placed and made, and the environments are as they were: what comes last is still to come.
+pub record AreExecuted (b : Book) (all : List Planned) (z : Parts) (u : World) : Type 0 where
+  pub sound : Sound z u
+  pub environments : u.book.environments ≡ b.environments
+  pub placed : AllByRecursion (IsPlaced all u.book.snapshots) all
+  pub made : (p : Planned) → Has p all → IsModelMade u.book p
 
 -- what is in doubt, what moves, and all parts of the objects of a plan
 module _ (x : Parts) (w : World) (plan : Plan) (before after : Clock) where
@@ -102,8 +110,16 @@ module _ (x : Parts) (w : World) (plan : Plan) (before after : Clock) where
       base_placed : AllByRecursion (IsPlaced plan.models base.book.snapshots) plan.models
       base_placed = subst (λ (ss : List Snapshot). AllByRecursion (IsPlaced plan.models ss) plan.models) (sym base_snapshots) put.placed
 
+      executed : (u : World) → AreFormed plan.models base open_parts u → AreExecuted w.book plan.models open_parts u
+      executed u f = record {
+        sound = f.sound;
+        environments = f.environments ∙ base_environments;
+        placed = subst (λ (ss : List Snapshot). AllByRecursion (IsPlaced plan.models ss) plan.models) (sym f.snapshots) base_placed;
+        made = f.made;
+      }
+
       ended : (u : World) → AreFormed plan.models base open_parts u → FormedAlong open_parts u last
-      ended u f = ends u f.sound (f.environments ∙ base_environments) (subst (λ (ss : List Snapshot). AllByRecursion (IsPlaced plan.models ss) plan.models) (sym f.snapshots) base_placed) f.made
+      ended u f = let e = executed u f in ends u e.sound e.environments e.placed e.made
 
       plan_formed : FormedAlong open_parts v (forgetting plan.forgets ++ executes after w.book plan.forgets plan.models last plan.models base)
       plan_formed =
@@ -118,6 +134,14 @@ module _ (x : Parts) (w : World) (plan : Plan) (before after : Clock) where
           models_whole after w.book plan.forgets plan.models open_parts base base_now (each_of (IsPlaced plan.models base.book.snapshots) plan.models base_placed) doubtful last ended
           (formed_end open_parts v (forgetting plan.forgets) forgets_along)
           (each_opened after w.book plan.forgets plan.models restate open_parts v v_sound v_now put again_is apart) apart ranked
+
+      -- what is left where nothing comes last
+      plan_state : AreExecuted w.book plan.models open_parts (run base (executes after w.book plan.forgets plan.models [] plan.models base))
+      plan_state =
+          executed (run base (executes after w.book plan.forgets plan.models [] plan.models base))
+          (models_state after w.book plan.forgets plan.models open_parts base base_now (each_of (IsPlaced plan.models base.book.snapshots) plan.models base_placed) doubtful last ended
+          (formed_end open_parts v (forgetting plan.forgets) forgets_along)
+          (each_opened after w.book plan.forgets plan.models restate open_parts v v_sound v_now put again_is apart) apart ranked)
 
     -- an apply
     module _ (present : is_present w.book ≡ true) (asked : IsApplied after w plan) where
@@ -181,6 +205,14 @@ module _ (x : Parts) (w : World) (plan : Plan) (before after : Clock) where
                 ∙ ap (λ (l : List Change). Moment plan.moment ∷ (put_list ++ l)) (sym (append_assoc (forgetting plan.forgets) more end))
                 ∙ ap (λ (l : List Change). Moment plan.moment ∷ l) (sym (append_assoc put_list (forgetting plan.forgets ++ more) end)),
           )
+
+      -- what it leaves before what comes last
+      pub apply_state : AreExecuted w.book plan.models open_parts (run w (opens plan ++ executes after w.book plan.forgets plan.models [] plan.models (run w (opens plan))))
+      apply_state =
+          let more : List Change = executes after w.book plan.forgets plan.models [] plan.models (run put_world (forgetting plan.forgets)) in
+          subst (AreExecuted w.book plan.models open_parts)
+          (sym (ap (run w) (list_with []) ∙ run-append raised put_list (forgetting plan.forgets ++ more) ∙ run-append put_world (forgetting plan.forgets) more))
+          (plan_state asked.restate put_world (formed_end open_parts raised put_list puts_along) (subst (Shows after) (sym puts_made.2) raised_now) puts_made.1 asked.planned.forgets apart_ranked.0 apart_ranked.1 last_of promoted)
 
     -- a run
     module _ (asked : IsRunPlan after w.book plan) where

@@ -16,7 +16,7 @@ use Rattle.mesh_spec_promise.proofs.Doubts.{doubted}
 use Rattle.mesh_law_changes.proofs.along.Along.{left_fewer}
 use Rattle.mesh_law_promise.proofs.Applying.{first_of}
 use Rattle.mesh_law_promise.proofs.Promise.{front_of_none, shows_raised, stays_sound}
-use Rattle.mesh_law_promise.proofs.formed.Applying.{apply_formed, apply_whole, run_formed, run_whole}
+use Rattle.mesh_law_promise.proofs.formed.Applying.{AreExecuted, apply_formed, apply_state, apply_whole, run_formed, run_whole}
 use Rattle.mesh_law_promise.proofs.formed.Formed.{FormedAlong, formed_front}
 
 module _ (x : Parts) (w : World) (before after : Clock) (sound : Sound x w) (made rest : List Change) where
@@ -69,6 +69,12 @@ pub applies_whole : (x : Parts) (w : World) (plan : Plan) (before after : Clock)
     → (made : List Change) × ((last : List Change) → opens plan ++ executes after w.book plan.forgets plan.models last plan.models (run w (opens plan)) ≡ made ++ last)
 applies_whole x w plan before after m allowed sound =
     apply_whole x w plan before after sound (and_right (is_present w.book) _ allowed) m.asked.moment m.was (shows_raised before after w (Apply plan) m allowed) (and_left (is_present w.book) _ allowed) m.asked
+
+-- an apply that isn't refused, before what comes last
+pub applies_state : (x : Parts) (w : World) (plan : Plan) (before after : Clock) → IsMet before after w (Apply plan) → allows w (Apply plan) ≡ true → Sound x w
+    → AreExecuted w.book plan.models (either (met before after (Apply plan) w x) (planned_parts (Apply plan))) (run w (opens plan ++ executes after w.book plan.forgets plan.models [] plan.models (run w (opens plan))))
+applies_state x w plan before after m allowed sound =
+    apply_state x w plan before after sound (and_right (is_present w.book) _ allowed) m.asked.moment m.was (shows_raised before after w (Apply plan) m allowed) (and_left (is_present w.book) _ allowed) m.asked
 
 pub runs_whole : (x : Parts) (w : World) (plan : Plan) (before after : Clock) → IsMet before after w (RunAll plan) → allows w (RunAll plan) ≡ true → Sound x w
     → (made : List Change) × ((last : List Change) → run_opens plan ++ executes after w.book plan.forgets plan.models last plan.models (run w (run_opens plan)) ≡ made ++ last)

@@ -11,6 +11,7 @@ use Rattle.mesh_law_query.proofs.Has.{Has, Has_cases, Has_from, Has_left, Has_ri
 use Rattle.mesh_house.specs.declared.world.Change.{Change}
 use Rattle.mesh_house.specs.Step.{run}
 use Rattle.mesh_house.specs.declared.world.World.{World}
+use Rattle.mesh_house.proofs.Runs.{run-append}
 use Rattle.mesh_spec_changes.specs.due.Dues.{due}
 use Rattle.mesh_spec_changes.specs.due.Parts.{Parts, object_of}
 use Rattle.mesh_spec_changes.specs.due.Plans.{Planned}
@@ -127,13 +128,17 @@ module _ (clock : Clock) (b : Book) (forgets : List Forget) (all : List Planned)
         closed = λ q i. closed_then q (Has_cases q before (p ∷ []) i);
       }
 
-  turn : (before ps : List Planned) (w : World) → IsMidway before ps w → FormedAlong z w (executes clock b forgets all last ps w)
-  turn before [] w m = ends w (record {
+  -- no model waits any more
+  all_made : (before : List Planned) (w : World) → IsMidway before [] w → AreFormed all base z w
+  all_made before w m = record {
     sound = m.sound;
     snapshots = m.snapshots;
     environments = m.environments;
     made = λ q i. m.made q (subst (Has q) (sym m.whole ∙ append-nil before) i);
-  })
+  }
+
+  turn : (before ps : List Planned) (w : World) → IsMidway before ps w → FormedAlong z w (executes clock b forgets all last ps w)
+  turn before [] w m = ends w (all_made before w m)
   turn before (p ∷ ps) w m =
       model_formed clock b forgets all p z w m.sound (subst (Shows clock) (sym m.moment) now) (there before p ps w m p (its before p ps w m)) (m.opened p (inl refl)) (parents before p ps w m) (doubtful p (its before p ps w m))
       (executes clock b forgets all last ps) (λ v sound made only. turn (before ++ p ∷ []) ps v (next before p ps w m v sound made only))
@@ -152,6 +157,20 @@ module _ (clock : Clock) (b : Book) (forgets : List Forget) (all : List Planned)
             ∙ ap (λ (l : List Change). mine ++ l) (sym (append_assoc list more end))
             ∙ sym (append_assoc mine (list ++ more) end),
       )
+
+  -- the world that they are made in, where nothing comes last
+  state_from : (before ps : List Planned) (w : World) → IsMidway before ps w → AreFormed all base z (run w (executes clock b forgets all [] ps w))
+  state_from before [] w m = all_made before w m
+  state_from before (p ∷ ps) w m =
+      let (list, is) = filling before p ps w m in
+      let (sound, made, only) = filled_so before p ps w m in
+      let mine : List Change = making_of clock b forgets all p in
+      let u : World = its_world before p ps w m in
+      let v : World = run u list in
+      let more : List Change = executes clock b forgets all [] ps v in
+      subst (AreFormed all base z)
+      (sym (ap (λ (o : Option (List Change)). run w (mine ++ followed u o (executes clock b forgets all [] ps))) is ∙ run-append w mine (list ++ more) ∙ run-append u list more))
+      (state_from (before ++ p ∷ []) ps v (next before p ps w m v sound made only))
 
   begun_so : Sound z base → ((p : Planned) → Has p all → IsOpened clock b forgets base.book p) → AreApart all → AreRanked all [] all → IsMidway [] all base
   begun_so sound opened apart ranked = record {
@@ -175,3 +194,7 @@ module _ (clock : Clock) (b : Book) (forgets : List Forget) (all : List Planned)
   pub models_whole : Sound z base → ((p : Planned) → Has p all → IsOpened clock b forgets base.book p) → AreApart all → AreRanked all [] all
       → (made : List Change) × ((end : List Change) → executes clock b forgets all end all base ≡ made ++ end)
   models_whole sound opened apart ranked = whole_from [] all base (begun_so sound opened apart ranked)
+
+  pub models_state : Sound z base → ((p : Planned) → Has p all → IsOpened clock b forgets base.book p) → AreApart all → AreRanked all [] all
+      → AreFormed all base z (run base (executes clock b forgets all [] all base))
+  models_state sound opened apart ranked = state_from [] all base (begun_so sound opened apart ranked)

@@ -62,7 +62,8 @@ module _ (all : List Planned) (z : Parts) (u : World) (sound : Sound z u) (befor
           let (v, known, is) = made q h in
           (v, ap (λ (t : Snapshot). version_of u.book t.object) (sym same) ∙ ap (version_of u.book) its.object ∙ known, is)
 
-  shows : (q : Planned) → Has q before → (rows : List (List Cell)) × (object_rows u q.object ≡ Some rows)
+  -- what each of them shows
+  pub shows : (q : Planned) → Has q before → (rows : List (List Cell)) × (object_rows u q.object ≡ Some rows)
   shows q h =
       let its = placed q h in
       let (rows, is) = listed_shows z u sound refs standing (planned_ref q) its.snapshot (Has_map planned_ref before q (planned_ref q) h refl) its.known in

@@ -1,5 +1,6 @@
 // What views show.
-ghost use Rattle.std.specs.Prelude.{◌≡◌, ◌++◌, IsSome, Some, ℤ, List, true, false};
+ghost use Rattle.std.specs.Prelude.{◌≡◌, ◌++◌, IsSome, Some, ℤ, List, [], true, false};
+ghost use Rattle.std.specs.List.{Contains};
 ghost use Rattle.std.specs.declared.option.Option.{Option};
 ghost use Rattle.mesh_base_values.specs.declared.values.Name.{Name};
 ghost use Rattle.mesh_base.specs.declared.forgets.Restate.{Restate};
@@ -12,18 +13,28 @@ ghost use Rattle.mesh_house.specs.Step.{run};
 ghost use Rattle.mesh_house.specs.World.{view};
 ghost use Rattle.mesh_house.specs.declared.world.Change.{Change};
 ghost use Rattle.mesh_house.specs.declared.world.World.{World};
-ghost use Rattle.mesh_spec_changes.specs.shown.Shown.{view_rows};
+ghost use Rattle.mesh_spec_changes.specs.shown.Shown.{object_rows, view_rows};
 ghost use Rattle.mesh_spec_changes.specs.due.Parts.{Parts};
+ghost use Rattle.mesh_spec_changes.specs.due.Plans.{Planned};
 ghost use Rattle.mesh_spec_changes.specs.Apart.{IsApart};
-ghost use Rattle.mesh_spec_changes.specs.Changes.{Plan};
+ghost use Rattle.mesh_spec_changes.specs.Changes.{Plan, executes, opens};
+ghost use Rattle.mesh_spec_changes.specs.Commands.{Apply, allows};
 ghost use Rattle.mesh_spec_changes.specs.Environments.{IsEnv, is_over, view_in};
 ghost use Rattle.mesh_spec_changes.specs.Kept.{sweeps};
 ghost use Rattle.mesh_spec_changes.specs.Planning.{IsPlan, IsRunPlan};
+ghost use Rattle.mesh_spec_promise.specs.Histories.{IsMet};
 ghost use Rattle.mesh_spec_promise.specs.Sound.{IsEntry, Sound};
 
 /// In a world that is kept well, whatever parts are in doubt, each view shows rows.
 pub fn every_view_shows_rows()
     ensures { (x : Parts) (w : World) → Sound x w → (name target : Name) → view w name ≡ Some target → IsSome (view_rows w name) }
+{}
+
+/// Whether an apply settles or not: once all models of its plan are made and filled, and before its environment gets
+/// its list and its views, each of these models shows rows.
+pub fn executed_plans_show_rows()
+    ensures { (before after : Clock) (x : Parts) (w : World) (plan : Plan) → IsMet before after w (Apply plan) → allows w (Apply plan) ≡ true → Sound x w →
+        (p : Planned) → Contains plan.models p → IsSome (object_rows (run w (opens plan ++ executes after w.book plan.forgets plan.models [] plan.models (run w (opens plan)))) p.object) }
 {}
 
 /// The models of each plan that an apply or a run has in a world that is kept well have objects of their own, and for
