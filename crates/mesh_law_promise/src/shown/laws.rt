@@ -30,8 +30,8 @@ pub fn every_view_shows_rows()
     ensures { (x : Parts) (w : World) → Sound x w → (name target : Name) → view w name ≡ Some target → IsSome (view_rows w name) }
 {}
 
-/// Whether an apply settles or not: once all models of its plan are made and filled, and before its environment gets
-/// its list and its views, each of these models shows rows.
+/// Whether an apply settles or not, if it isn't refused: once all models of its plan are made and filled, and before
+/// its environment gets its list and its views, each of these models shows rows.
 pub fn executed_plans_show_rows()
     ensures { (before after : Clock) (x : Parts) (w : World) (plan : Plan) → IsMet before after w (Apply plan) → allows w (Apply plan) ≡ true → Sound x w →
         (p : Planned) → Contains plan.models p → IsSome (object_rows (run w (opens plan ++ executes after w.book plan.forgets plan.models [] plan.models (run w (opens plan)))) p.object) }
