@@ -2,3 +2,5 @@
 pub mod Scratch
 -- UpToDate: models that are up to date in a world.
 pub mod UpToDate
+-- Execution: an apply before its environment gets its models.
+pub mod Execution

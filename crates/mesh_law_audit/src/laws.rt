@@ -1,15 +1,23 @@
 // What audits find.
-ghost use Rattle.std.specs.Prelude.{◌≡◌, List, None, Some, map};
+ghost use Rattle.std.specs.Prelude.{◌≡◌, ◌↔◌, All, List, None, Some, [], ◌++◌, false, length, map};
 ghost use Rattle.mesh_base_values.specs.Bag.{IsSameBag};
 ghost use Rattle.mesh_base_values.specs.declared.values.Cell.{Cell};
 ghost use Rattle.mesh_base.specs.declared.plans.Entry.{Entry};
+ghost use Rattle.mesh_base.specs.declared.rules.plans.Plan.{Plan};
 ghost use Rattle.mesh_base.specs.declared.snapshots.Node.{Node};
 ghost use Rattle.mesh_spec_model.specs.Horizons.{Clock};
+ghost use Rattle.mesh_house.specs.Step.{run};
 ghost use Rattle.mesh_house.specs.declared.world.World.{World};
 ghost use Rattle.mesh_spec_changes.specs.due.Parts.{Parts};
+ghost use Rattle.mesh_spec_changes.specs.Changes.{applies, promotes};
+ghost use Rattle.mesh_spec_changes.specs.Commands.{Apply};
+ghost use Rattle.mesh_plan.specs.Plans.{promised};
 ghost use Rattle.mesh_layer.specs.Lost.{first_of};
 ghost use Rattle.mesh_audit.specs.declared.audits.Audit.{Audit};
-ghost use Rattle.mesh_audit.specs.Audited.{audit_rows, finding, found_by, gathered, lost_by, placed, scratch_rows};
+ghost use Rattle.mesh_audit.specs.Audited.{audit_rows, finding, findings, found_by, gathered, lost_by, lost_for, placed, scratch_rows};
+ghost use Rattle.mesh_exec.specs.Executed.{executed};
+ghost use Rattle.mesh_exec.specs.Planned.{IsOf};
+ghost use Rattle.mesh_law_audit.specs.Execution.{Begins, execution};
 ghost use Rattle.mesh_law_audit.specs.Scratch.{scratch_findings};
 ghost use Rattle.mesh_law_audit.specs.UpToDate.{AreUpToDate};
 
@@ -25,4 +33,31 @@ pub fn audits_find_what_they_find_from_scratch()
         gathered (found_by w (placed nodes entries)) audits ≡ Some (scratch_findings audits nodes w.sources clock) }
     ensures objects { (clock : Clock) (x : Parts) (w : World) (nodes : List Node) (entries : List Entry) → AreUpToDate clock x w nodes entries → (audits : List Audit) →
         first_of (map (lost_by w (placed nodes entries)) audits) ≡ None }
+{}
+
+/// Once an apply that settles has put, made and filled its models, and before its environment gets them, an audit's
+/// rows over what their objects show are those from scratch, perhaps in another order. So what audits find then is what
+/// they find from scratch at the apply's moment, and they find nothing exactly where none of them has rows from scratch.
+pub fn executed_plans_are_audited_from_scratch()
+    ensures rows { (before after : Clock) (x : Parts) (w : World) (p : Plan) → Begins before after x w (Apply (promised p)) → length p.entries ≡ length p.project.nodes → (a : Audit) →
+        (rows : List (List Cell)) × (audit_rows (run w (execution after (promised p) w)) (placed p.project.nodes p.entries) a ≡ Some rows)
+        × IsSameBag rows (scratch_rows a p.project.nodes w.sources after) }
+    ensures findings { (before after : Clock) (x : Parts) (w : World) (p : Plan) → Begins before after x w (Apply (promised p)) → length p.entries ≡ length p.project.nodes → (audits : List Audit) →
+        findings p audits (run w (execution after (promised p) w)) ≡ Some (scratch_findings audits p.project.nodes w.sources after) }
+    ensures nothing { (before after : Clock) (x : Parts) (w : World) (p : Plan) → Begins before after x w (Apply (promised p)) → length p.entries ≡ length p.project.nodes → (audits : List Audit) →
+        (findings p audits (run w (execution after (promised p) w)) ≡ Some []) ↔ All (λ a. scratch_rows a p.project.nodes w.sources after ≡ []) audits }
+{}
+
+/// No object that an audit reads then dangles.
+pub fn audits_miss_no_object()
+    ensures { (before after : Clock) (x : Parts) (w : World) (p : Plan) → Begins before after x w (Apply (promised p)) → length p.entries ≡ length p.project.nodes → (audits : List Audit) →
+        lost_for p audits (run w (execution after (promised p) w)) ≡ None }
+{}
+
+/// That execution is what an apply does first: behind it come the changes of the environment alone. And it is what a
+/// plan is executed by, where its dues and its entries are those of the book.
+pub fn executions_come_before_promotions()
+    ensures apply { (before after : Clock) (x : Parts) (w : World) (p : Plan) → Begins before after x w (Apply (promised p)) →
+        applies after (promised p) w ≡ execution after (promised p) w ++ promotes w.book (promised p) }
+    ensures executed { (clock : Clock) (w : World) (p : Plan) → IsOf clock w.book p → p.run ≡ false → executed p w ≡ execution clock (promised p) w }
 {}
