@@ -1,6 +1,7 @@
 -- After the execution of an apply its models are up to date, and so they are after a run.
 use Rattle.std.proofs.Common.{◌≡◌, true, List, [], ◌∷◌, ◌++◌, refl, sym, ap, ◌∙◌, subst}
 use Rattle.std.specs.List.{AllByRecursion}
+use Rattle.std.specs.declared.option.Option.TheVariants.{None}
 use Rattle.std.proofs.lemmas.List.{append-nil, append_assoc}
 use Rattle.mesh_list.proofs.Ascends.{and_left, and_right}
 use Rattle.mesh_spec_model.specs.Horizons.{Clock, Shows}
@@ -11,14 +12,14 @@ use Rattle.mesh_house.specs.declared.world.World.{World}
 use Rattle.mesh_house.proofs.Runs.{run-append}
 use Rattle.mesh_spec_changes.specs.due.Parts.{Parts, either}
 use Rattle.mesh_spec_changes.specs.due.Plans.{Planned}
-use Rattle.mesh_spec_changes.specs.Changes.{Plan, applies, executes, forgetting, opens, promotes, puts, snapshot_of}
-use Rattle.mesh_spec_changes.specs.Commands.{Apply, is_present}
+use Rattle.mesh_spec_changes.specs.Changes.{Plan, applies, executes, forgetting, opens, promotes, puts, runs, snapshot_of}
+use Rattle.mesh_spec_changes.specs.Commands.{Apply, RunAll, is_not_behind, is_present}
 use Rattle.mesh_spec_promise.specs.Current.{IsReadable}
 use Rattle.mesh_spec_promise.specs.Histories.{IsApplied}
 use Rattle.mesh_spec_promise.specs.Moved.{moved}
 use Rattle.mesh_spec_promise.specs.Sound.{Sound}
 use Rattle.mesh_law_changes.proofs.along.Along.{along_end, left_same}
-use Rattle.mesh_law_promise.proofs.Applying.{apart_ranked, puts_made, raised_now}
+use Rattle.mesh_law_promise.proofs.Applying.{apart_ranked, put_there, puts_made, raised_now, raised_sound}
 use Rattle.mesh_law_promise.proofs.Promise.{shows_raised}
 use Rattle.mesh_law_audit.specs.Execution.{Begins, execution}
 use Rattle.mesh_law_audit.proofs.Filling.{IsExecuted, plan_executed}
@@ -93,7 +94,30 @@ module _ (before after : Clock) (x : Parts) (w : World) (plan : Plan) (h : Begin
   ends : run w (execution after plan w) ≡ run put_world fills_list
   ends = ap (run w) execution_is ∙ run-append raised put_list fills_list
 
+  -- they are up to date then
   pub apply_executed : AreLeft after plan w (run w (execution after plan w))
   apply_executed =
       subst (AreLeft after plan w) (sym ends)
       (record { doubt = filled.doubt; sound = filled.sound; now = filled.now; sources = filled.sources ∙ put_sources; models = filled.models })
+
+module _ (before after : Clock) (x : Parts) (w : World) (plan : Plan) (h : Begins before after x w (RunAll plan)) where
+  abbrev at_its_moment : World
+  at_its_moment = step w (Moment plan.moment)
+
+  run_filled : IsExecuted after w.book plan at_its_moment
+  run_filled =
+      let (real, its) = h.asked_for.asked in
+      let ahead = and_left (is_not_behind plan.moment w.book) _ (and_right (is_present w.book) _ h.allowed) in
+      let is = shows_raised before after w (RunAll plan) h.asked_for h.allowed in
+      let put = put_there x w plan before after h.sound ahead real h.asked_for.was is h.settles its in
+      plan_executed after w.book plan at_its_moment None (either x (moved w before after w.sources)) h.sound.book (raised_sound x w plan before after h.sound ahead real h.asked_for.was is)
+      (raised_now x w plan before after h.sound ahead real h.asked_for.was is) (put.2 at_its_moment refl refl refl) its.forgets put.0 put.1 h.settles
+
+  runs_are : runs after plan w ≡ Moment plan.moment ∷ (forgetting plan.forgets ++ run_filled.made)
+  runs_are = ap (λ (l : List Change). Moment plan.moment ∷ (forgetting plan.forgets ++ l)) (run_filled.changes [] ∙ append-nil run_filled.made)
+
+  -- after a run they are
+  pub run_executed : AreLeft after plan w (run w (runs after plan w))
+  run_executed =
+      subst (AreLeft after plan w) (sym (ap (run w) runs_are))
+      (record { doubt = run_filled.doubt; sound = run_filled.sound; now = run_filled.now; sources = run_filled.sources; models = run_filled.models })

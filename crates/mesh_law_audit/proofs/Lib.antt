@@ -6,7 +6,9 @@ pub mod Findings
 pub mod Readable
 -- Filling: once the models of a plan are put, they are made and filled, and then up to date.
 pub mod Filling
--- Executing: so they are after the execution of an apply.
+-- Executing: so they are after the execution of an apply, and after a run.
 pub mod Executing
--- Audited: what audits find after the execution of an apply.
+-- Audited: what audits find where the models of a plan are left up to date.
 pub mod Audited
+-- Made: the plan of a project, and that of a run, is executed as the promise has it, and then audited from scratch.
+pub mod Made

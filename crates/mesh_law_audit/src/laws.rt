@@ -1,24 +1,28 @@
 // What audits find.
-ghost use Rattle.std.specs.Prelude.{◌≡◌, ◌↔◌, All, List, None, Some, [], ◌++◌, false, length, map};
+ghost use Rattle.std.specs.Prelude.{◌≡◌, ℕ, ℤ, List, None, Some, ◌++◌, false, length, map, true};
+ghost use Rattle.std.specs.declared.option.Option.{Option};
 ghost use Rattle.mesh_base_values.specs.Bag.{IsSameBag};
 ghost use Rattle.mesh_base_values.specs.declared.values.Cell.{Cell};
+ghost use Rattle.mesh_base.specs.declared.forgets.Restate.{Restate};
 ghost use Rattle.mesh_base.specs.declared.plans.Entry.{Entry};
 ghost use Rattle.mesh_base.specs.declared.rules.plans.Plan.{Plan};
+ghost use Rattle.mesh_base.specs.declared.snapshots.Env.{Env};
 ghost use Rattle.mesh_base.specs.declared.snapshots.Node.{Node};
 ghost use Rattle.mesh_spec_model.specs.Horizons.{Clock};
 ghost use Rattle.mesh_house.specs.Step.{run};
 ghost use Rattle.mesh_house.specs.declared.world.World.{World};
 ghost use Rattle.mesh_spec_changes.specs.due.Parts.{Parts};
-ghost use Rattle.mesh_spec_changes.specs.Changes.{applies, promotes};
-ghost use Rattle.mesh_spec_changes.specs.Commands.{Apply};
-ghost use Rattle.mesh_plan.specs.Plans.{promised};
+ghost use Rattle.mesh_spec_changes.specs.Changes.{applies, promotes, runs};
+ghost use Rattle.mesh_spec_changes.specs.Commands.{Apply, RunAll};
+ghost use Rattle.mesh_plan.specs.Plans.{IsPlanOf, promised};
+ghost use Rattle.mesh_plan.specs.Running.{IsRunOf};
 ghost use Rattle.mesh_layer.specs.Lost.{first_of};
 ghost use Rattle.mesh_audit.specs.declared.audits.Audit.{Audit};
-ghost use Rattle.mesh_audit.specs.Audited.{audit_rows, finding, findings, found_by, gathered, lost_by, lost_for, placed, scratch_rows};
+ghost use Rattle.mesh_audit.specs.Audited.{audit_rows, finding, found_by, gathered, lost_by, placed, scratch_rows};
 ghost use Rattle.mesh_exec.specs.Executed.{executed};
 ghost use Rattle.mesh_exec.specs.Planned.{IsOf};
 ghost use Rattle.mesh_law_audit.specs.Execution.{Begins, execution};
-ghost use Rattle.mesh_law_audit.specs.Scratch.{scratch_findings};
+ghost use Rattle.mesh_law_audit.specs.Scratch.{FindFromScratch, scratch_findings};
 ghost use Rattle.mesh_law_audit.specs.UpToDate.{AreUpToDate};
 
 /// Where all models of a project are up to date, an audit's rows over what their objects show are those from scratch,
@@ -35,29 +39,29 @@ pub fn audits_find_what_they_find_from_scratch()
         first_of (map (lost_by w (placed nodes entries)) audits) ≡ None }
 {}
 
-/// Once an apply that settles has put, made and filled its models, and before its environment gets them, an audit's
-/// rows over what their objects show are those from scratch, perhaps in another order. So what audits find then is what
-/// they find from scratch at the apply's moment, and they find nothing exactly where none of them has rows from scratch.
+/// Once an apply that settles has put, made and filled its models, and before its environment gets them, audits find
+/// what they find from scratch at the apply's moment, and miss no object. So they do after a run.
 pub fn executed_plans_are_audited_from_scratch()
-    ensures rows { (before after : Clock) (x : Parts) (w : World) (p : Plan) → Begins before after x w (Apply (promised p)) → length p.entries ≡ length p.project.nodes → (a : Audit) →
-        (rows : List (List Cell)) × (audit_rows (run w (execution after (promised p) w)) (placed p.project.nodes p.entries) a ≡ Some rows)
-        × IsSameBag rows (scratch_rows a p.project.nodes w.sources after) }
-    ensures findings { (before after : Clock) (x : Parts) (w : World) (p : Plan) → Begins before after x w (Apply (promised p)) → length p.entries ≡ length p.project.nodes → (audits : List Audit) →
-        findings p audits (run w (execution after (promised p) w)) ≡ Some (scratch_findings audits p.project.nodes w.sources after) }
-    ensures nothing { (before after : Clock) (x : Parts) (w : World) (p : Plan) → Begins before after x w (Apply (promised p)) → length p.entries ≡ length p.project.nodes → (audits : List Audit) →
-        (findings p audits (run w (execution after (promised p) w)) ≡ Some []) ↔ All (λ a. scratch_rows a p.project.nodes w.sources after ≡ []) audits }
+    ensures applies { (before after : Clock) (x : Parts) (w : World) (p : Plan) → Begins before after x w (Apply (promised p)) → length p.entries ≡ length p.project.nodes →
+        FindFromScratch p w.sources after (run w (execution after (promised p) w)) }
+    ensures runs { (before after : Clock) (x : Parts) (w : World) (p : Plan) → Begins before after x w (RunAll (promised p)) → length p.entries ≡ length p.project.nodes →
+        FindFromScratch p w.sources after (run w (runs after (promised p) w)) }
 {}
 
-/// No object that an audit reads then dangles.
-pub fn audits_miss_no_object()
-    ensures { (before after : Clock) (x : Parts) (w : World) (p : Plan) → Begins before after x w (Apply (promised p)) → length p.entries ≡ length p.project.nodes → (audits : List Audit) →
-        lost_for p audits (run w (execution after (promised p) w)) ≡ None }
-{}
-
-/// That execution is what an apply does first: behind it come the changes of the environment alone. And it is what a
-/// plan is executed by, where its dues and its entries are those of the book.
+/// That execution is what an apply does first: behind it come the changes of the environment alone. A plan whose dues
+/// and entries are those of the book is executed by it, and a run's plan by the changes of the run.
 pub fn executions_come_before_promotions()
-    ensures apply { (before after : Clock) (x : Parts) (w : World) (p : Plan) → Begins before after x w (Apply (promised p)) →
+    ensures front { (before after : Clock) (x : Parts) (w : World) (p : Plan) → Begins before after x w (Apply (promised p)) →
         applies after (promised p) w ≡ execution after (promised p) w ++ promotes w.book (promised p) }
-    ensures executed { (clock : Clock) (w : World) (p : Plan) → IsOf clock w.book p → p.run ≡ false → executed p w ≡ execution clock (promised p) w }
+    ensures applies { (clock : Clock) (w : World) (p : Plan) → IsOf clock w.book p → p.run ≡ false → executed p w ≡ execution clock (promised p) w }
+    ensures runs { (clock : Clock) (w : World) (p : Plan) → IsOf clock w.book p → p.run ≡ true → executed p w ≡ runs clock (promised p) w }
+{}
+
+/// So audits find what they find from scratch, and miss no object, once the plan of a project, or of a run, is executed
+/// as a plan is.
+pub fn made_plans_are_audited_from_scratch()
+    ensures applies { (before after : Clock) (x : Parts) (w : World) (p : Plan) → Begins before after x w (Apply (promised p)) →
+        (nodes : List Node) (env : List ℕ) (t : ℤ) (again : Option Restate) → IsPlanOf w.book nodes env t again p → FindFromScratch p w.sources after (run w (executed p w)) }
+    ensures runs { (before after : Clock) (x : Parts) (w : World) (p : Plan) → Begins before after x w (RunAll (promised p)) →
+        (env : List ℕ) (e : Env) (t : ℤ) → IsRunOf w.book env e t p → FindFromScratch p w.sources after (run w (executed p w)) }
 {}
