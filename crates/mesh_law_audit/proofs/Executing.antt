@@ -12,7 +12,7 @@ use Rattle.mesh_house.specs.declared.world.World.{World}
 use Rattle.mesh_house.proofs.Runs.{run-append}
 use Rattle.mesh_spec_changes.specs.due.Parts.{Parts, either}
 use Rattle.mesh_spec_changes.specs.due.Plans.{Planned}
-use Rattle.mesh_spec_changes.specs.Changes.{Plan, applies, executes, forgetting, opens, promotes, puts, runs, snapshot_of}
+use Rattle.mesh_spec_changes.specs.Changes.{Plan, executes, forgetting, opens, puts, runs, snapshot_of}
 use Rattle.mesh_spec_changes.specs.Commands.{Apply, RunAll, is_not_behind, is_present}
 use Rattle.mesh_spec_promise.specs.Current.{IsReadable}
 use Rattle.mesh_spec_promise.specs.Histories.{IsApplied}
@@ -86,10 +86,6 @@ module _ (before after : Clock) (x : Parts) (w : World) (plan : Plan) (h : Begin
 
   execution_is : execution after plan w ≡ list
   execution_is = list_is [] ∙ append-nil list
-
-  -- the changes of the environment come behind it
-  pub execution_first : applies after plan w ≡ execution after plan w ++ promotes w.book plan
-  execution_first = list_is (promotes w.book plan) ∙ ap (λ (l : List Change). l ++ promotes w.book plan) (sym execution_is)
 
   ends : run w (execution after plan w) ≡ run put_world fills_list
   ends = ap (run w) execution_is ∙ run-append raised put_list fills_list

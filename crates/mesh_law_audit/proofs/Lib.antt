@@ -10,5 +10,7 @@ pub mod Filling
 pub mod Executing
 -- Audited: what audits find where the models of a plan are left up to date.
 pub mod Audited
+-- Missing: after an execution the objects of its models show rows, whether it settles or not.
+pub mod Missing
 -- Made: the plan of a project, and that of a run, is executed as the promise has it, and then audited from scratch.
 pub mod Made

@@ -1,5 +1,5 @@
 -- A plan of a project, and that of a run, is executed as the promise has it, and then audited from scratch.
-use Rattle.std.proofs.Common.{◌≡◌, ℕ, ℤ, Bool, true, false, cond, List, [], ◌++◌, length, sym, ap, ◌∙◌, subst}
+use Rattle.std.proofs.Common.{◌≡◌, ℕ, ℤ, Bool, true, false, cond, List, [], ◌++◌, length, map, None, sym, ap, ◌∙◌, subst}
 use Rattle.std.specs.declared.option.Option.{Option}
 use Rattle.mesh_base.specs.declared.forgets.Restate.{Restate}
 use Rattle.mesh_base.specs.declared.rules.plans.Plan.{Plan}
@@ -12,13 +12,18 @@ use Rattle.mesh_house.specs.declared.world.World.{World}
 use Rattle.mesh_spec_changes.specs.due.Parts.{Parts}
 use Rattle.mesh_spec_changes.specs.listed.Listed.{listed}
 use Rattle.mesh_spec_changes.specs.Changes.{executes, opens, run_opens, runs}
-use Rattle.mesh_spec_changes.specs.Commands.{Apply, RunAll}
+use Rattle.mesh_spec_changes.specs.Commands.{Apply, RunAll, allows}
 use Rattle.mesh_spec_changes.specs.Planning.{compared_list}
+use Rattle.mesh_spec_promise.specs.Histories.{IsMet}
+use Rattle.mesh_spec_promise.specs.Sound.{Sound}
 use Rattle.mesh_plan.specs.Entries.{IsRecorded}
 use Rattle.mesh_plan.specs.Plans.{IsPlanOf, promised}
 use Rattle.mesh_plan.specs.Running.{IsRunOf}
 use Rattle.mesh_plan.proofs.Models.{as_many}
 use Rattle.mesh_plan.proofs.Runs.{zipped_long}
+use Rattle.mesh_layer.specs.Lost.{first_of}
+use Rattle.mesh_audit.specs.declared.audits.Audit.{Audit}
+use Rattle.mesh_audit.specs.Audited.{Placed, lost_by, lost_for}
 use Rattle.mesh_exec.specs.Executed.{executed}
 use Rattle.mesh_exec.specs.Planned.{IsOf}
 use Rattle.mesh_exec.proofs.Books.{as_the_book_asks}
@@ -28,6 +33,8 @@ use Rattle.mesh_law_audit.specs.Execution.{Begins, execution}
 use Rattle.mesh_law_audit.specs.Scratch.{FindFromScratch}
 use Rattle.mesh_law_audit.proofs.Audited.{found_as_left}
 use Rattle.mesh_law_audit.proofs.Executing.{apply_executed, run_executed}
+use Rattle.mesh_law_audit.proofs.Missing.{apply_shown, none_missed_of, run_shown}
+use Rattle.mesh_law_audit.proofs.Rows.{places}
 
 -- a plan is executed by the changes of its command
 module _ (clock : Clock) (w : World) (p : Plan) (is : IsOf clock w.book p) where
@@ -65,3 +72,18 @@ made_run_audited before after x w p h env e t of =
     let shows : Shows after t = subst (Shows after) of.moment_is (shows_raised before after w (RunAll (promised p)) h.asked_for h.allowed) in
     let entries : length p.entries ≡ length p.project.nodes = zipped_long (IsRecorded w.book) (listed w.book.snapshots e.list) p.entries of.entries_are ∙ ap length (sym of.project_is) in
     subst (λ (l : List Change). FindFromScratch p w.sources after (run w l)) (sym (run_executed_is after w p (run_is_of w.book env e t p of after shows) of.runs)) (run_audited before after x w p h entries)
+
+-- audits miss no object
+pub plan_misses_none : (before after : Clock) (x : Parts) (w : World) (p : Plan) → IsMet before after w (Apply (promised p)) → allows w (Apply (promised p)) ≡ true → Sound x w → (audits : List Audit)
+    → lost_for p audits (run w (execution after (promised p) w)) ≡ None
+plan_misses_none before after x w p m allowed sound audits =
+    let v = run w (execution after (promised p) w) in
+    subst (λ (all : List Placed). first_of (map (lost_by v all) audits) ≡ None) (places p.project.nodes p.entries)
+    (none_missed_of v (promised p).models (apply_shown before after x w (promised p) m allowed sound) audits)
+
+pub run_misses_none : (before after : Clock) (x : Parts) (w : World) (p : Plan) → IsMet before after w (RunAll (promised p)) → allows w (RunAll (promised p)) ≡ true → Sound x w → (audits : List Audit)
+    → lost_for p audits (run w (runs after (promised p) w)) ≡ None
+run_misses_none before after x w p m allowed sound audits =
+    let v = run w (runs after (promised p) w) in
+    subst (λ (all : List Placed). first_of (map (lost_by v all) audits) ≡ None) (places p.project.nodes p.entries)
+    (none_missed_of v (promised p).models (run_shown before after x w (promised p) m allowed sound) audits)

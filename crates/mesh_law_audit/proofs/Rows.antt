@@ -71,6 +71,7 @@ apart all here gone yes_here no_gone = go (is_eq (name_cmp gone here)) refl
 abbrev pub place : Planned → Placed
 place p = record { node = p.node; object = p.object }
 
+-- they are the models of a plan beside theirs
 placed_by : (ns : List Node) (cs : List Closure) (es : List Entry) → length cs ≡ length ns → map place (planned_by ns cs es) ≡ placed ns es
 placed_by [] cs es e = refl
 placed_by (n ∷ ns) [] es e = absurd (omega (arith, e))
@@ -129,6 +130,9 @@ module _ (x : Parts) (w : World) (clock : Clock) (sound : Sound x w) (now : Show
     read [] h = ([], refl, λ name k. (refl, λ row. refl))
     read (p ∷ ps) h = one_read p ps (table_shown p h.0) (is_asked q (place p)) refl (read ps h.1)
 
+pub places : (nodes : List Node) (entries : List Entry) → map place (planned nodes entries) ≡ placed nodes entries
+places nodes entries = placed_by nodes (closures nodes) entries (closures_long nodes)
+
 -- an audit's rows
 pub rows_found : (clock : Clock) (x : Parts) (w : World) (nodes : List Node) (entries : List Entry) → AreUpToDate clock x w nodes entries → (a : Audit)
     → (rows : List (List Cell)) × (audit_rows w (placed nodes entries) a ≡ Some rows) × IsSameBag rows (scratch_rows a nodes w.sources clock)
@@ -138,7 +142,7 @@ rows_found clock x w nodes entries h a =
     let there = scratch x w clock h.sound h.now q ps in
     let (ts, shown, same) = read x w clock h.sound h.now q ps h.models in (
       Sel q ts no_bounds,
-      ap (λ (l : List Placed). audit_rows w l a) (sym (placed_by nodes (closures nodes) entries (closures_long nodes))) ∙ ap (option_map (λ (tables : List Input). Sel q tables no_bounds)) shown,
+      ap (λ (l : List Placed). audit_rows w l a) (sym (places nodes entries)) ∙ ap (option_map (λ (tables : List Input). Sel q tables no_bounds)) shown,
       subst (λ (cs : List Closure). IsSameBag (Sel q ts no_bounds) (Sel q (map (scratch_table w.sources clock) cs) no_bounds)) (closures_are nodes entries h.as_many)
           (sel_bag q ts there (each_among (λ name. IsSameTable (named ts name) (named there name)) (names q) same) no_bounds),
     )

@@ -1,5 +1,5 @@
 // What audits find.
-ghost use Rattle.std.specs.Prelude.{◌≡◌, ℕ, ℤ, List, None, Some, ◌++◌, false, length, map, true};
+ghost use Rattle.std.specs.Prelude.{◌≡◌, ℕ, ℤ, IsTrue, List, None, Some, ◌++◌, false, length, map, true};
 ghost use Rattle.std.specs.declared.option.Option.{Option};
 ghost use Rattle.mesh_base_values.specs.Bag.{IsSameBag};
 ghost use Rattle.mesh_base_values.specs.declared.values.Cell.{Cell};
@@ -13,12 +13,14 @@ ghost use Rattle.mesh_house.specs.Step.{run};
 ghost use Rattle.mesh_house.specs.declared.world.World.{World};
 ghost use Rattle.mesh_spec_changes.specs.due.Parts.{Parts};
 ghost use Rattle.mesh_spec_changes.specs.Changes.{applies, promotes, runs};
-ghost use Rattle.mesh_spec_changes.specs.Commands.{Apply, RunAll};
+ghost use Rattle.mesh_spec_changes.specs.Commands.{Apply, RunAll, allows};
+ghost use Rattle.mesh_spec_promise.specs.Histories.{IsMet};
+ghost use Rattle.mesh_spec_promise.specs.Sound.{Sound};
 ghost use Rattle.mesh_plan.specs.Plans.{IsPlanOf, promised};
 ghost use Rattle.mesh_plan.specs.Running.{IsRunOf};
 ghost use Rattle.mesh_layer.specs.Lost.{first_of};
 ghost use Rattle.mesh_audit.specs.declared.audits.Audit.{Audit};
-ghost use Rattle.mesh_audit.specs.Audited.{audit_rows, finding, found_by, gathered, lost_by, placed, scratch_rows};
+ghost use Rattle.mesh_audit.specs.Audited.{audit_rows, finding, found_by, gathered, lost_by, lost_for, placed, scratch_rows};
 ghost use Rattle.mesh_exec.specs.Executed.{executed};
 ghost use Rattle.mesh_exec.specs.Planned.{IsOf};
 ghost use Rattle.mesh_law_audit.specs.Execution.{Begins, execution};
@@ -48,10 +50,18 @@ pub fn executed_plans_are_audited_from_scratch()
         FindFromScratch p w.sources after (run w (runs after (promised p) w)) }
 {}
 
+/// Whether it settles or not, no object that an audit reads dangles then, or after a run.
+pub fn audits_miss_no_object()
+    ensures applies { (before after : Clock) (x : Parts) (w : World) (p : Plan) → IsMet before after w (Apply (promised p)) → IsTrue (allows w (Apply (promised p))) → Sound x w → (audits : List Audit) →
+        lost_for p audits (run w (execution after (promised p) w)) ≡ None }
+    ensures runs { (before after : Clock) (x : Parts) (w : World) (p : Plan) → IsMet before after w (RunAll (promised p)) → IsTrue (allows w (RunAll (promised p))) → Sound x w → (audits : List Audit) →
+        lost_for p audits (run w (runs after (promised p) w)) ≡ None }
+{}
+
 /// That execution is what an apply does first: behind it come the changes of the environment alone. A plan whose dues
 /// and entries are those of the book is executed by it, and a run's plan by the changes of the run.
 pub fn executions_come_before_promotions()
-    ensures front { (before after : Clock) (x : Parts) (w : World) (p : Plan) → Begins before after x w (Apply (promised p)) →
+    ensures front { (before after : Clock) (x : Parts) (w : World) (p : Plan) → IsMet before after w (Apply (promised p)) → IsTrue (allows w (Apply (promised p))) → Sound x w →
         applies after (promised p) w ≡ execution after (promised p) w ++ promotes w.book (promised p) }
     ensures applies { (clock : Clock) (w : World) (p : Plan) → IsOf clock w.book p → p.run ≡ false → executed p w ≡ execution clock (promised p) w }
     ensures runs { (clock : Clock) (w : World) (p : Plan) → IsOf clock w.book p → p.run ≡ true → executed p w ≡ runs clock (promised p) w }

@@ -6,6 +6,7 @@
 mod laws;
 
 pub use laws::{
-    audits_find_what_they_find_from_scratch, executed_plans_are_audited_from_scratch,
-    executions_come_before_promotions, made_plans_are_audited_from_scratch,
+    audits_find_what_they_find_from_scratch, audits_miss_no_object,
+    executed_plans_are_audited_from_scratch, executions_come_before_promotions,
+    made_plans_are_audited_from_scratch,
 };
