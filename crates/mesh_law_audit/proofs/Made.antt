@@ -59,21 +59,29 @@ pub run_audited : (before after : Clock) (x : Parts) (w : World) (p : Plan) → 
     → FindFromScratch p w.sources after (run w (runs after (promised p) w))
 run_audited before after x w p h entries = found_as_left after p w (run w (runs after (promised p) w)) (run_executed before after x w (promised p) h) entries
 
+-- what executes the plan of a project, and of a run
+module _ (before after : Clock) (w : World) (p : Plan) where
+  of_plan : IsMet before after w (Apply (promised p)) → allows w (Apply (promised p)) ≡ true → (nodes : List Node) (env : List ℕ) (t : ℤ) (again : Option Restate) → IsPlanOf w.book nodes env t again p
+      → executed p w ≡ execution after (promised p) w
+  of_plan m allowed nodes env t again of =
+      executed_is after w p (plan_is_of w.book nodes env t again p of after (subst (Shows after) of.moment_is (shows_raised before after w (Apply (promised p)) m allowed))) of.runs
+
+  of_run : IsMet before after w (RunAll (promised p)) → allows w (RunAll (promised p)) ≡ true → (env : List ℕ) (e : Env) (t : ℤ) → IsRunOf w.book env e t p → executed p w ≡ runs after (promised p) w
+  of_run m allowed env e t of = run_executed_is after w p (run_is_of w.book env e t p of after (subst (Shows after) of.moment_is (shows_raised before after w (RunAll (promised p)) m allowed))) of.runs
+
 pub made_plan_audited : (before after : Clock) (x : Parts) (w : World) (p : Plan) → Begins before after x w (Apply (promised p)) → (nodes : List Node) (env : List ℕ) (t : ℤ) (again : Option Restate)
     → IsPlanOf w.book nodes env t again p → FindFromScratch p w.sources after (run w (executed p w))
 made_plan_audited before after x w p h nodes env t again of =
-    let shows : Shows after t = subst (Shows after) of.moment_is (shows_raised before after w (Apply (promised p)) h.asked_for h.allowed) in
     let entries : length p.entries ≡ length p.project.nodes = as_many w.book (compared_list w.book env) nodes p.entries of.entries_are ∙ ap length (sym of.project_is) in
-    subst (λ (l : List Change). FindFromScratch p w.sources after (run w l)) (sym (executed_is after w p (plan_is_of w.book nodes env t again p of after shows) of.runs)) (plan_audited before after x w p h entries)
+    subst (λ (l : List Change). FindFromScratch p w.sources after (run w l)) (sym (of_plan before after w p h.asked_for h.allowed nodes env t again of)) (plan_audited before after x w p h entries)
 
 pub made_run_audited : (before after : Clock) (x : Parts) (w : World) (p : Plan) → Begins before after x w (RunAll (promised p)) → (env : List ℕ) (e : Env) (t : ℤ)
     → IsRunOf w.book env e t p → FindFromScratch p w.sources after (run w (executed p w))
 made_run_audited before after x w p h env e t of =
-    let shows : Shows after t = subst (Shows after) of.moment_is (shows_raised before after w (RunAll (promised p)) h.asked_for h.allowed) in
     let entries : length p.entries ≡ length p.project.nodes = zipped_long (IsRecorded w.book) (listed w.book.snapshots e.list) p.entries of.entries_are ∙ ap length (sym of.project_is) in
-    subst (λ (l : List Change). FindFromScratch p w.sources after (run w l)) (sym (run_executed_is after w p (run_is_of w.book env e t p of after shows) of.runs)) (run_audited before after x w p h entries)
+    subst (λ (l : List Change). FindFromScratch p w.sources after (run w l)) (sym (of_run before after w p h.asked_for h.allowed env e t of)) (run_audited before after x w p h entries)
 
--- audits miss no object
+-- audits miss no object, whether the command settles or not
 pub plan_misses_none : (before after : Clock) (x : Parts) (w : World) (p : Plan) → IsMet before after w (Apply (promised p)) → allows w (Apply (promised p)) ≡ true → Sound x w → (audits : List Audit)
     → lost_for p audits (run w (execution after (promised p) w)) ≡ None
 plan_misses_none before after x w p m allowed sound audits =
@@ -87,3 +95,13 @@ run_misses_none before after x w p m allowed sound audits =
     let v = run w (runs after (promised p) w) in
     subst (λ (all : List Placed). first_of (map (lost_by v all) audits) ≡ None) (places p.project.nodes p.entries)
     (none_missed_of v (promised p).models (run_shown before after x w (promised p) m allowed sound) audits)
+
+pub made_plan_misses_none : (before after : Clock) (x : Parts) (w : World) (p : Plan) → IsMet before after w (Apply (promised p)) → allows w (Apply (promised p)) ≡ true → Sound x w
+    → (nodes : List Node) (env : List ℕ) (t : ℤ) (again : Option Restate) → IsPlanOf w.book nodes env t again p → (audits : List Audit) → lost_for p audits (run w (executed p w)) ≡ None
+made_plan_misses_none before after x w p m allowed sound nodes env t again of audits =
+    subst (λ (l : List Change). lost_for p audits (run w l) ≡ None) (sym (of_plan before after w p m allowed nodes env t again of)) (plan_misses_none before after x w p m allowed sound audits)
+
+pub made_run_misses_none : (before after : Clock) (x : Parts) (w : World) (p : Plan) → IsMet before after w (RunAll (promised p)) → allows w (RunAll (promised p)) ≡ true → Sound x w
+    → (env : List ℕ) (e : Env) (t : ℤ) → IsRunOf w.book env e t p → (audits : List Audit) → lost_for p audits (run w (executed p w)) ≡ None
+made_run_misses_none before after x w p m allowed sound env e t of audits =
+    subst (λ (l : List Change). lost_for p audits (run w l) ≡ None) (sym (of_run before after w p m allowed env e t of)) (run_misses_none before after x w p m allowed sound audits)

@@ -71,7 +71,6 @@ apart all here gone yes_here no_gone = go (is_eq (name_cmp gone here)) refl
 abbrev pub place : Planned → Placed
 place p = record { node = p.node; object = p.object }
 
--- they are the models of a plan beside theirs
 placed_by : (ns : List Node) (cs : List Closure) (es : List Entry) → length cs ≡ length ns → map place (planned_by ns cs es) ≡ placed ns es
 placed_by [] cs es e = refl
 placed_by (n ∷ ns) [] es e = absurd (omega (arith, e))
@@ -130,6 +129,7 @@ module _ (x : Parts) (w : World) (clock : Clock) (sound : Sound x w) (now : Show
     read [] h = ([], refl, λ name k. (refl, λ row. refl))
     read (p ∷ ps) h = one_read p ps (table_shown p h.0) (is_asked q (place p)) refl (read ps h.1)
 
+-- a plan's models stand beside their objects
 pub places : (nodes : List Node) (entries : List Entry) → map place (planned nodes entries) ≡ placed nodes entries
 places nodes entries = placed_by nodes (closures nodes) entries (closures_long nodes)
 

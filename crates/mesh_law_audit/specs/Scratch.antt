@@ -16,7 +16,7 @@ use Rattle.mesh_audit.specs.Audited.{audit_rows, finding, findings, lost_for, pl
 abbrev pub scratch_findings : List Audit → List Node → List Input → Clock → List Finding
 scratch_findings audits nodes sources clock = flat_map (λ a. finding a (scratch_rows a nodes sources clock)) audits
 
--- In a world audits find of a plan what they find from scratch, and miss no object.
+-- In a world audits find over a plan's models what they find from scratch, and miss no object.
 pub record FindFromScratch (p : Plan) (sources : List Input) (clock : Clock) (w : World) : Type 0 where
   -- an audit's rows are those from scratch, perhaps in another order
   pub rows : (a : Audit) → (rows : List (List Cell)) × (audit_rows w (placed p.project.nodes p.entries) a ≡ Some rows) × IsSameBag rows (scratch_rows a p.project.nodes sources clock)

@@ -50,16 +50,21 @@ pub fn executed_plans_are_audited_from_scratch()
         FindFromScratch p w.sources after (run w (runs after (promised p) w)) }
 {}
 
-/// Whether it settles or not, no object that an audit reads dangles then, or after a run.
+/// No object that an audit reads dangles then, or after a run, whether it settles or not. So it is once the plan of a
+/// project, or that of a run, is executed.
 pub fn audits_miss_no_object()
     ensures applies { (before after : Clock) (x : Parts) (w : World) (p : Plan) → IsMet before after w (Apply (promised p)) → IsTrue (allows w (Apply (promised p))) → Sound x w → (audits : List Audit) →
         lost_for p audits (run w (execution after (promised p) w)) ≡ None }
     ensures runs { (before after : Clock) (x : Parts) (w : World) (p : Plan) → IsMet before after w (RunAll (promised p)) → IsTrue (allows w (RunAll (promised p))) → Sound x w → (audits : List Audit) →
         lost_for p audits (run w (runs after (promised p) w)) ≡ None }
+    ensures made_applies { (before after : Clock) (x : Parts) (w : World) (p : Plan) → IsMet before after w (Apply (promised p)) → IsTrue (allows w (Apply (promised p))) → Sound x w →
+        (nodes : List Node) (env : List ℕ) (t : ℤ) (again : Option Restate) → IsPlanOf w.book nodes env t again p → (audits : List Audit) → lost_for p audits (run w (executed p w)) ≡ None }
+    ensures made_runs { (before after : Clock) (x : Parts) (w : World) (p : Plan) → IsMet before after w (RunAll (promised p)) → IsTrue (allows w (RunAll (promised p))) → Sound x w →
+        (env : List ℕ) (e : Env) (t : ℤ) → IsRunOf w.book env e t p → (audits : List Audit) → lost_for p audits (run w (executed p w)) ≡ None }
 {}
 
-/// That execution is what an apply does first: behind it come the changes of the environment alone. A plan whose dues
-/// and entries are those of the book is executed by it, and a run's plan by the changes of the run.
+/// The execution is what an apply does first: behind it come the changes of its environment alone. It is what a plan
+/// is executed by, where its dues and entries are those of the book, and the changes of a run are so for a run's plan.
 pub fn executions_come_before_promotions()
     ensures front { (before after : Clock) (x : Parts) (w : World) (p : Plan) → IsMet before after w (Apply (promised p)) → IsTrue (allows w (Apply (promised p))) → Sound x w →
         applies after (promised p) w ≡ execution after (promised p) w ++ promotes w.book (promised p) }
@@ -67,8 +72,8 @@ pub fn executions_come_before_promotions()
     ensures runs { (clock : Clock) (w : World) (p : Plan) → IsOf clock w.book p → p.run ≡ true → executed p w ≡ runs clock (promised p) w }
 {}
 
-/// So audits find what they find from scratch, and miss no object, once the plan of a project, or of a run, is executed
-/// as a plan is.
+/// Once the plan of a project for an environment is executed, and the apply settles, audits find what they find from
+/// scratch, and miss no object. So they do once the plan of a run is.
 pub fn made_plans_are_audited_from_scratch()
     ensures applies { (before after : Clock) (x : Parts) (w : World) (p : Plan) → Begins before after x w (Apply (promised p)) →
         (nodes : List Node) (env : List ℕ) (t : ℤ) (again : Option Restate) → IsPlanOf w.book nodes env t again p → FindFromScratch p w.sources after (run w (executed p w)) }

@@ -1,6 +1,6 @@
 //! What audits find is what they find from scratch, proved: over the objects of models that are up to date, and once an
 //! apply has made and filled its models, before its environment gets them. Each law is the contract of a function with
-//! an empty body. Its definitions stand in `Scratch` and `Execution`.
+//! an empty body. Its definitions are read in this order: `UpToDate`, `Scratch` and `Execution`.
 #![tactic(auto)]
 
 mod laws;
