@@ -12,5 +12,7 @@ pub mod Executing
 pub mod Audited
 -- Missing: after an execution the objects of its models show rows, whether it settles or not.
 pub mod Missing
+-- Known: what is due and what is made, in the plan of a project and in that of a run, are what the book says.
+pub mod Known
 -- Made: the plan of a project, and that of a run, is executed as the promise has it, and then audited from scratch.
 pub mod Made

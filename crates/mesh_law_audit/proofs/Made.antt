@@ -27,12 +27,12 @@ use Rattle.mesh_audit.specs.Audited.{Placed, lost_by, lost_for}
 use Rattle.mesh_exec.specs.Executed.{executed}
 use Rattle.mesh_exec.specs.Planned.{IsOf}
 use Rattle.mesh_exec.proofs.Books.{as_the_book_asks}
-use Rattle.mesh_cli_apply.proofs.Promised.{plan_is_of, run_is_of}
 use Rattle.mesh_law_promise.proofs.Promise.{shows_raised}
 use Rattle.mesh_law_audit.specs.Execution.{Begins, execution}
 use Rattle.mesh_law_audit.specs.Scratch.{FindFromScratch}
 use Rattle.mesh_law_audit.proofs.Audited.{found_as_left}
 use Rattle.mesh_law_audit.proofs.Executing.{apply_executed, run_executed}
+use Rattle.mesh_law_audit.proofs.Known.{plan_known, run_known}
 use Rattle.mesh_law_audit.proofs.Missing.{apply_shown, none_missed_of, run_shown}
 use Rattle.mesh_law_audit.proofs.Rows.{places}
 
@@ -64,10 +64,10 @@ module _ (before after : Clock) (w : World) (p : Plan) where
   of_plan : IsMet before after w (Apply (promised p)) → allows w (Apply (promised p)) ≡ true → (nodes : List Node) (env : List ℕ) (t : ℤ) (again : Option Restate) → IsPlanOf w.book nodes env t again p
       → executed p w ≡ execution after (promised p) w
   of_plan m allowed nodes env t again of =
-      executed_is after w p (plan_is_of w.book nodes env t again p of after (subst (Shows after) of.moment_is (shows_raised before after w (Apply (promised p)) m allowed))) of.runs
+      executed_is after w p (plan_known after w.book p t (subst (Shows after) of.moment_is (shows_raised before after w (Apply (promised p)) m allowed)) nodes env again of) of.runs
 
   of_run : IsMet before after w (RunAll (promised p)) → allows w (RunAll (promised p)) ≡ true → (env : List ℕ) (e : Env) (t : ℤ) → IsRunOf w.book env e t p → executed p w ≡ runs after (promised p) w
-  of_run m allowed env e t of = run_executed_is after w p (run_is_of w.book env e t p of after (subst (Shows after) of.moment_is (shows_raised before after w (RunAll (promised p)) m allowed))) of.runs
+  of_run m allowed env e t of = run_executed_is after w p (run_known after w.book p t (subst (Shows after) of.moment_is (shows_raised before after w (RunAll (promised p)) m allowed)) env e of) of.runs
 
 pub made_plan_audited : (before after : Clock) (x : Parts) (w : World) (p : Plan) → Begins before after x w (Apply (promised p)) → (nodes : List Node) (env : List ℕ) (t : ℤ) (again : Option Restate)
     → IsPlanOf w.book nodes env t again p → FindFromScratch p w.sources after (run w (executed p w))
