@@ -156,4 +156,5 @@ pub line_leaves : (asks : Line → Type 0) (dir : List ℕ) (old new : Sides) (s
 line_leaves asks dir old new sinks printed ends x w told sound settled =
     let (line, as_asked, done) = line_final asks dir old new sinks printed ends in
     let (v, at, k, it_asks, is) = done x w told sound in
-    (line, as_asked, v, at, k, it_asks, is (settled line as_asked k it_asks))
+    let left = is (settled line as_asked k it_asks) in
+    (line, as_asked, (v, at, k, it_asks, left.0, left.1))

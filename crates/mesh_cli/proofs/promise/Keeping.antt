@@ -95,4 +95,6 @@ command_done dir c old new sinks printed ends x w told sound =
 
 pub command_leaves : (dir : List ℕ) (c : Command) (old new : Sides) (sinks printed : Sinks) → Ended dir c old new sinks printed 0 → (x : Parts) (w : World) → Tells old.house w → Sound x w → (settled : LineSettles dir old c x w) → Left dir c old new x w settled
 command_leaves dir c old new sinks printed ends x w told sound settled =
-    let (v, at, k, asks, is) = command_done dir c old new sinks printed ends x w told sound in (v, at, k, asks, is (settled k asks))
+    let (v, at, k, asks, is) = command_done dir c old new sinks printed ends x w told sound in
+    let left = is (settled k asks) in
+    (v, at, k, asks, left.0, left.1)
